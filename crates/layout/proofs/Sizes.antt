@@ -1,0 +1,260 @@
+-- The sizes of the cut's outputs in closed form, for a problem that the route accepts.
+use Prim.Native.Nat.{ℕ, zero, suc, _+_, _*_}
+use native.Mathlib.Nat.{le-refl}
+use native.Mathlib.Omega.{arith}
+use mathlib.Core.Path.{_≡_, refl, sym, ap, ap₂, _∙_}
+use mathlib.Core.List.{List, [], _∷_, _++_, map, map-append, map-map, reverse}
+use lib.ListN.{length, replicate, length-append, length-map, length-replicate}
+use lib.Dec.{T, lit<}
+use Rattle.layout.specs.Lists.{below, upFrom, sum, join}
+use Rattle.layout.specs.Triangle.{triangle}
+use Rattle.layout.specs.Problem.{Problem, zero64, Route, standard, compact}
+use Rattle.layout.specs.Cones.{rowCount}
+use Rattle.layout.specs.Patterns.{Pattern, Clique, cliqueAt, cliqueCount, blockSize, noClique}
+use Rattle.layout.specs.Blocks.{Row, Part, whole, cut, block, blockRows, pairRow, compactRows, standardRows, blockRowCount, overlapCount}
+use Rattle.layout.specs.Checks.{layout, refusal, checks, startsRight}
+use Rattle.layout.specs.Compact.{Entry, column, csc, augmentedColumn, overlapColumns, compactA, rowValue, psdWords, compactPart, MapEntry, wholeCone, blockOf, mapPart, mapWords, compactB, compactP, coneMap}
+use Rattle.layout.specs.Standard.{blockColumns, standardA, standardP, standardPart, standardCones}
+use Rattle.layout.specs.Answers.{sizes}
+use Rattle.layout.proofs.Tests.{and-iff, eqb-iff}
+use Rattle.layout.proofs.Members.{length-upFrom, has-below}
+use Rattle.layout.proofs.Joins.{map-same, map-drop, length-join, reverse-below}
+use Rattle.layout.proofs.Starts.{sum-append, length-starts}
+use Rattle.layout.proofs.Accepted.{passed}
+use Rattle.layout.proofs.Originals.{RightPattern}
+use Rattle.layout.proofs.Rows.{block-length}
+use Rattle.layout.proofs.Laid.{Laid, accepted-laid, accepted-count}
+use Rattle.layout.proofs.Columns.{RightStarts, starts-right, columns-sum}
+use Rattle.layout.proofs.Links.{Link, links}
+use Rattle.layout.proofs.RowSums.{linkColumn, overlap-columns}
+use Rattle.layout.proofs.Cut.{link-count, all-columns-count}
+use Rattle.layout.proofs.Augmented.{columns-keep}
+
+-- ---- cones: a cut cone gives one for each clique
+
+abbrev pub partCones : Part → ℕ
+partCones (whole i c row) = 1
+partCones (cut i row k p) = cliqueCount p
+
+abbrev pub coneCount : List Part → ℕ
+coneCount ps = sum (map partCones ps)
+
+parts-length : {A : Type 0} (f : Part → List A) (w : ℕ) → ((x : Part) → length (f x) ≡ w * partCones x)
+    → (ps : List Part) → length (join f ps) ≡ w * coneCount ps
+parts-length f w h [] = omega arith
+parts-length f w h (x ∷ ps) = omega (arith, length-append (f x) (join f ps), h x, parts-length f w h ps)
+
+words-length : (f : ℕ → ℕ) (cs : List ℕ) → length (join (λ c. psdWords (f c)) cs) ≡ 3 * length cs
+words-length f [] = refl
+words-length f (c ∷ cs) = omega (arith, words-length f cs)
+
+down-count : (k : ℕ) → length (reverse (below k)) ≡ k
+down-count zero = refl
+down-count (suc k) = ap length (reverse-below k) ∙ ap suc (down-count k)
+
+compact-part : (x : Part) → length (compactPart x) ≡ 3 * partCones x
+compact-part (whole i c row) = refl
+compact-part (cut i row k p) =
+    omega (arith, words-length (λ c. blockSize (cliqueAt p c)) (reverse (below (cliqueCount p))), down-count (cliqueCount p))
+
+standard-part : (x : Part) → length (standardPart x) ≡ 3 * partCones x
+standard-part (whole i c row) = refl
+standard-part (cut i row k p) =
+    omega (arith, words-length (λ c. blockSize (cliqueAt p c)) (below (cliqueCount p)), length-upFrom 0 (cliqueCount p))
+
+map-part : (x : Part) → length (mapPart x) ≡ 1 * partCones x
+map-part (whole i c row) = refl
+map-part (cut i row k p) =
+    omega (arith, length-map (reverse (below (cliqueCount p))) (blockOf i k), down-count (cliqueCount p))
+
+entries-length : (es : List MapEntry) → length (mapWords es) ≡ 3 * length es
+entries-length [] = refl
+entries-length (wholeCone i ∷ es) = omega (arith, entries-length es)
+entries-length (blockOf i k c ∷ es) = omega (arith, entries-length es)
+
+-- ---- entries
+
+entry-count : (cs : List (List Entry)) → length (csc cs .values) ≡ sum (map length cs)
+entry-count cs = length-map (join (λ c. c) cs) (λ (e : Entry). e .value) ∙ length-join (λ (c : List Entry). c) cs
+
+-- there are as many rows as values
+even : (cs : List (List Entry)) → length (csc cs .rows) ≡ length (csc cs .values)
+even cs = length-map (join (λ c. c) cs) (λ (e : Entry). e .row) ∙ sym (length-map (join (λ c. c) cs) (λ (e : Entry). e .value))
+
+-- the columns of number below n, and others after them
+two-parts : (f : ℕ → List Entry) (n : ℕ) (ds : List (List Entry))
+    → sum (map length (map f (below n) ++ ds)) ≡ sum (map (λ c. length (f c)) (below n)) + sum (map length ds)
+two-parts f n ds =
+    ap sum (map-append length (map f (below n)) ds) ∙ sum-append (map length (map f (below n))) (map length ds)
+    ∙ ap (λ (l : List ℕ). sum l + sum (map length ds)) (map-map length f (below n))
+
+links-entries : (L : List Link) → sum (map length (map linkColumn L)) ≡ 2 * length L
+links-entries [] = refl
+links-entries (l ∷ L) = omega (arith, links-entries L)
+
+blocks-entries : (r : ℕ) (os : List ℕ) → sum (map length (blockColumns r os)) ≡ 2 * length os
+blocks-entries r [] = refl
+blocks-entries r (o ∷ os) = omega (arith, blocks-entries (suc r) os)
+
+blocks-count : (r : ℕ) (os : List ℕ) → length (blockColumns r os) ≡ length os
+blocks-count r [] = refl
+blocks-count r (o ∷ os) = ap suc (blocks-count (suc r) os)
+
+-- ---- the standard route's rows
+
+pattern-count : (p : Pattern) → RightPattern p → (row : ℕ)
+    → length (join (λ c. map (pairRow row) (block p c)) (below (cliqueCount p))) ≡ blockRows p
+pattern-count p h row =
+    let size : Clique → ℕ = λ q. triangle (blockSize q) in
+    length-join (λ c. map (pairRow row) (block p c)) (below (cliqueCount p))
+    ∙ ap sum (map-same (λ c. length (map (pairRow row) (block p c))) (λ c. size (cliqueAt p c)) (below (cliqueCount p))
+    (λ c k. length-map (block p c) (pairRow row) ∙ block-length p h c (has-below c (cliqueCount p) .0 k))
+    ∙ sym (map-drop size noClique (p .cliques) 0 (cliqueCount p) (omega arith)))
+
+pub standard-count : (row : ℕ) (ps : List Part) → Laid row ps → length (standardRows ps) ≡ blockRowCount ps
+standard-count row [] h = refl
+standard-count row (whole i c r ∷ ps) h =
+    omega (
+      arith,
+      length-append (upFrom r (rowCount c)) (standardRows ps),
+      length-upFrom r (rowCount c),
+      standard-count (row + rowCount c) ps (h .1),
+    )
+standard-count row (cut i r k p ∷ ps) h =
+    omega (
+      arith,
+      length-append (join (λ c. map (pairRow r) (block p c)) (below (cliqueCount p))) (standardRows ps),
+      pattern-count p (h .1) r,
+      standard-count (row + triangle (p .vertexCount)) ps (h .2),
+    )
+
+-- ---- what checks 2 and 4 say of the lengths
+
+module _ (route : Route) (p : Problem) (ok : refusal route p ≡ 0) where
+  two : T (startsRight (p .n) (p .A)) × T (startsRight (p .n) (p .P))
+  two = and-iff (startsRight (p .n) (p .A)) (startsRight (p .n) (p .P)) .0 (passed 0 1 (checks route p) ok (lit< tt))
+
+  starts-A : RightStarts (p .n) (p .A)
+  starts-A = starts-right (p .n) (p .A) (two .0)
+
+  starts-P : RightStarts (p .n) (p .P)
+  starts-P = starts-right (p .n) (p .P) (two .1)
+
+  length-q : length (p .q) ≡ p .n
+  length-q = (simp (and-iff, eqb-iff) at (passed 0 3 (checks route p) ok (lit< tt))) .0 .1
+
+  length-b : length (p .b) ≡ p .m
+  length-b = (simp (and-iff, eqb-iff) at (passed 0 3 (checks route p) ok (lit< tt))) .1
+
+  entries-A : sum (map (λ c. length (column (p .A) c)) (below (p .n))) ≡ length (p .A .values)
+  entries-A = columns-sum (p .n) (p .A) starts-A (p .n) (le-refl (p .n)) ∙ starts-A .last ∙ starts-A .even
+
+extended : {A : Type 0} (xs : List A) (n k : ℕ) (a : A) → length xs ≡ n → length (xs ++ replicate k a) ≡ n + k
+extended xs n k a e = length-append xs (replicate k a) ∙ ap₂ _+_ e (length-replicate k a)
+
+-- ---- the sizes
+
+module _ (p : Problem) (ok : refusal compact p ≡ 0) where
+  abbrev k : ℕ
+  k = overlapCount (layout p)
+
+  abbrev R : List Row
+  R = compactRows (layout p)
+
+  abbrev moving : ℕ → List Entry
+  moving c = augmentedColumn (column (p .A) c) 0 R
+
+  compact-columns : length (map length (map moving (below (p .n)) ++ overlapColumns 0 R)) ≡ p .n + k
+  compact-columns =
+      length-map (map moving (below (p .n)) ++ overlapColumns 0 R) length ∙ all-columns-count p ok
+      ∙ ap (λ (j : ℕ). p .n + j) (link-count p ok)
+
+  compact-starts : length (compactA p .starts) ≡ suc (p .n + k)
+  compact-starts = length-starts 0 (map length (map moving (below (p .n)) ++ overlapColumns 0 R)) ∙ ap suc compact-columns
+
+  compact-entries : length (compactA p .values) ≡ length (p .A .values) + 2 * k
+  compact-entries =
+      entry-count (map moving (below (p .n)) ++ overlapColumns 0 R) ∙ two-parts moving (p .n) (overlapColumns 0 R)
+      ∙ ap₂ _+_
+      (ap sum (map-same (λ c. length (moving c)) (λ c. length (column (p .A) c)) (below (p .n))
+      (λ c h. columns-keep p ok c (has-below c (p .n) .0 h)))
+      ∙ entries-A compact p ok)
+      (ap (λ (cs : List (List Entry)). sum (map length cs)) (overlap-columns 0 R) ∙ links-entries (links 0 R)
+      ∙ ap (λ (j : ℕ). 2 * j) (link-count p ok))
+
+  compact-rows : length (compactA p .rows) ≡ length (p .A .values) + 2 * k
+  compact-rows = even (map moving (below (p .n)) ++ overlapColumns 0 R) ∙ compact-entries
+
+  compact-b : length (compactB p) ≡ blockRowCount (layout p)
+  compact-b = length-map R (rowValue (p .b)) ∙ accepted-count compact p ok
+
+  compact-p : length (compactP p .starts) ≡ suc (p .n + k)
+  compact-p = omega (arith, extended (p .P .starts) (suc (p .n)) k (length (p .P .values)) (starts-P compact p ok .count))
+
+  compact-map : length (mapWords (coneMap (layout p))) ≡ 3 * coneCount (layout p)
+  compact-map = omega (arith, parts-length mapPart 1 map-part (layout p), entries-length (coneMap (layout p)))
+
+pub compact-sizes : (p : Problem) → refusal compact p ≡ 0
+    → let added = overlapCount (layout p) in
+    let entries = length (p .P .values) in
+    let moved = length (p .A .values) + 2 * added in
+    sizes compact p ≡
+    suc (p .n + added) ∷ entries ∷ entries ∷ (p .n + added)
+    ∷ suc (p .n + added) ∷ moved ∷ moved ∷ blockRowCount (layout p)
+    ∷ (3 * coneCount (layout p)) ∷ length (p .alphas) ∷ (3 * coneCount (layout p)) ∷ []
+compact-sizes p ok =
+    let q-length = extended (p .q) (p .n) (overlapCount (layout p)) zero64 (length-q compact p ok) in
+    λ i.
+    compact-p p ok i ∷ (starts-P compact p ok .even) i ∷ length (p .P .values) ∷ q-length i
+    ∷ compact-starts p ok i ∷ compact-rows p ok i ∷ compact-entries p ok i ∷ compact-b p ok i
+    ∷ parts-length compactPart 3 compact-part (layout p) i ∷ length (p .alphas) ∷ compact-map p ok i ∷ []
+
+module _ (p : Problem) (ok : refusal standard p ≡ 0) where
+  abbrev rows : ℕ
+  rows = blockRowCount (layout p)
+
+  rows-count : length (standardRows (layout p)) ≡ rows
+  rows-count = standard-count 0 (layout p) (accepted-laid standard p ok .0)
+
+  standard-columns : length (map (column (p .A)) (below (p .n)) ++ blockColumns (p .m) (standardRows (layout p))) ≡ p .n + rows
+  standard-columns =
+      length-append (map (column (p .A)) (below (p .n))) (blockColumns (p .m) (standardRows (layout p)))
+      ∙ ap₂ _+_ (length-map (below (p .n)) (column (p .A)) ∙ length-upFrom 0 (p .n))
+      (blocks-count (p .m) (standardRows (layout p)) ∙ rows-count)
+
+  standard-starts : length (standardA p .starts) ≡ suc (p .n + rows)
+  standard-starts =
+      let cs = map (column (p .A)) (below (p .n)) ++ blockColumns (p .m) (standardRows (layout p)) in
+      length-starts 0 (map length cs) ∙ ap suc (length-map cs length ∙ standard-columns)
+
+  standard-entries : length (standardA p .values) ≡ length (p .A .values) + 2 * rows
+  standard-entries =
+      let os = standardRows (layout p) in
+      entry-count (map (column (p .A)) (below (p .n)) ++ blockColumns (p .m) os)
+      ∙ two-parts (column (p .A)) (p .n) (blockColumns (p .m) os)
+      ∙ ap₂ _+_ (entries-A standard p ok) (blocks-entries (p .m) os ∙ ap (λ (j : ℕ). 2 * j) rows-count)
+
+  standard-rows : length (standardA p .rows) ≡ length (p .A .values) + 2 * rows
+  standard-rows = even (map (column (p .A)) (below (p .n)) ++ blockColumns (p .m) (standardRows (layout p))) ∙ standard-entries
+
+  standard-p : length (standardP p .starts) ≡ suc (p .n + rows)
+  standard-p = omega (arith, extended (p .P .starts) (suc (p .n)) rows (length (p .P .values)) (starts-P standard p ok .count))
+
+  standard-cones : length (standardCones p) ≡ 3 * suc (coneCount (layout p))
+  standard-cones = omega (arith, parts-length standardPart 3 standard-part (layout p))
+
+pub standard-sizes : (p : Problem) → refusal standard p ≡ 0
+    → let added = blockRowCount (layout p) in
+    let entries = length (p .P .values) in
+    let beside = length (p .A .values) + 2 * added in
+    sizes standard p ≡
+    suc (p .n + added) ∷ entries ∷ entries ∷ (p .n + added)
+    ∷ suc (p .n + added) ∷ beside ∷ beside ∷ (p .m + added)
+    ∷ (3 * suc (coneCount (layout p))) ∷ length (p .alphas) ∷ 0 ∷ []
+standard-sizes p ok =
+    let q-length = extended (p .q) (p .n) (blockRowCount (layout p)) zero64 (length-q standard p ok) in
+    let b-length = extended (p .b) (p .m) (blockRowCount (layout p)) zero64 (length-b standard p ok) in
+    λ i.
+    standard-p p ok i ∷ (starts-P standard p ok .even) i ∷ length (p .P .values) ∷ q-length i
+    ∷ standard-starts p ok i ∷ standard-rows p ok i ∷ standard-entries p ok i ∷ b-length i
+    ∷ standard-cones p ok i ∷ length (p .alphas) ∷ 0 ∷ []

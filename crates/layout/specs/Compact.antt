@@ -1,0 +1,118 @@
+-- The compact cut. Definitions only.
+use Prim.Native.Nat.{ℕ, suc, _-_}
+use mathlib.Core.Bool.{cond}
+use mathlib.Core.List.{List, [], _∷_, _++_, map, reverse}
+use lib.ListN.{length, getD, replicate}
+use lib.Dec.{eqb}
+use lib.Ieee.{Float, nan, eq}
+use Rattle.layout.specs.Lists.{keep, below, upFrom, join, startsFrom}
+use Rattle.layout.specs.Problem.{Problem, Csc, zero64, one64, minusOne64}
+use Rattle.layout.specs.Cones.{Cone}
+use Rattle.layout.specs.Patterns.{cliqueAt, cliqueCount, blockSize}
+use Rattle.layout.specs.Blocks.{Part, whole, cut, Row, kept, owned, overlap, compactRows, overlapCount}
+use Rattle.layout.specs.Checks.{layout}
+
+-- a stored entry: its row and its value
+pub record Entry : Type 0 where
+  pub row : ℕ
+  pub value : Float
+
+abbrev pub entriesFrom : ℕ → ℕ → Csc → List Entry
+entriesFrom a k M = map (λ t. record { row = getD (M .rows) t 0; value = getD (M .values) t nan }) (upFrom a k)
+
+-- the entries of column c
+abbrev pub column : Csc → ℕ → List Entry
+column M c = entriesFrom (getD (M .starts) c 0) (getD (M .starts) (suc c) 0 - getD (M .starts) c 0) M
+
+-- compressed columns of a list of columns
+abbrev pub csc : List (List Entry) → Csc
+csc cs = record {
+  starts = startsFrom 0 (map length cs);
+  rows = map (λ (e : Entry). e .row) (join (λ c. c) cs);
+  values = map (λ (e : Entry). e .value) (join (λ c. c) cs);
+}
+
+-- the entries of a column that stand on original row o, moved to row r
+abbrev pub moved : ℕ → ℕ → List Entry → List Entry
+moved o r es = map (λ (e : Entry). record { row = r; value = e .value }) (keep (λ (e : Entry). eqb (e .row) o) es)
+
+abbrev pub rowEntries : List Entry → ℕ → Row → List Entry
+rowEntries es r (kept o) = moved o r es
+rowEntries es r (owned o) = moved o r es
+rowEntries es r (overlap o q) = []
+
+-- a column of A over the augmented rows, numbered from r
+abbrev pub augmentedColumn : List Entry → ℕ → List Row → List Entry
+augmentedColumn es r [] = []
+augmentedColumn es r (x ∷ xs) = rowEntries es r x ++ augmentedColumn es (suc r) xs
+
+-- an overlap's column: -1 in the parent's row, which comes first, and +1 in its own
+abbrev pub overlapColumn : ℕ → Row → List (List Entry)
+overlapColumn r (kept o) = []
+overlapColumn r (owned o) = []
+overlapColumn r (overlap o q) = (record { row = q; value = minusOne64 } ∷ record { row = r; value = one64 } ∷ []) ∷ []
+
+abbrev pub overlapColumns : ℕ → List Row → List (List Entry)
+overlapColumns r [] = []
+overlapColumns r (x ∷ xs) = overlapColumn r x ++ overlapColumns (suc r) xs
+
+abbrev pub compactA : Problem → Csc
+compactA p =
+    let rows = compactRows (layout p) in
+    csc (map (λ c. augmentedColumn (column (p .A) c) 0 rows) (below (p .n)) ++ overlapColumns 0 rows)
+
+-- b's value on a row: a zero of either sign becomes +0.0
+abbrev pub rowValue : List Float → Row → Float
+rowValue b (kept o) = let v = getD b o nan in cond (eq v zero64) zero64 v
+rowValue b (owned o) = let v = getD b o nan in cond (eq v zero64) zero64 v
+rowValue b (overlap o q) = zero64
+
+abbrev pub compactB : Problem → List Float
+compactB p = map (rowValue (p .b)) (compactRows (layout p))
+
+-- P with k empty columns and rows more, and q with k zeros
+abbrev pub extendedP : ℕ → Csc → Csc
+extendedP k P = record { starts = P .starts ++ replicate k (length (P .values)); rows = P .rows; values = P .values }
+
+abbrev pub compactP : Problem → Csc
+compactP p = extendedP (overlapCount (layout p)) (p .P)
+
+abbrev pub compactQ : Problem → List Float
+compactQ p = p .q ++ replicate (overlapCount (layout p)) zero64
+
+-- the cones' records: a cut cone gives a PSD cone for each clique, from last to first
+abbrev pub coneWords : Cone → List ℕ
+coneWords c = c .kind ∷ c .first ∷ c .second ∷ []
+
+abbrev pub psdWords : ℕ → List ℕ
+psdWords k = 6 ∷ k ∷ 0 ∷ []
+
+abbrev pub compactPart : Part → List ℕ
+compactPart (whole i c row) = coneWords c
+compactPart (cut i row k p) = join (λ c. psdWords (blockSize (cliqueAt p c))) (reverse (below (cliqueCount p)))
+
+abbrev pub compactCones : Problem → List ℕ
+compactCones p = join compactPart (layout p)
+
+-- the cone map: for each new cone its original cone and, if it is a block, its pattern and clique
+pub data MapEntry : Type 0 where
+  wholeCone : ℕ → MapEntry
+  blockOf : ℕ → ℕ → ℕ → MapEntry
+
+abbrev pub mapPart : Part → List MapEntry
+mapPart (whole i c row) = wholeCone i ∷ []
+mapPart (cut i row k p) = map (λ c. blockOf i k c) (reverse (below (cliqueCount p)))
+
+abbrev pub coneMap : List Part → List MapEntry
+coneMap ps = join mapPart ps
+
+-- an entry's words: its cone, its pattern or the mark for none, its clique or 0
+abbrev pub noPatternNumber : ℕ
+noPatternNumber = 4294967295
+
+abbrev pub entryWords : MapEntry → List ℕ
+entryWords (wholeCone i) = i ∷ noPatternNumber ∷ 0 ∷ []
+entryWords (blockOf i k c) = i ∷ k ∷ c ∷ []
+
+abbrev pub mapWords : List MapEntry → List ℕ
+mapWords es = join entryWords es

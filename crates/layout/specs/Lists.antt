@@ -1,0 +1,74 @@
+-- Lists, as the layout's definitions use them. A slice's contents are such a list. Definitions only.
+use Prim.Native.Nat.{ℕ, zero, suc, _+_, _-_}
+use mathlib.Core.Bool.{Bool, true, false, not, _&&_, _||_, cond}
+use mathlib.Core.List.{List, [], _∷_, _++_}
+use lib.ListN.{length, take, drop}
+use lib.Dec.{eqb, ltb}
+
+-- a, a + 1, .., k numbers in all
+abbrev pub upFrom : ℕ → ℕ → List ℕ
+upFrom a zero = []
+upFrom a (suc k) = a ∷ upFrom (suc a) k
+
+-- the numbers below k, rising
+abbrev pub below : ℕ → List ℕ
+below k = upFrom 0 k
+
+abbrev pub sum : List ℕ → ℕ
+sum [] = 0
+sum (x ∷ xs) = x + sum xs
+
+abbrev pub has : ℕ → List ℕ → Bool
+has x [] = false
+has x (y ∷ ys) = eqb x y || has x ys
+
+abbrev pub distinct : List ℕ → Bool
+distinct [] = true
+distinct (x ∷ xs) = not (has x xs) && distinct xs
+
+-- each number is above the one before it
+abbrev pub rises : List ℕ → Bool
+rises [] = true
+rises (x ∷ []) = true
+rises (x ∷ y ∷ ys) = ltb x y && rises (y ∷ ys)
+
+-- the same numbers in the same order
+abbrev pub sameNumbers : List ℕ → List ℕ → Bool
+sameNumbers [] [] = true
+sameNumbers [] (y ∷ ys) = false
+sameNumbers (x ∷ xs) [] = false
+sameNumbers (x ∷ xs) (y ∷ ys) = eqb x y && sameNumbers xs ys
+
+module _ {A : Type 0} where
+  abbrev pub all : (A → Bool) → List A → Bool
+  all p [] = true
+  all p (x ∷ xs) = p x && all p xs
+
+  abbrev pub keep : (A → Bool) → List A → List A
+  keep p [] = []
+  keep p (x ∷ xs) = let r = keep p xs in cond (p x) (x ∷ r) r
+
+  -- the part from a to b, b left out
+  abbrev pub part : ℕ → ℕ → List A → List A
+  part a b xs = take (b - a) (drop a xs)
+
+  -- what a buffer holds after xs was written to its front: the rest is kept
+  abbrev pub written : List A → List A → List A
+  written xs old = xs ++ drop (length xs) old
+
+module _ {A B : Type 0} where
+  abbrev pub join : (A → List B) → List A → List B
+  join f [] = []
+  join f (x ∷ xs) = f x ++ join f xs
+
+-- xs and vs walked together, as far as both go, over a state
+module _ {A B S : Type 0} where
+  abbrev pub walk : (A → B → S → S) → List A → List B → S → S
+  walk f [] vs w = w
+  walk f (x ∷ xs) [] w = w
+  walk f (x ∷ xs) (v ∷ vs) w = walk f xs vs (f x v w)
+
+-- 0, then the running total of the lengths
+abbrev pub startsFrom : ℕ → List ℕ → List ℕ
+startsFrom a [] = a ∷ []
+startsFrom a (k ∷ ks) = a ∷ startsFrom (a + k) ks

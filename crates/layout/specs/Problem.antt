@@ -1,0 +1,66 @@
+-- A problem as flat tables, a route, a solution. Definitions only.
+use Prim.Native.Nat.{ℕ}
+use mathlib.Core.Bool.{true, false}
+use mathlib.Core.List.{List}
+use lib.IntN.{pos}
+use lib.Ieee.{Float, fin}
+
+-- +0.0, 1.0 and -1.0
+abbrev pub zero64 : Float
+zero64 = fin false 0 (pos 0)
+
+abbrev pub one64 : Float
+one64 = fin false 1 (pos 0)
+
+abbrev pub minusOne64 : Float
+minusOne64 = fin true 1 (pos 0)
+
+pub data Route : Type 0 where
+  standard compact : Route
+
+-- compressed columns
+pub record Csc : Type 0 where
+  pub starts : List ℕ
+  pub rows : List ℕ
+  pub values : List Float
+
+pub record Problem : Type 0 where
+  pub n : ℕ
+  pub m : ℕ
+  pub P : Csc
+  pub q : List Float
+  pub A : Csc
+  pub b : List Float
+  -- cone records: kind, first size, second size
+  pub cones : List ℕ
+  pub alphas : List Float
+  -- how many patterns there are, and their words
+  pub patternCount : ℕ
+  pub patternWords : List ℕ
+
+-- a problem by its tables, as contracts name it
+abbrev pub problem : ℕ → ℕ → List ℕ → List ℕ → List Float → List Float → List ℕ → List ℕ → List Float → List Float
+    → List ℕ → List Float → ℕ → List ℕ → Problem
+problem n m pStarts pRows pValues q aStarts aRows aValues b cones alphas count words = record {
+  n = n;
+  m = m;
+  P = record { starts = pStarts; rows = pRows; values = pValues };
+  q = q;
+  A = record { starts = aStarts; rows = aRows; values = aValues };
+  b = b;
+  cones = cones;
+  alphas = alphas;
+  patternCount = count;
+  patternWords = words;
+}
+
+pub record Solution : Type 0 where
+  pub x : List Float
+  pub s : List Float
+  pub z : List Float
+  pub tau : Float
+  pub kappa : Float
+
+-- a solution by its parts, as contracts name it
+abbrev pub solution : List Float → List Float → List Float → Float → Float → Solution
+solution x s z tau kappa = record { x = x; s = s; z = z; tau = tau; kappa = kappa }
