@@ -11,13 +11,13 @@ use Rattle.layout.specs.Triangle.{triangle}
 use Rattle.layout.specs.Problem.{Problem, Route}
 use Rattle.layout.specs.Cones.{Cone, records, rowCount, kindOf, nvars}
 use Rattle.layout.specs.Patterns.{Pattern, noPattern, patterns}
-use Rattle.layout.specs.Blocks.{Part, whole, cut, partsFrom, Row, kept, patternRows, blockRows, rowsFrom, compactRows, blockRowCount}
-use Rattle.layout.specs.Checks.{noCone, namesItsCone, checks, refusal, layout}
+use Rattle.layout.specs.Blocks.{Part, whole, cut, parts, partsFrom, Row, kept, patternRows, blockRows, rowsFrom, compactRows, blockRowCount}
+use Rattle.layout.specs.Checks.{Sound, noCone, namesItsCone, refusal, layout}
 use Rattle.layout.proofs.Tests.{and-iff, eqb-iff}
 use Rattle.layout.proofs.Members.{EveryAt, every-cons, all-at, length-upFrom}
 use Rattle.layout.proofs.Rows.{rows-count}
 use Rattle.layout.proofs.Originals.{RightPattern}
-use Rattle.layout.proofs.Accepted.{passed, accepted-patterns}
+use Rattle.layout.proofs.Accepted.{sound-patterns, accepted-sound}
 use Rattle.layout.proofs.Moves.{RightRows, nil-rows, kept-rows, append-rows, pattern-rows}
 
 -- the original rows of a part
@@ -131,30 +131,38 @@ names-fits cs p h n l e =
     subst (λ (m : ℕ). rowCount (getD cs m noCone) ≡ triangle (p .vertexCount)) q
     (psd-rows (getD cs (p .origIndex) noCone) (k .0 .1) ∙ ap triangle (k .1))
 
-module _ (route : Route) (p : Problem) (e : refusal route p ≡ 0) where
-  pub accepted-laid : LaidOver 0 (records (p .cones)) (layout p)
-  accepted-laid = parts-laid noPattern 0 0 0 cs ps (λ n l. (
-    accepted-patterns route p noPattern e n l,
-    names-fits cs (getD ps n noPattern) (all-at noPattern (namesItsCone cs) ps .0 names n l),
+module _ {m : ℕ} {cones : List ℕ} {count : ℕ} {words : List ℕ} (h : Sound m cones count words) where
+  abbrev ps : List Part
+  ps = parts (records cones) (patterns count words)
+
+  pub sound-laid : LaidOver 0 (records cones) (parts (records cones) (patterns count words))
+  sound-laid = parts-laid noPattern 0 0 0 (records cones) (patterns count words) (λ n l. (
+    sound-patterns noPattern h n l,
+    names-fits (records cones) (getD (patterns count words) n noPattern)
+        (all-at noPattern (namesItsCone (records cones)) (patterns count words) .0 names n l),
   ))
     where
-      cs : List Cone
-      cs = records (p .cones)
+      names : T (all (namesItsCone (records cones)) (patterns count words))
+      names = (simp and-iff at (h .named)) .0 .1
 
-      ps : List Pattern
-      ps = patterns (p .patternCount) (p .patternWords)
+  -- the cones have m rows
+  pub sound-total : sum (map coneRows ps) ≡ m
+  sound-total = sound-laid .1 ∙ (simp (and-iff, eqb-iff) at (h .read)) .1
 
-      names : T (all (namesItsCone cs) ps)
-      names = (simp and-iff at (passed 0 4 (checks route p) e (lit< tt))) .0 .1
+  pub sound-count : length (compactRows (parts (records cones) (patterns count words))) ≡ blockRowCount (parts (records cones) (patterns count words))
+  sound-count = length-rows 0 0 ps (sound-laid .0)
+
+  pub sound-rows : RightRows 0 0 m (compactRows (parts (records cones) (patterns count words)))
+  sound-rows =
+      subst (λ (hi : ℕ). RightRows 0 0 hi (compactRows ps)) (omega (arith, sound-total)) (laid-rows 0 0 ps (sound-laid .0))
+
+module _ (route : Route) (p : Problem) (e : refusal route p ≡ 0) where
+  pub accepted-laid : LaidOver 0 (records (p .cones)) (layout p)
+  accepted-laid = sound-laid (accepted-sound route p e)
 
   pub accepted-count : length (compactRows (layout p)) ≡ blockRowCount (layout p)
-  accepted-count = length-rows 0 0 (layout p) (accepted-laid .0)
+  accepted-count = sound-count (accepted-sound route p e)
 
   -- the rows of a problem that is not refused
   pub accepted-rows : RightRows 0 0 (p .m) (compactRows (layout p))
-  accepted-rows =
-      subst (λ (hi : ℕ). RightRows 0 0 hi (compactRows (layout p))) (omega (arith, accepted-laid .1, count))
-      (laid-rows 0 0 (layout p) (accepted-laid .0))
-    where
-      count : sum (map rowCount (records (p .cones))) ≡ p .m
-      count = (simp (and-iff, eqb-iff) at (passed 0 3 (checks route p) e (lit< tt))) .0 .0 .0 .1
+  accepted-rows = sound-rows (accepted-sound route p e)
