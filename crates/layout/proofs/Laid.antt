@@ -12,11 +12,10 @@ use Rattle.layout.specs.Problem.{Problem, Route}
 use Rattle.layout.specs.Cones.{Cone, records, rowCount, kindOf, nvars}
 use Rattle.layout.specs.Patterns.{Pattern, noPattern, patterns}
 use Rattle.layout.specs.Blocks.{Part, whole, cut, parts, partsFrom, Row, kept, patternRows, blockRows, rowsFrom, compactRows, blockRowCount}
-use Rattle.layout.specs.Checks.{Sound, noCone, namesItsCone, refusal, layout}
+use Rattle.layout.specs.Checks.{Sound, noCone, namesItsCone, refusal, layout, RightPattern}
 use Rattle.layout.proofs.Tests.{and-iff, eqb-iff}
 use Rattle.layout.proofs.Members.{EveryAt, every-cons, all-at, length-upFrom}
 use Rattle.layout.proofs.Rows.{rows-count}
-use Rattle.layout.proofs.Originals.{RightPattern}
 use Rattle.layout.proofs.Accepted.{sound-patterns, accepted-sound}
 use Rattle.layout.proofs.Moves.{RightRows, nil-rows, kept-rows, append-rows, pattern-rows}
 

@@ -12,7 +12,7 @@ use Rattle.layout.specs.Problem.{Problem, zero64, Route, standard, compa
 use Rattle.layout.specs.Cones.{rowCount}
 use Rattle.layout.specs.Patterns.{Pattern, Clique, cliqueAt, cliqueCount, blockSize, noClique}
 use Rattle.layout.specs.Blocks.{Row, Part, whole, cut, block, blockRows, pairRow, compactRows, standardRows, blockRowCount, overlapCount}
-use Rattle.layout.specs.Checks.{layout, refusal, checks, startsRight}
+use Rattle.layout.specs.Checks.{layout, refusal, checks, startsRight, RightPattern}
 use Rattle.layout.specs.Compact.{Entry, column, csc, augmentedColumn, overlapColumns, compactA, rowValue, psdWords, compactPart, MapEntry, wholeCone, blockOf, mapPart, mapWords, compactB, compactP, coneMap}
 use Rattle.layout.specs.Standard.{blockColumns, standardA, standardP, standardPart, standardCones}
 use Rattle.layout.specs.Answers.{sizes}
@@ -21,7 +21,6 @@ use Rattle.layout.proofs.Members.{length-upFrom, has-below}
 use Rattle.layout.proofs.Joins.{map-same, map-drop, length-join, reverse-below}
 use Rattle.layout.proofs.Starts.{sum-append, length-starts}
 use Rattle.layout.proofs.Accepted.{passed}
-use Rattle.layout.proofs.Originals.{RightPattern}
 use Rattle.layout.proofs.Rows.{block-length}
 use Rattle.layout.proofs.Laid.{Laid, accepted-laid, accepted-count}
 use Rattle.layout.proofs.Columns.{RightStarts, starts-right, columns-sum}
