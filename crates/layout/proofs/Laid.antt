@@ -81,7 +81,7 @@ laid-rows first row (cut i r k p ∷ ps) h =
 -- ---- the parts of an accepted problem are laid
 
 -- among cones from number i on, the pattern's has a row for each pair of its vertices
-abbrev Fits : ℕ → List Cone → Pattern → Type 0
+abbrev pub Fits : ℕ → List Cone → Pattern → Type 0
 Fits i cs p = (n : ℕ) → n < length cs → p .origIndex ≡ i + n → rowCount (getD cs n noCone) ≡ triangle (p .vertexCount)
 
 abbrev RightIn : ℕ → List Cone → Pattern → Type 0
@@ -123,7 +123,7 @@ parts-laid d i row k (c ∷ cs) (p ∷ ps) h =
 psd-rows : (c : Cone) → c .kind ≡ 6 → rowCount c ≡ triangle (c .first)
 psd-rows c e = ap (λ (k : ℕ). nvars (kindOf k) (c .first) (c .second)) e
 
-names-fits : (cs : List Cone) (p : Pattern) → T (namesItsCone cs p) → Fits 0 cs p
+pub names-fits : (cs : List Cone) (p : Pattern) → T (namesItsCone cs p) → Fits 0 cs p
 names-fits cs p h n l e =
     let k = simp (and-iff, eqb-iff) at h in
     let q : p .origIndex ≡ n = omega arith in
