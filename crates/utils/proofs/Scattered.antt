@@ -1,0 +1,142 @@
+-- Consecutive numbers written where a list says: without repeats each member's place in the list stands at the member,
+-- so a permutation leaves its inverse.
+use Prim.Native.Nat.{ℕ, suc, _+_, _≤_, _<_, zero-le, suc-le-suc}
+use native.Mathlib.Numerals.{add-one}
+use native.Mathlib.Omega.{arith}
+use mathlib.Core.Path.{_≡_, refl, sym, ap, subst, _∙_}
+use mathlib.Core.Logic.{inl, inr}
+use mathlib.Core.Bool.{Bool, true, false, cond}
+use mathlib.Core.List.{List, [], _∷_, _++_}
+use lib.ListN.{length, getD, drop, set, length-set, length-map, drop-of-length-le}
+use lib.Seq.{drop-cons, getD-set-same, getD-set-other, ext-getD}
+use lib.Dec.{T, eqb}
+use borrow.Author.Tests.{eqb-true, eqb-false, le-leb, lt-leb}
+use Rattle.layout.specs.Lists.{has, distinct, below, written}
+use Rattle.layout.specs.Patterns.{placeOf}
+use Rattle.layout.specs.Checks.{isPermutation}
+use Rattle.layout.specs.Answers.{inverse, inverseRefusal}
+use Rattle.layout.proofs.Tests.{lt-or-le}
+use Rattle.layout.proofs.Members.{has-cons, has-at, has-getD, has-below, length-below, getD-below, getD-map}
+use Rattle.layout.proofs.Distinct.{distinct-cons, distinct-length, permutation-distinct, permutation-has}
+use Rattle.layout.proofs.Starts.{length-written, written-front, written-rest}
+use Rattle.utils.specs.Scattered.{scattered, Below}
+
+-- ---- places
+
+-- a member of a list that is not its first is a member of the rest
+has-rest : (w x : ℕ) (xs : List ℕ) → (w ≡ x → ⊥) → T (has w (x ∷ xs)) → T (has w xs)
+has-rest w x xs n h = elim (has-cons w x xs .0 h) [ inl e ↦ absurd (n e) | inr k ↦ k ]
+
+-- a member stands at its place
+pub place-at : (w : ℕ) (xs : List ℕ) (d : ℕ) → T (has w xs) → (placeOf w xs < length xs) × (getD xs (placeOf w xs) d ≡ w)
+place-at w [] d h = absurd h
+place-at w (x ∷ xs) d h = go (eqb w x) refl (λ k. place-at w xs d k)
+  where
+    go : (b : Bool) → eqb w x ≡ b → (T (has w xs) → (placeOf w xs < length xs) × (getD xs (placeOf w xs) d ≡ w))
+        → (cond b 0 (suc (placeOf w xs)) < suc (length xs)) × (getD (x ∷ xs) (cond b 0 (suc (placeOf w xs))) d ≡ w)
+    go true e rest = (suc-le-suc zero-le, sym (eqb-true w x e))
+    go false e rest = let (l, q) = rest (has-rest w x xs (eqb-false w x e) h) in (suc-le-suc l, q)
+
+-- ---- one number after the other
+
+pub length-scattered : (k : ℕ) (xs old : List ℕ) → length (scattered k xs old) ≡ length old
+length-scattered k [] old = refl
+length-scattered k (x ∷ xs) old = length-scattered (suc k) xs (set old x k) ∙ length-set old x k
+
+-- one list after another
+pub scattered-append : (k : ℕ) (xs ys old : List ℕ) → scattered k (xs ++ ys) old ≡ scattered (k + length xs) ys (scattered k xs old)
+scattered-append k [] ys old = ap (λ (n : ℕ). scattered n ys old) (omega arith)
+scattered-append k (x ∷ xs) ys old =
+    scattered-append (suc k) xs ys (set old x k) ∙ ap (λ (n : ℕ). scattered n ys (scattered (suc k) xs (set old x k))) (omega arith)
+
+-- the numbers from the i-th on are still to be written
+pub scattered-none : (k : ℕ) (xs old : List ℕ) → scattered (k + 0) xs old ≡ scattered k xs old
+scattered-none k xs old = ap (λ (n : ℕ). scattered n xs old) (omega arith)
+
+pub scattered-step : (k : ℕ) (xs old : List ℕ) (i : ℕ) → i < length xs
+    → scattered (k + i) (drop i xs) old ≡ scattered (k + (i + 1)) (drop (i + 1) xs) (set old (getD xs i 0) (k + i))
+scattered-step k xs old i h =
+    let e : k + (i + 1) ≡ suc (k + i) = omega arith in
+    rw (e, add-one, drop-cons xs i 0 h)
+
+pub scattered-done : (k : ℕ) (xs old : List ℕ) (i : ℕ) → length xs ≤ i → scattered (k + i) (drop i xs) old ≡ old
+scattered-done k xs old i h = rw (drop-of-length-le xs h)
+
+-- ---- what stands where
+
+-- where no number was written
+pub scattered-other : (k : ℕ) (xs old : List ℕ) (w d : ℕ) → (T (has w xs) → ⊥) → getD (scattered k xs old) w d ≡ getD old w d
+scattered-other k [] old w d out = refl
+scattered-other k (x ∷ xs) old w d out =
+    scattered-other (suc k) xs (set old x k) w d (λ h. out (has-cons w x xs .1 (inr h)))
+    ∙ getD-set-other old x w k d (λ e. out (has-cons w x xs .1 (inl e)))
+
+-- without repeats the place of a member stands at the member, counted from k
+pub scattered-at : (k : ℕ) (xs old : List ℕ) (w d : ℕ) → T (distinct xs) → T (has w xs) → w < length old
+    → getD (scattered k xs old) w d ≡ k + placeOf w xs
+scattered-at k [] old w d once h l = absurd h
+scattered-at k (x ∷ xs) old w d once h l =
+    go (eqb w x) refl (λ m.
+    scattered-at (suc k) xs (set old x k) w d (distinct-cons x xs .0 once .1) m (omega (arith, length-set old x k)))
+  where
+    new : T (has x xs) → ⊥
+    new = distinct-cons x xs .0 once .0
+
+    go : (b : Bool) → eqb w x ≡ b → (T (has w xs) → getD (scattered (suc k) xs (set old x k)) w d ≡ suc k + placeOf w xs)
+        → getD (scattered (suc k) xs (set old x k)) w d ≡ k + cond b 0 (suc (placeOf w xs))
+    go true e rest =
+        let q : w ≡ x = eqb-true w x e in
+        scattered-other (suc k) xs (set old x k) w d (λ m. new (subst (λ (v : ℕ). T (has v xs)) q m))
+        ∙ ap (λ (v : ℕ). getD (set old x k) v d) q ∙ getD-set-same old x k d (omega arith) ∙ omega arith
+    go false e rest = rest (has-rest w x xs (eqb-false w x e) h) ∙ omega arith
+
+-- ---- permutations
+
+pub length-inverse : (xs : List ℕ) → length (inverse xs) ≡ length xs
+length-inverse xs = length-map (below (length xs)) (λ (w : ℕ). placeOf w xs) ∙ length-below (length xs)
+
+pub inverse-at : (xs : List ℕ) (w : ℕ) → w < length xs → getD (inverse xs) w 0 ≡ placeOf w xs
+inverse-at xs w h =
+    getD-map (λ w. placeOf w xs) (below (length xs)) w 0 0 (omega (arith, length-below (length xs)))
+    ∙ ap (λ (v : ℕ). placeOf v xs) (getD-below (length xs) w 0 h)
+
+-- what stands at a number's place in a permutation is the number
+pub inverse-back : (xs : List ℕ) (w : ℕ) → T (isPermutation xs) → w < length xs → getD xs (getD (inverse xs) w 0) 0 ≡ w
+inverse-back xs w p h = rw (inverse-at xs w h) (place-at w xs 0 (permutation-has xs p w .1 h) .1)
+
+pub scattered-inverse : (xs old : List ℕ) → T (isPermutation xs) → length xs ≤ length old → scattered 0 xs old ≡ written (inverse xs) old
+scattered-inverse xs old p room = ext-getD 0 (scattered 0 xs old) (written (inverse xs) old) same each
+  where
+    same : length (scattered 0 xs old) ≡ length (written (inverse xs) old)
+    same = length-scattered 0 xs old ∙ sym (length-written (inverse xs) old (omega (arith, length-inverse xs)))
+
+    each : (w : ℕ) → w < length (scattered 0 xs old) → getD (scattered 0 xs old) w 0 ≡ getD (written (inverse xs) old) w 0
+    each w h = elim (lt-or-le w (length xs)) [
+      | inl l ↦
+          scattered-at 0 xs old w 0 (permutation-distinct xs p) (permutation-has xs p w .1 l) (omega arith)
+          ∙ omega (arith, inverse-at xs w l, written-front (inverse xs) old w 0 (omega (arith, length-inverse xs)))
+      | inr l ↦
+          scattered-other 0 xs old w 0 (λ k. omega (arith, permutation-has xs p w .0 k))
+          ∙ sym (written-rest (inverse xs) old w 0 (omega (arith, length-inverse xs)))
+    ]
+
+pub permutation-below : (xs : List ℕ) (n : ℕ) → T (isPermutation xs) → length xs ≤ n → Below n xs
+permutation-below xs n p l i h = omega (arith, permutation-has xs p (getD xs i 0) .0 (has-getD xs i 0 h))
+
+-- there are at most n different numbers below n
+pub distinct-below : (n : ℕ) (xs : List ℕ) → T (distinct xs) → Below n xs → length xs ≤ n
+distinct-below n xs once b = omega (arith, distinct-length xs (below n) once inside, length-below n)
+  where
+    inside : (x : ℕ) → T (has x xs) → T (has x (below n))
+    inside x h = let (i, l, e) = has-at 0 x xs .0 h in has-below x n .1 (omega (arith, b i l))
+
+-- ---- refusals, in order
+
+pub refused-order : (xs : List ℕ) (room : ℕ) → isPermutation xs ≡ false → inverseRefusal xs room ≡ 5
+refused-order xs room e = rw e
+
+pub refused-room : (xs : List ℕ) (room : ℕ) → isPermutation xs ≡ true → room < length xs → inverseRefusal xs room ≡ 11
+refused-room xs room e l = rw (e, lt-leb (length xs) room l)
+
+pub accepted : (xs : List ℕ) (room : ℕ) → isPermutation xs ≡ true → length xs ≤ room → inverseRefusal xs room ≡ 0
+accepted xs room e l = rw (e, le-leb (length xs) room l)

@@ -1,0 +1,196 @@
+-- Lists without repeats, a window of numbers at a time; marks for the numbers passed.
+use Prim.Native.Nat.{ℕ, zero, suc, _+_, _-_, _≤_, _<_}
+use native.Mathlib.Numerals.{add-one}
+use native.Mathlib.Omega.{arith}
+use native.Mathlib.Nat.{not-suc-le-zero, le-of-suc-le-suc}
+use mathlib.Core.Bool.{Bool, true, false, cond, _||_}
+use mathlib.Core.Logic.{_⊎_, inl, inr, ⊎-elim}
+use mathlib.Core.Path.{_≡_, refl, sym, ap, subst, _∙_}
+use mathlib.Core.List.{List, [], _∷_, _++_, append-assoc}
+use lib.ListN.{length, getD, take, drop, set, replicate, length-set, drop-of-length-le}
+use lib.Seq.{take-suc, drop-cons, getD-set-same, getD-set-other, split-at}
+use lib.Dec.{T, eqb, ltb, ltb→lt, lt→ltb}
+use borrow.Author.Tests.{le-leb, lt-leb, lt-ltb, le-ltb, eq-eqb, ne-eqb, eqb-true, eqb-false}
+use Rattle.layout.specs.Lists.{has, all, keep, distinct}
+use Rattle.layout.proofs.Tests.{and-iff, tested, lt-or-le}
+use Rattle.layout.proofs.Members.{has-keep, has-cons, all-has}
+use Rattle.layout.proofs.Rising.{keep-none}
+use Rattle.layout.proofs.Distinct.{distinct-cons, distinct-append, distinct-keep}
+use Rattle.layout.proofs.Keeps.{append-nil, keep-append}
+use Rattle.utils.specs.Windows.{within, Marked}
+use Rattle.utils.proofs.Tests.{passed, failed, passes, fails}
+
+pub keep-all : (p : ℕ → Bool) (xs : List ℕ) → T (all p xs) → keep p xs ≡ xs
+keep-all p [] h = refl
+keep-all p (x ∷ xs) h = let (a, b) = and-iff (p x) (all p xs) .0 h in rw (passed (p x) a, keep-all p xs b)
+
+-- ---- one number more, after those that were met
+
+pub skip-more : (p : ℕ → Bool) (l : List ℕ) (x : ℕ) → p x ≡ false → T (distinct (keep p l)) → T (distinct (keep p (l ++ (x ∷ []))))
+skip-more p l x e d = rw (keep-append p l (x ∷ []), e, append-nil (keep p l)) d
+
+pub new-more : (p : ℕ → Bool) (l : List ℕ) (x : ℕ) → p x ≡ true → has x l ≡ false → T (distinct (keep p l)) → T (distinct (keep p (l ++ (x ∷ []))))
+new-more p l x e new d =
+    rw (keep-append p l (x ∷ []), e) (distinct-append (keep p l) (x ∷ []) .1 (
+      d,
+      tt,
+      λ u k m. elim (has-cons u x [] .0 m) [
+        | inl q ↦ fails (has x l) new (has-keep p x l .0 (subst (λ (v : ℕ). T (has v (keep p l))) q k) .0)
+        | inr z ↦ z
+      ],
+    ))
+
+-- a number met again
+pub old-more : (p : ℕ → Bool) (l : List ℕ) (x : ℕ) (rest : List ℕ) → p x ≡ true → has x l ≡ true → distinct (keep p (l ++ x ∷ rest)) ≡ false
+old-more p l x rest e old = failed (distinct (keep p (l ++ x ∷ rest))) (λ d.
+    let d′ : T (distinct (keep p l ++ keep p (x ∷ rest))) = subst (λ (m : List ℕ). T (distinct m)) (keep-append p l (x ∷ rest)) d in
+    distinct-append (keep p l) (keep p (x ∷ rest)) .0 d′ .2 x
+    (has-keep p x l .1 (passes (has x l) old, passes (p x) e))
+    (has-keep p x (x ∷ rest) .1 (has-cons x x rest .1 (inl refl), passes (p x) e)))
+
+-- ---- marks
+
+pub has-more : (y : ℕ) (l : List ℕ) (x : ℕ) → has y (l ++ (x ∷ [])) ≡ (has y l || eqb y x)
+has-more y [] x = pick (eqb y x)
+  where
+    pick : (b : Bool) → (b || false) ≡ (false || b)
+    pick true = refl
+    pick false = refl
+has-more y (z ∷ l) x = pick (eqb y z) (has-more y l x)
+  where
+    pick : (b : Bool) → has y (l ++ (x ∷ [])) ≡ (has y l || eqb y x) → (b || has y (l ++ (x ∷ []))) ≡ ((b || has y l) || eqb y x)
+    pick true e = refl
+    pick false e = e
+
+or-false : (a b : Bool) → b ≡ false → (a || b) ≡ a
+or-false true b e = refl
+or-false false b e = e
+
+or-true : (a b : Bool) → b ≡ true → (a || b) ≡ true
+or-true true b e = refl
+or-true false b e = e
+
+pub marked-none : (low n : ℕ) → Marked low (replicate n false) []
+marked-none low n v h = go n v
+  where
+    go : (n v : ℕ) → getD (replicate n false) v false ≡ false
+    go zero v = refl
+    go (suc n) zero = refl
+    go (suc n) (suc v) = go n v
+
+-- a number outside of the window
+pub marked-out : (low : ℕ) (marks : List Bool) (l : List ℕ) (x : ℕ)
+    → (x < low) ⊎ (low + length marks ≤ x) → Marked low marks l → Marked low marks (l ++ (x ∷ []))
+marked-out low marks l x out m v h =
+    m v h ∙ sym (has-more (low + v) l x ∙ or-false (has (low + v) l) _ (ne-eqb (low + v) x (λ e. ⊎-elim (λ o. omega arith) (λ o. omega arith) out)))
+
+pub marked-in : (low : ℕ) (marks : List Bool) (l : List ℕ) (x v : ℕ) → x ≡ low + v → v < length marks
+    → Marked low marks l → Marked low (set marks v true) (l ++ (x ∷ []))
+marked-in low marks l x v e h m u k = sym (has-more (low + u) l x ∙ go (eqb u v) refl)
+  where
+    go : (b : Bool) → eqb u v ≡ b → (has (low + u) l || eqb (low + u) x) ≡ getD (set marks v true) u false
+    go true q =
+        or-true (has (low + u) l) _ (eq-eqb (low + u) x (omega (arith, eqb-true u v q)))
+        ∙ sym (ap (λ (k : ℕ). getD (set marks v true) k false) (eqb-true u v q) ∙ getD-set-same marks v true false h)
+    go false q =
+        or-false (has (low + u) l) _ (ne-eqb (low + u) x (λ d. eqb-false u v q (omega arith)))
+        ∙ sym (getD-set-other marks v u true false (eqb-false u v q) ∙ m u (rw length-set at k))
+
+-- ---- the numbers up to an index, after others
+
+pub take-more : (met ws : List ℕ) (i : ℕ) → i < length ws → met ++ take (i + 1) ws ≡ (met ++ take i ws) ++ (getD ws i 0 ∷ [])
+take-more met ws i h = rw (add-one, take-suc ws i 0 h) (sym (append-assoc met (take i ws) (getD ws i 0 ∷ [])))
+
+pub split-more : (met ws : List ℕ) (i : ℕ) → i < length ws → met ++ ws ≡ (met ++ take i ws) ++ getD ws i 0 ∷ drop (suc i) ws
+split-more met ws i h = ap (λ (l : List ℕ). met ++ l) (split-at ws i 0 h) ∙ sym (append-assoc met (take i ws) (getD ws i 0 ∷ drop (suc i) ws))
+
+pub take-none : (met ws : List ℕ) → met ≡ met ++ take 0 ws
+take-none [] ws = refl
+take-none (x ∷ met) ws = ap (λ (l : List ℕ). x ∷ l) (take-none met ws)
+
+-- ---- windows
+
+pub within-before : (low size x : ℕ) → x < low → within low size x ≡ false
+within-before low size x h = rw (lt-leb low x h)
+
+pub within-after : (low size x : ℕ) → low ≤ x → size ≤ x - low → within low size x ≡ false
+within-after low size x h l = rw (le-leb low x h, le-ltb (x - low) size l)
+
+pub within-in : (low size x : ℕ) → low ≤ x → x - low < size → within low size x ≡ true
+within-in low size x h l = rw (le-leb low x h, lt-ltb (x - low) size l)
+
+-- no repeats among those with p and among those with q: none among those with r, each of which has p or q
+pub distinct-either : (p q r : ℕ → Bool) (xs : List ℕ) → ((x : ℕ) → T (r x) → T (p x) ⊎ T (q x))
+    → T (distinct (keep p xs)) → T (distinct (keep q xs)) → T (distinct (keep r xs))
+distinct-either p q r [] sub d e = tt
+distinct-either p q r (x ∷ xs) sub d e = go (tested (r x)) (distinct-either p q r xs sub (tail p d) (tail q e))
+  where
+    tail : (s : ℕ → Bool) → T (distinct (keep s (x ∷ xs))) → T (distinct (keep s xs))
+    tail s k = pick (s x) k
+      where
+        pick : (b : Bool) → T (distinct (cond b (x ∷ keep s xs) (keep s xs))) → T (distinct (keep s xs))
+        pick true k = distinct-cons x (keep s xs) .0 k .1
+        pick false k = k
+
+    new : (s : ℕ → Bool) → T (s x) → T (distinct (keep s (x ∷ xs))) → T (has x xs) → ⊥
+    new s h k m =
+        let k′ : T (distinct (x ∷ keep s xs)) = rw (passed (s x) h) at k in
+        distinct-cons x (keep s xs) .0 k′ .0 (has-keep s x xs .1 (m, h))
+
+    go : T (r x) ⊎ (T (r x) → ⊥) → T (distinct (keep r xs)) → T (distinct (keep r (x ∷ xs)))
+    go (inl h) rest = rw (passed (r x) h) (distinct-cons x (keep r xs) .1 (
+      λ m. let k = has-keep r x xs .0 m .0 in ⊎-elim (λ a. new p a d k) (λ b. new q b e k) (sub x h),
+      rest,
+    ))
+    go (inr n) rest = rw (failed (r x) n) rest
+
+pub window-more : (low size : ℕ) (ws : List ℕ) → T (distinct (keep (λ x. ltb x low) ws)) → T (distinct (keep (within low size) ws))
+    → T (distinct (keep (λ x. ltb x (low + size)) ws))
+window-more low size ws d e = distinct-either (λ x. ltb x low) (within low size) (λ x. ltb x (low + size)) ws pick d e
+  where
+    pick : (x : ℕ) → T (ltb x (low + size)) → T (ltb x low) ⊎ T (within low size x)
+    pick x h = elim (lt-or-le x low) [
+      | inl b ↦ inl (lt→ltb x low b)
+      | inr l ↦ inr (passes (within low size x) (within-in low size x l (omega (arith, ltb→lt x (low + size) h))))
+    ]
+
+-- a repeat within a window is a repeat
+pub repeats-within : (p : ℕ → Bool) (ws : List ℕ) → distinct (keep p ws) ≡ false → distinct ws ≡ false
+repeats-within p ws e = failed (distinct ws) (λ d. fails (distinct (keep p ws)) e (distinct-keep p ws d))
+
+pub windows-all : (n high : ℕ) (ws : List ℕ) → all (λ x. ltb x n) ws ≡ true → n ≤ high → T (distinct (keep (λ x. ltb x high) ws)) → distinct ws ≡ true
+windows-all n high ws a l d =
+    passed (distinct ws) (rw (keep-all (λ x. ltb x high) ws (all-has (λ x. ltb x high) ws .1 (λ x h.
+    lt→ltb x high (omega (arith, ltb→lt x n (all-has (λ x. ltb x n) ws .0 (passes _ a) x h)))))) at d)
+
+-- ---- a list filled from the front
+
+module _ {A : Type 0} where
+  fill-suc : (n : ℕ) (v : A) (d : List A) → n < length d → set (replicate n v ++ drop n d) n v ≡ replicate (suc n) v ++ drop (suc n) d
+  fill-suc n v [] l = absurd (not-suc-le-zero l)
+  fill-suc zero v (x ∷ d) l = refl
+  fill-suc (suc n) v (x ∷ d) l = ap (λ (t : List A). v ∷ t) (fill-suc n v d (le-of-suc-le-suc l))
+
+  pub fill-more : (n : ℕ) (v : A) (d : List A) → n < length d → set (replicate n v ++ drop n d) n v ≡ replicate (n + 1) v ++ drop (n + 1) d
+  fill-more n v d l = rw add-one (fill-suc n v d l)
+
+  pub fill-done : (n : ℕ) (v : A) (d : List A) → n ≡ length d → replicate n v ++ drop n d ≡ replicate (length d) v
+  fill-done n v d e = rw e (go (length d) v d (omega arith))
+    where
+      go : (m : ℕ) (v : A) (d : List A) → length d ≤ m → replicate m v ++ drop m d ≡ replicate m v
+      go m v d h = rw (drop-of-length-le d h) (append-nil (replicate m v))
+
+-- ---- all, from an index on
+
+module _ {A : Type 0} where
+  pub all-step : (p : A → Bool) (ws : List A) (i : ℕ) (d : A) → i < length ws → p (getD ws i d) ≡ true → all p (drop i ws) ≡ all p (drop (i + 1) ws)
+  all-step p ws i d h e = rw (add-one, drop-cons ws i d h, e)
+
+  pub all-fails : (p : A → Bool) (ws : List A) (i : ℕ) (d : A) → i < length ws → p (getD ws i d) ≡ false → all p (drop i ws) ≡ false
+  all-fails p ws i d h e = rw (drop-cons ws i d h, e)
+
+  pub all-done : (p : A → Bool) (ws : List A) (i : ℕ) → length ws ≤ i → all p (drop i ws) ≡ true
+  all-done p ws i h = rw (drop-of-length-le ws h)
+
+pub window-none : (ws : List ℕ) → T (distinct (keep (λ x. ltb x 0) ws))
+window-none ws = subst (λ (l : List ℕ). T (distinct l)) (sym (keep-none (λ x. ltb x 0) ws (λ x h l. omega (arith, ltb→lt x 0 l)))) tt

@@ -1,0 +1,78 @@
+use Rattle.utils.proofs.Scattered.{scattered-inverse, permutation-below, distinct-below, refused-order, refused-room, accepted}
+use Rattle.utils.proofs.Tests.{passes}
+use Rattle.layout.specs.Checks.{isPermutation}
+use Rattle.layout.specs.Answers.{output, inverse, inverseRefusal}
+use Rattle.layout.proofs.Distinct.{permutation-distinct}
+use borrow.Author.Tests.{not-true, not-false}
+use lib.ListN.{length}
+use lib.Dec.{T}
+use Prim.Native.Nat.{ℕ, _≤_}
+use mathlib.Core.Path.{_≡_, sym, ap, _∙_}
+use mathlib.Core.Bool.{true}
+use native.Mathlib.Omega.{arith}
+use borrow.Author.Needs.{needs}
+use Rattle.utils.proofs.inverse.Statement.{statement}
+use Rattle.utils.proofs.inverse.Tie as tie
+use Rattle.utils.proofs.inverse.Reads as reads
+use Rattle.utils.proofs.inverse.Lts as lts
+use Rattle.utils.proofs.is_permutation.Reads as is-permutation-reads
+use Rattle.utils.proofs.scatter.Reads as scatter-reads
+
+is-permutation-requires : tie.Need-is-permutation-requires
+is-permutation-requires c κs = search needs
+
+returns : tie.Need-returns
+returns c =
+    let a = c .before in
+    let s = a .before .before .before in
+    let ps = s .args .p .now in
+    let old = s .args .out .now in
+    let e : inverseRefusal ps (length old) ≡ 5 = refused-order ps (length old) (sym (a .is-permutation .ensures) ∙ not-true _ (c .if1 .taken)) in
+    (sym e, ap (λ (n : ℕ). output n (inverse ps) old) (sym e))
+
+-- past the first test
+permutes : (c : tie.Else1) → isPermutation (c .before .before .before .before .args .p .now) ≡ true
+permutes c = sym (c .before .is-permutation .ensures) ∙ not-false _ (c .if1 .left)
+
+returns-2 : tie.Need-returns-2
+returns-2 c =
+    let s = c .before .before .before .before .before in
+    let ps = s .args .p .now in
+    let old = s .args .out .now in
+    let e : inverseRefusal ps (length old) ≡ 11 = refused-room ps (length old) (permutes (c .before)) (omega arith) in
+    (sym e, ap (λ (n : ℕ). output n (inverse ps) old) (sym e))
+
+scatter-requires : tie.Need-scatter-requires
+scatter-requires c κs =
+    let f = c .before .before in
+    let k = f .before .before .before in
+    let ps = k .before .args .p .now in
+    let h : T (isPermutation ps) = passes (isPermutation ps) (permutes f) in
+    let few : length ps ≤ 4294967296 = distinct-below 4294967296 ps (permutation-distinct ps h) (λ i l. omega (arith, k .shared-slice-known .given i)) in
+    (permutation-below ps _ h (omega arith), omega arith)
+
+same-length : tie.Need-same-length
+same-length c = search needs
+
+returns-3 : tie.Need-returns-3
+returns-3 c =
+    let w = c .before .before in
+    let e = w .before .before in
+    let f = e .before in
+    let s = f .before .before .before .before in
+    let ps = s .args .p .now in
+    let old = s .args .out .now in
+    let h : T (isPermutation ps) = passes (isPermutation ps) (permutes f) in
+    let ok : inverseRefusal ps (length old) ≡ 0 = accepted ps (length old) (permutes f) (omega arith) in
+    (sym ok, w .scatter .ensures ∙ scattered-inverse ps old h (omega arith) ∙ ap (λ (n : ℕ). output n (inverse ps) old) (sym ok))
+
+pub inverse-spec : {M : Type 1} → statement M
+inverse-spec =
+    tie.close
+    (tie.spec
+    is-permutation-requires
+    returns
+    returns-2
+    scatter-requires
+    same-length
+    returns-3)

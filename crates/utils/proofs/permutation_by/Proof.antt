@@ -1,0 +1,94 @@
+use Rattle.utils.proofs.Windows.{window-none, window-more, repeats-within, windows-all}
+use Rattle.utils.proofs.Tests.{passes, and-true, and-false, and-right}
+use Rattle.layout.specs.Lists.{all, keep, distinct}
+use lib.ListN.{length}
+use lib.Dec.{T, ltb}
+use borrow.Author.Tests.{not-true, not-false}
+use Prim.Native.Nat.{_+_, _-_, _≤_}
+use mathlib.Core.Path.{_≡_, refl, sym, _∙_}
+use native.Mathlib.Omega.{arith}
+use borrow.Author.Needs.{needs}
+use Rattle.utils.proofs.permutation_by.Statement.{statement}
+use Rattle.utils.proofs.permutation_by.Tie as tie
+use Rattle.utils.proofs.permutation_by.Reads as reads
+use Rattle.utils.proofs.permutation_by.Lts as lts
+use Rattle.utils.proofs.all_below.Reads as all-below-reads
+use Rattle.utils.proofs.once_within.Reads as once-within-reads
+
+abbrev Inv-loop : tie.InvT-loop
+Inv-loop words marks₀ n low₀ marks low = (low ≤ length words) × (length marks ≡ length marks₀) × T (distinct (keep (λ x. ltb x low) words))
+
+abbrev μ-loop : tie.MeasureT-loop
+μ-loop words marks₀ n low₀ marks low = length words - low
+
+all-below-requires : tie.Need-all-below-requires Inv-loop μ-loop
+all-below-requires c κs = search needs
+
+returns : tie.Need-returns Inv-loop μ-loop
+returns c = sym (and-false _ _ (sym (c .before .all-below .ensures) ∙ not-true _ (c .if1 .taken)))
+
+loop-holds : tie.Need-loop-holds Inv-loop μ-loop
+loop-holds c = (omega arith, refl, window-none (c .before .before .before .before .args .words .now))
+
+once-within-requires : tie.Need-once-within-requires Inv-loop μ-loop
+once-within-requires c κs = search needs
+
+same-length : tie.Need-same-length Inv-loop μ-loop
+same-length c = search needs
+
+returns-2 : tie.Need-returns-2 Inv-loop μ-loop
+returns-2 c =
+    let w = c .before .before .before in
+    let ws = w .before .before .before .before .before .before .before .args .words .now in
+    sym (and-right (all (λ x. ltb x (length ws)) ws) (distinct ws) (repeats-within _ ws (sym (w .once-within .ensures) ∙ not-true _ (c .if2 .taken))))
+
+sub-if3 : tie.Need-sub-if3 Inv-loop μ-loop
+sub-if3 c = search needs
+
+same-length-2 : tie.Need-same-length-2 Inv-loop μ-loop
+same-length-2 c = search needs
+
+returns-3 : tie.Need-returns-3 Inv-loop μ-loop
+returns-3 c =
+    let w = c .before .before .before .before in
+    let l = w .before .before in
+    let a = l .before .before in
+    let ws = a .before .before .before .args .words .now in
+    let all-in = sym (a .all-below .ensures) ∙ not-false _ (l .before .if1 .left) in
+    let once = passes _ (sym (w .once-within .ensures) ∙ not-false _ (c .before .if2 .left)) in
+    sym (and-true _ _ all-in
+    ∙ windows-all (length ws) (l .loop .low + length (l .loop .marks)) ws all-in (omega arith) (window-more (l .loop .low) (length (l .loop .marks)) ws (l .loop .inv .2) once))
+
+add-low : tie.Need-add-low Inv-loop μ-loop
+add-low c = search needs
+
+loop-less : tie.Need-loop-less Inv-loop μ-loop
+loop-less c = search needs
+
+loop-again : tie.Need-loop-again Inv-loop μ-loop
+loop-again c =
+    let w = c .before .before .before .before in
+    let l = w .before .before in
+    let ws = l .before .before .before .before .before .args .words .now in
+    let once = passes _ (sym (w .once-within .ensures) ∙ not-false _ (c .before .if2 .left)) in
+    let e : length (w .once-within .last .1 .1 .0) ≡ length (l .loop .marks) = omega arith in
+    (omega arith, omega arith, rw e (window-more (l .loop .low) (length (l .loop .marks)) ws (l .loop .inv .2) once))
+
+pub permutation-by-spec : {M : Type 1} → statement M
+permutation-by-spec =
+    tie.close
+    (tie.spec
+    Inv-loop
+    μ-loop
+    all-below-requires
+    returns
+    loop-holds
+    once-within-requires
+    same-length
+    returns-2
+    sub-if3
+    same-length-2
+    returns-3
+    add-low
+    loop-less
+    loop-again)

@@ -1,0 +1,137 @@
+// Permutations: the test, and the inverse of clarabel's `invperm`.
+ghost use mathlib.Core.Path.{_≡_};
+ghost use Prim.Native.Nat.{_+_, _≤_, _<_};
+ghost use mathlib.Core.Bool.{true, false};
+ghost use lib.ListN.{length, replicate};
+ghost use lib.Dec.{ltb};
+ghost use Rattle.layout.specs.Lists.{all, distinct, keep};
+ghost use Rattle.layout.specs.Checks.{isPermutation};
+ghost use Rattle.layout.specs.Answers.{output, inverse as inverseOf, inverseRefusal};
+ghost use Rattle.utils.specs.Windows.{within, MarksMore};
+ghost use Rattle.utils.specs.Scattered.{scattered, Below};
+
+// ---- each number below the length once
+
+pub fn clear(marks: &mut [bool])
+    ensures { λ _. ⌜ now (marks .exit) ≡ replicate (length (now (marks .entry))) false ⌝ }
+{
+    let mut i = 0;
+    while i < marks.len() {
+        marks[i] = false;
+        i += 1;
+    }
+}
+
+// Marks the words' numbers that are in the window from low on, unless one is marked already.
+pub fn mark(words: &[u32], low: usize, marks: &mut [bool]) -> bool
+    ensures { λ r. ⌜ MarksMore low (now (marks .entry)) (now (words .entry)) r (now (marks .exit)) ⌝ }
+{
+    let mut i = 0;
+    while i < words.len() {
+        let x = words[i] as usize;
+        i += 1;
+        if x < low {
+            continue;
+        }
+        let v = x - low;
+        if marks.len() <= v {
+            continue;
+        }
+        if marks[v] {
+            return false;
+        }
+        marks[v] = true;
+    }
+    true
+}
+
+// No number of the window stands twice in the words: the window starts at low and has a mark for each number.
+fn once_within(words: &[u32], low: usize, marks: &mut [bool]) -> bool
+    ensures { λ r. ⌜ r ≡ distinct (keep (within low (length (now (marks .entry)))) (now (words .entry))) ⌝ }
+{
+    clear(&mut *marks);
+    mark(words, low, marks)
+}
+
+pub fn all_below(words: &[u32], n: usize) -> bool
+    ensures { λ r. ⌜ r ≡ all (λ x. ltb x n) (now (words .entry)) ⌝ }
+{
+    let mut i = 0;
+    while i < words.len() {
+        if n <= words[i] as usize {
+            return false;
+        }
+        i += 1;
+    }
+    true
+}
+
+// Window by window.
+fn permutation_by(words: &[u32], marks: &mut [bool]) -> bool
+    requires { ⌜ 0 < length (now marks) ⌝ }
+    ensures { λ r. ⌜ r ≡ isPermutation (now (words .entry)) ⌝ }
+{
+    let n = words.len();
+    if !all_below(words, n) {
+        return false;
+    }
+    let mut low = 0;
+    loop {
+        if !once_within(words, low, &mut *marks) {
+            return false;
+        }
+        if n - low <= marks.len() {
+            return true;
+        }
+        low += marks.len();
+    }
+}
+
+// Each number below the length stands in the words once. Linear up to 262,144 numbers, and longer words go in windows of
+// that size; shorter ones have smaller tables to clear.
+pub fn is_permutation(words: &[u32]) -> bool
+    ensures { λ r. ⌜ r ≡ isPermutation (now (words .entry)) ⌝ }
+{
+    if words.len() <= 256 {
+        let mut few = [false; 256];
+        return permutation_by(words, &mut few);
+    }
+    if words.len() <= 8192 {
+        let mut some = [false; 8192];
+        return permutation_by(words, &mut some);
+    }
+    let mut marks = [false; 262144];
+    permutation_by(words, &mut marks)
+}
+
+// ---- the inverse
+
+// first, first + 1, .. written where the words say, in order.
+pub fn scatter(words: &[u32], first: u32, out: &mut [u32])
+    requires { ⌜ Below (length (now out)) (now words) ⌝ }
+    requires { ⌜ first + length (now words) ≤ 4294967296 ⌝ }
+    ensures { λ _. ⌜ now (out .exit) ≡ scattered first (now (words .entry)) (now (out .entry)) ⌝ }
+{
+    let mut k = 0;
+    while k < words.len() {
+        let w = words[k] as usize;
+        out[w] = first + k as u32;
+        k += 1;
+    }
+}
+
+// The place of each number in a permutation of the numbers below its length, or a refusal: 5 for what is no such
+// permutation, 11 for too short an output.
+pub fn inverse(p: &[u32], out: &mut [u32]) -> u32
+    ensures { λ r. ⌜ r ≡ inverseRefusal (now (p .entry)) (length (now (out .entry))) ⌝ }
+    ensures { λ _. ⌜ now (out .exit) ≡ output (inverseRefusal (now (p .entry)) (length (now (out .entry)))) (inverseOf (now (p .entry))) (now (out .entry)) ⌝ }
+{
+    if !is_permutation(p) {
+        return 5;
+    }
+    if out.len() < p.len() {
+        return 11;
+    }
+    scatter(p, 0, out);
+    0
+}
