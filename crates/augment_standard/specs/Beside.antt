@@ -1,0 +1,37 @@
+-- A beside H, over zero beside -I, table by table. Definitions only.
+use Prim.Native.Nat.{ℕ, zero, suc, _+_}
+use mathlib.Core.List.{List, [], _∷_, _++_}
+use lib.ListN.{length}
+use lib.Ieee.{Float}
+use Rattle.layout.specs.Problem.{Csc, one64, minusOne64}
+
+-- where k columns of two entries each end, after a entries
+abbrev pub hStarts : ℕ → ℕ → List ℕ
+hStarts a zero = []
+hStarts a (suc k) = (a + 2) ∷ hStarts (a + 2) k
+
+-- each column's original row, and its row of -I; the first of these is r
+abbrev pub hRows : ℕ → List ℕ → List ℕ
+hRows r [] = []
+hRows r (o ∷ os) = o ∷ r ∷ hRows (suc r) os
+
+abbrev pub hValues : ℕ → List Float
+hValues zero = []
+hValues (suc k) = one64 ∷ minusOne64 ∷ hValues k
+
+abbrev pub besideStarts : List ℕ → ℕ → ℕ → List ℕ
+besideStarts starts entries k = starts ++ hStarts entries k
+
+abbrev pub besideRows : List ℕ → ℕ → List ℕ → List ℕ
+besideRows rows m os = rows ++ hRows m os
+
+abbrev pub besideValues : List Float → ℕ → List Float
+besideValues values k = values ++ hValues k
+
+-- A of m rows, with a column of H for each of the original rows os
+abbrev pub besideH : Csc → ℕ → List ℕ → Csc
+besideH A m os = record {
+  starts = besideStarts (A .starts) (length (A .values)) (length os);
+  rows = besideRows (A .rows) m os;
+  values = besideValues (A .values) (length os);
+}

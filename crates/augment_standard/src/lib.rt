@@ -1,0 +1,77 @@
+// The standard cut's matrix: A beside H, over zero beside -I. H has one 1 a column, and os has its row for each column.
+ghost use mathlib.Core.Path.{_≡_};
+ghost use Prim.Native.Nat.{_+_, _*_, _≤_, _<_};
+ghost use lib.ListN.{length};
+ghost use Rattle.layout.specs.Lists.{written};
+ghost use Rattle.augment_standard.specs.Beside.{hStarts, hRows, hValues, besideStarts, besideRows, besideValues};
+
+// Writes the ends of k columns of H over -I, which hold two entries each, where entries come before them.
+pub fn write_h_starts(out: &mut [u32], entries: u32, k: usize)
+    requires { ⌜ (k ≤ length (now out)) × (entries + 2 * k < 4294967296) ⌝ }
+    ensures { λ _. ⌜ now (out .exit) ≡ written (hStarts entries k) (now (out .entry)) ⌝ }
+{
+    let mut end = entries;
+    let mut i = 0;
+    while i < k {
+        end += 2;
+        out[i] = end;
+        i += 1;
+    }
+}
+
+// Writes the rows of H over -I: column k has its original row, and row m + k.
+pub fn write_h_rows(out: &mut [u32], os: &[u32], m: u32)
+    requires { ⌜ (2 * length (now os) ≤ length (now out)) × (m + length (now os) ≤ 262144) ⌝ }
+    ensures { λ _. ⌜ now (out .exit) ≡ written (hRows m (now (os .entry))) (now (out .entry)) ⌝ }
+{
+    let mut t = 0;
+    let mut i = 0;
+    while i < os.len() {
+        out[t] = os[i];
+        out[t + 1] = m + i as u32;
+        t += 2;
+        i += 1;
+    }
+}
+
+// Writes the values of k columns of H over -I: 1 and -1 for each.
+pub fn write_h_values(out: &mut [f64], k: usize)
+    requires { ⌜ 2 * k ≤ length (now out) ⌝ }
+    ensures { λ _. ⌜ now (out .exit) ≡ written (hValues k) (now (out .entry)) ⌝ }
+{
+    let mut t = 0;
+    let mut i = 0;
+    while i < k {
+        out[t] = 1.0;
+        out[t + 1] = -1.0;
+        t += 2;
+        i += 1;
+    }
+}
+
+// Writes the starts of A beside the k columns of H; entries are A's.
+pub fn write_starts(out: &mut [u32], starts: &[u32], entries: u32, k: usize)
+    requires { ⌜ (length (now starts) + k ≤ length (now out)) × (entries + 2 * k < 4294967296) ⌝ }
+    ensures { λ _. ⌜ now (out .exit) ≡ written (besideStarts (now (starts .entry)) entries k) (now (out .entry)) ⌝ }
+{
+    csc::copy_numbers(&mut *out, starts);
+    write_h_starts(&mut out[starts.len()..], entries, k);
+}
+
+// Writes the rows of A beside H, over zero beside -I; m is A's row count.
+pub fn write_rows(out: &mut [u32], rows: &[u32], os: &[u32], m: u32)
+    requires { ⌜ (length (now rows) + 2 * length (now os) ≤ length (now out)) × (m + length (now os) ≤ 262144) ⌝ }
+    ensures { λ _. ⌜ now (out .exit) ≡ written (besideRows (now (rows .entry)) m (now (os .entry))) (now (out .entry)) ⌝ }
+{
+    csc::copy_numbers(&mut *out, rows);
+    write_h_rows(&mut out[rows.len()..], os, m);
+}
+
+// Writes the values of A beside the k columns of H.
+pub fn write_values(out: &mut [f64], values: &[f64], k: usize)
+    requires { ⌜ length (now values) + 2 * k ≤ length (now out) ⌝ }
+    ensures { λ _. ⌜ now (out .exit) ≡ written (besideValues (now (values .entry)) k) (now (out .entry)) ⌝ }
+{
+    csc::copy_values(&mut *out, values);
+    write_h_values(&mut out[values.len()..], k);
+}

@@ -1,0 +1,72 @@
+-- Tests over a list, as a loop from the front meets them: of each element, and of each with the one after it.
+use Prim.Native.Nat.{ℕ, zero, suc, _+_, _≤_, _<_}
+use native.Mathlib.Numerals.{add-one}
+use native.Mathlib.Omega.{arith}
+use mathlib.Core.Path.{_≡_, refl, ap, _∙_}
+use mathlib.Core.Bool.{Bool, true, false, _&&_}
+use mathlib.Core.List.{List, [], _∷_}
+use lib.ListN.{length, getD, drop, drop-of-length-le}
+use lib.Seq.{drop-cons}
+use lib.Dec.{leb, ltb}
+use Rattle.layout.specs.Lists.{all, below, rises}
+use Rattle.layout.specs.Checks.{neverFalls}
+use Rattle.layout.proofs.Members.{length-below}
+use Rattle.layout.proofs.Keeps.{drop-below}
+
+module _ {A : Type 0} (p : A → Bool) where
+  pub all-step : (xs : List A) (i : ℕ) (d : A) → i < length xs → p (getD xs i d) ≡ true → all p (drop i xs) ≡ all p (drop (i + 1) xs)
+  all-step xs i d h e = rw (add-one, drop-cons xs i d h, e)
+
+  pub all-fails : (xs : List A) (i : ℕ) (d : A) → i < length xs → p (getD xs i d) ≡ false → all p (drop i xs) ≡ false
+  all-fails xs i d h e = rw (drop-cons xs i d h, e)
+
+  pub all-done : (xs : List A) (i : ℕ) → length xs ≤ i → all p (drop i xs) ≡ true
+  all-done xs i h = rw (drop-of-length-le xs h)
+
+-- each number and the one after it are so
+abbrev pub chained : (ℕ → ℕ → Bool) → List ℕ → Bool
+chained p [] = true
+chained p (x ∷ []) = true
+chained p (x ∷ y ∷ ys) = p x y && chained p (y ∷ ys)
+
+pub falls-chained : (xs : List ℕ) → neverFalls xs ≡ chained leb xs
+falls-chained [] = refl
+falls-chained (x ∷ []) = refl
+falls-chained (x ∷ y ∷ ys) = ap (λ (b : Bool). leb x y && b) (falls-chained (y ∷ ys))
+
+pub rises-chained : (xs : List ℕ) → rises xs ≡ chained ltb xs
+rises-chained [] = refl
+rises-chained (x ∷ []) = refl
+rises-chained (x ∷ y ∷ ys) = ap (λ (b : Bool). ltb x y && b) (rises-chained (y ∷ ys))
+
+module _ (p : ℕ → ℕ → Bool) where
+  chain-at : (xs : List ℕ) (i : ℕ) → i + 1 < length xs
+      → chained p (drop i xs) ≡ (p (getD xs i 0) (getD xs (i + 1) 0) && chained p (drop (i + 1) xs))
+  chain-at xs i h = rw (drop-cons xs i 0 (omega arith), add-one, drop-cons xs (suc i) 0 (omega arith))
+
+  pub chain-step : (xs : List ℕ) (i : ℕ) → i + 1 < length xs → p (getD xs i 0) (getD xs (i + 1) 0) ≡ true
+      → chained p (drop i xs) ≡ chained p (drop (i + 1) xs)
+  chain-step xs i h e = chain-at xs i h ∙ rw e
+
+  pub chain-fails : (xs : List ℕ) (i : ℕ) → i + 1 < length xs → p (getD xs i 0) (getD xs (i + 1) 0) ≡ false
+      → chained p (drop i xs) ≡ false
+  chain-fails xs i h e = chain-at xs i h ∙ rw e
+
+  pub chain-done : (xs : List ℕ) (i : ℕ) → length xs ≤ i + 1 → chained p (drop i xs) ≡ true
+  chain-done [] zero h = refl
+  chain-done [] (suc i) h = refl
+  chain-done (x ∷ []) zero h = refl
+  chain-done (x ∷ []) (suc i) h = chain-done [] i (omega arith)
+  chain-done (x ∷ y ∷ ys) zero h = absurd (omega arith)
+  chain-done (x ∷ y ∷ ys) (suc i) h = chain-done (y ∷ ys) i (omega arith)
+
+-- a test of every number below n, from k on
+module _ (p : ℕ → Bool) where
+  pub below-step : (n k : ℕ) → k < n → p k ≡ true → all p (drop k (below n)) ≡ all p (drop (k + 1) (below n))
+  below-step n k h e = ap (all p) (drop-below n k h) ∙ rw e
+
+  pub below-fails : (n k : ℕ) → k < n → p k ≡ false → all p (drop k (below n)) ≡ false
+  below-fails n k h e = ap (all p) (drop-below n k h) ∙ rw e
+
+  pub below-done : (n k : ℕ) → n ≤ k → all p (drop k (below n)) ≡ true
+  below-done n k h = all-done p (below n) k (omega (arith, length-below n))

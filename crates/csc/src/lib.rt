@@ -1,0 +1,192 @@
+// Compressed columns: checks 2 and 3 of one matrix, and the writers that copy and extend its tables.
+ghost use mathlib.Core.Path.{_≡_};
+ghost use mathlib.Core.List.{_++_};
+ghost use Prim.Native.Nat.{_+_, _≤_};
+ghost use lib.ListN.{length, replicate};
+ghost use lib.Dec.{T, ltb};
+ghost use Rattle.layout.specs.Lists.{all, below, rises, written};
+ghost use Rattle.layout.specs.Checks.{neverFalls, startsRight, rowsRight, columnRows};
+ghost use Rattle.layout.specs.Compact.{extendedP};
+ghost use Rattle.csc.specs.Matrix.{matrix, table, ColumnsInside};
+
+// Whether no number is below the one before it.
+pub fn never_falls(xs: &[u32]) -> bool
+    ensures { λ r. ⌜ r ≡ neverFalls (now (xs .entry)) ⌝ }
+{
+    let mut i = 0;
+    while i + 1 < xs.len() {
+        if xs[i + 1] < xs[i] {
+            return false;
+        }
+        i += 1;
+    }
+    true
+}
+
+// Whether each row is above the one before it.
+pub fn rise_strictly(rows: &[u32]) -> bool
+    ensures { λ r. ⌜ r ≡ rises (now (rows .entry)) ⌝ }
+{
+    let mut i = 0;
+    while i + 1 < rows.len() {
+        if rows[i + 1] <= rows[i] {
+            return false;
+        }
+        i += 1;
+    }
+    true
+}
+
+// Check 2 of a matrix with n columns; clarabel's check_dimensions, which lets the first start be any number.
+pub fn starts_right(n: u32, starts: &[u32], rows: &[u32], values: &[f64]) -> bool
+    ensures { λ r. ⌜ r ≡ startsRight n (matrix (now (starts .entry)) (now (rows .entry)) (now (values .entry))) ⌝ }
+{
+    let last = n as usize;
+    if starts.len() != last + 1 {
+        return false;
+    }
+    if starts[0] != 0 {
+        return false;
+    }
+    if !never_falls(starts) {
+        return false;
+    }
+    if starts[last] as usize != values.len() {
+        return false;
+    }
+    rows.len() == values.len()
+}
+
+// Whether every row is below m.
+pub fn rows_inside(m: u32, rows: &[u32]) -> bool
+    ensures { λ r. ⌜ r ≡ all (λ x. ltb x m) (now (rows .entry)) ⌝ }
+{
+    let mut i = 0;
+    while i < rows.len() {
+        if rows[i] >= m {
+            return false;
+        }
+        i += 1;
+    }
+    true
+}
+
+// Whether the rows of each of the n columns rise.
+pub fn columns_rise(n: u32, starts: &[u32], rows: &[u32]) -> bool
+    requires { ⌜ ColumnsInside n (now starts) (now rows) ⌝ }
+    ensures { λ r. ⌜ r ≡ all (λ c. rises (columnRows (table (now (starts .entry)) (now (rows .entry))) c)) (below n) ⌝ }
+{
+    let count = n as usize;
+    let mut c = 0;
+    while c < count {
+        let first = starts[c] as usize;
+        let end = starts[c + 1] as usize;
+        if !rise_strictly(&rows[first..end]) {
+            return false;
+        }
+        c += 1;
+    }
+    true
+}
+
+// Check 3 of an m by n matrix that passes check 2; the rest of clarabel's check_format.
+pub fn rows_right(m: u32, n: u32, starts: &[u32], rows: &[u32], values: &[f64]) -> bool
+    requires { ⌜ T (startsRight n (matrix (now starts) (now rows) (now values))) ⌝ }
+    ensures { λ r. ⌜ r ≡ rowsRight m n (matrix (now (starts .entry)) (now (rows .entry)) (now (values .entry))) ⌝ }
+{
+    if !rows_inside(m, rows) {
+        return false;
+    }
+    columns_rise(n, starts, rows)
+}
+
+// How many entries a matrix that passes check 2 has: its last start.
+pub fn nnz(n: u32, starts: &[u32], rows: &[u32], values: &[f64]) -> u32
+    requires { ⌜ T (startsRight n (matrix (now starts) (now rows) (now values))) ⌝ }
+    ensures { λ r. ⌜ r ≡ length (now (values .entry)) ⌝ }
+{
+    starts[n as usize]
+}
+
+// Copies src to the front of out.
+pub fn copy_numbers(out: &mut [u32], src: &[u32])
+    requires { ⌜ length (now src) ≤ length (now out) ⌝ }
+    ensures { λ _. ⌜ now (out .exit) ≡ written (now (src .entry)) (now (out .entry)) ⌝ }
+{
+    let mut i = 0;
+    while i < src.len() {
+        out[i] = src[i];
+        i += 1;
+    }
+}
+
+// Copies src to the front of out.
+pub fn copy_values(out: &mut [f64], src: &[f64])
+    requires { ⌜ length (now src) ≤ length (now out) ⌝ }
+    ensures { λ _. ⌜ now (out .exit) ≡ written (now (src .entry)) (now (out .entry)) ⌝ }
+{
+    let mut i = 0;
+    while i < src.len() {
+        out[i] = src[i];
+        i += 1;
+    }
+}
+
+// Sets the first k numbers of out to v.
+pub fn fill_numbers(out: &mut [u32], k: usize, v: u32)
+    requires { ⌜ k ≤ length (now out) ⌝ }
+    ensures { λ _. ⌜ now (out .exit) ≡ written (replicate k v) (now (out .entry)) ⌝ }
+{
+    let mut i = 0;
+    while i < k {
+        out[i] = v;
+        i += 1;
+    }
+}
+
+// Sets the first k values of out to v.
+pub fn fill_values(out: &mut [f64], k: usize, v: f64)
+    requires { ⌜ k ≤ length (now out) ⌝ }
+    ensures { λ _. ⌜ now (out .exit) ≡ written (replicate k v) (now (out .entry)) ⌝ }
+{
+    let mut i = 0;
+    while i < k {
+        out[i] = v;
+        i += 1;
+    }
+}
+
+// Writes src and then v, k times.
+pub fn extend_numbers(out: &mut [u32], src: &[u32], k: usize, v: u32)
+    requires { ⌜ length (now src) + k ≤ length (now out) ⌝ }
+    ensures { λ _. ⌜ now (out .exit) ≡ written (now (src .entry) ++ replicate k v) (now (out .entry)) ⌝ }
+{
+    copy_numbers(&mut *out, src);
+    fill_numbers(&mut out[src.len()..], k, v);
+}
+
+// Writes src and then v, k times.
+pub fn extend_values(out: &mut [f64], src: &[f64], k: usize, v: f64)
+    requires { ⌜ length (now src) + k ≤ length (now out) ⌝ }
+    ensures { λ _. ⌜ now (out .exit) ≡ written (now (src .entry) ++ replicate k v) (now (out .entry)) ⌝ }
+{
+    copy_values(&mut *out, src);
+    fill_values(&mut out[src.len()..], k, v);
+}
+
+// Writes the starts of a matrix that passes check 2, with k empty columns more.
+pub fn extend_starts(
+    out: &mut [u32],
+    n: u32,
+    starts: &[u32],
+    rows: &[u32],
+    values: &[f64],
+    k: usize,
+)
+    requires { ⌜ T (startsRight n (matrix (now starts) (now rows) (now values))) ⌝ }
+    requires { ⌜ length (now starts) + k ≤ length (now out) ⌝ }
+    ensures { λ _. ⌜ now (out .exit) ≡ written (extendedP k (matrix (now (starts .entry)) (now (rows .entry)) (now (values .entry))) .starts) (now (out .entry)) ⌝ }
+{
+    let end = nnz(n, starts, rows, values);
+    extend_numbers(out, starts, k, end);
+}

@@ -1,0 +1,16 @@
+use mathlib.Core.Path.{refl}
+use lib.Ieee.{ofBits}
+use native.Mathlib.Omega.{arith}
+use borrow.Author.Needs.{needs}
+use Rattle.reverse_standard.proofs.Scalars.joined.Statement.{statement}
+use Rattle.reverse_standard.proofs.Scalars.joined.Tie as tie
+use Rattle.reverse_standard.proofs.Scalars.joined.Reads as reads
+use Rattle.reverse_standard.proofs.Scalars.joined.Lts as lts
+
+-- src/lib.rt:19:5
+returns : tie.Need-returns
+unfolding ofBits
+returns c = (refl, refl)
+
+pub joined-spec : {M : Type 1} → statement M
+joined-spec = tie.close (tie.spec returns)
