@@ -4,10 +4,11 @@ use native.Mathlib.Numerals.{add-one}
 use native.Mathlib.Omega.{arith}
 use mathlib.Core.Path.{_≡_, ap, sym, _∙_}
 use mathlib.Core.List.{List, [], _∷_, _++_, append-assoc}
-use lib.ListN.{length, getD, take, drop, set, replicate, length-append, length-drop, length-replicate, replicate-append-replicate, take-append-drop}
+use lib.ListN.{length, getD, take, drop, set, replicate, length-append, length-drop, length-replicate, replicate-append-replicate, take-append-drop, drop-of-length-le}
 use lib.Seq.{take-suc, take-all, length-take-le, take-append-seam, drop-append-seam, drop-append-le, drop-drop}
 use Rattle.layout.specs.Lists.{written}
 use Rattle.layout.proofs.Starts.{length-written}
+use Rattle.layout.proofs.Keeps.{append-nil}
 use Rattle.layout.proofs.Buffers.{set-written}
 
 module _ {A : Type 0} where
@@ -35,6 +36,12 @@ module _ {A : Type 0} where
   fill-more old i v h =
       set-written (replicate i v) old v i (sym (length-replicate i v)) h
       ∙ ap (λ (xs : List A). written xs old) (replicate-append-replicate i 1 v)
+
+  -- and all of a list filled with it
+  pub filled : (old : List A) (k : ℕ) (v : A) → k ≡ length old → written (replicate k v) old ≡ replicate (length old) v
+  filled old k v e =
+      ap (λ (r : List A). replicate k v ++ r) (drop-of-length-le old {i = length (replicate k v)} (omega (arith, length-replicate k v)))
+      ∙ append-nil (replicate k v) ∙ ap (λ (n : ℕ). replicate n v) e
 
   -- a part is lent, ys is written to its front, and it comes back
   written-part : (ys old : List A) (a k : ℕ) → length ys ≤ k → a + k ≤ length old

@@ -5,7 +5,7 @@ use native.Mathlib.Omega.{arith}
 use mathlib.Core.Path.{_≡_, refl, ap, sym, _∙_}
 use mathlib.Core.Bool.{Bool, true, false, cond}
 use mathlib.Core.List.{List, [], _∷_, _++_, map}
-use lib.ListN.{length, getD, take, drop, set, replicate, length-replicate, length-set, length-map, length-take, drop-of-length-le}
+use lib.ListN.{length, getD, take, drop, set, length-set, length-map, length-take, drop-of-length-le}
 use lib.Seq.{take-suc, getD-append-add, getD-drop, getD-set-same, getD-set-other}
 use lib.Dec.{eqb}
 use lib.Ieee.{Float, nan}
@@ -79,9 +79,3 @@ pub averages : (os counts : List ℕ) (ws : List Float) (m : ℕ) → m ≤ leng
 averages os counts ws m h c =
     map-same (averagedBy counts ws) (averaged os ws) (below m)
     (λ o k. ap (λ (n : ℕ). shared n (getD ws o nan)) (c o (omega (arith, has-below o m .0 k))))
-
--- all of a list filled anew
-pub filled : {A : Type 0} (old : List A) (k : ℕ) (v : A) → k ≡ length old → written (replicate k v) old ≡ replicate (length old) v
-filled {A} old k v e =
-    ap (λ (r : List A). replicate k v ++ r) (drop-of-length-le old {i = length (replicate k v)} (omega (arith, length-replicate k v)))
-    ∙ append-nil (replicate k v) ∙ ap (λ (n : ℕ). replicate n v) e

@@ -4,7 +4,7 @@ use lib.ListN.{length, replicate}
 use lib.Ieee.{Float, ofBits}
 use Rattle.layout.specs.Reverse.{addColumns}
 use Rattle.layout.specs.Problem.{zero64}
-use Rattle.reverse_standard.proofs.Laws.{filled}
+use Rattle.csc.proofs.Writing.{filled}
 use native.Mathlib.Omega.{arith}
 use borrow.Author.Needs.{needs}
 use Rattle.reverse_standard.proofs.gemv.Statement.{statement}

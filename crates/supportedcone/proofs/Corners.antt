@@ -1,0 +1,43 @@
+-- Document 01's corners of cone records, and the Rust file's own test of ranges, computed.
+use mathlib.Core.Path.{_≡_, refl}
+use mathlib.Core.Bool.{true, false}
+use mathlib.Core.List.{[], _∷_}
+use Rattle.layout.specs.Cones.{records}
+use Rattle.layout.specs.Checks.{conesBounded, conesRead}
+use Rattle.supportedcone.specs.Ranges.{rowTotal, firstRows}
+
+-- a part record at the end: check 1 passes over it, check 4 does not
+part-bounded : conesBounded (0 ∷ 2 ∷ 0 ∷ 1 ∷ 65537 ∷ []) ≡ true
+part-bounded = refl
+
+part-read : conesRead 2 (0 ∷ 2 ∷ 0 ∷ 1 ∷ 65537 ∷ []) ≡ false
+part-read = refl
+
+-- a size of an unknown kind is bounded too
+unknown-kind : conesBounded (9 ∷ 0 ∷ 65537 ∷ []) ≡ false
+unknown-kind = refl
+
+-- the bound of a PSD size is on the first
+psd-257 : conesBounded (6 ∷ 257 ∷ 0 ∷ []) ≡ false
+psd-257 = refl
+
+psd-second : conesBounded (6 ∷ 0 ∷ 257 ∷ []) ≡ true
+psd-second = refl
+
+psd-second-read : conesRead 0 (6 ∷ 0 ∷ 257 ∷ []) ≡ false
+psd-second-read = refl
+
+-- cones without rows
+no-rows : conesRead 0 (6 ∷ 0 ∷ 0 ∷ 5 ∷ 0 ∷ 0 ∷ []) ≡ true
+no-rows = refl
+
+-- the seven kinds
+all-kinds : conesRead 33 (0 ∷ 1 ∷ 0 ∷ 1 ∷ 2 ∷ 0 ∷ 2 ∷ 4 ∷ 0 ∷ 3 ∷ 0 ∷ 0 ∷ 4 ∷ 0 ∷ 0 ∷ 5 ∷ 2 ∷ 3 ∷ 6 ∷ 5 ∷ 0 ∷ []) ≡ true
+all-kinds = refl
+
+-- test_cone_ranges: 0..3, 3..3, 3..7
+ranges : firstRows 0 (records (1 ∷ 3 ∷ 0 ∷ 1 ∷ 0 ∷ 0 ∷ 2 ∷ 4 ∷ 0 ∷ [])) ≡ 0 ∷ 3 ∷ 3 ∷ []
+ranges = refl
+
+ranges-end : rowTotal (records (1 ∷ 3 ∷ 0 ∷ 1 ∷ 0 ∷ 0 ∷ 2 ∷ 4 ∷ 0 ∷ [])) ≡ 7
+ranges-end = refl

@@ -1,0 +1,94 @@
+-- Records by number, as the words have them.
+use Prim.Native.Nat.{ℕ, _+_, _*_, _≤_, _<_}
+use native.Mathlib.Omega.{arith}
+use mathlib.Core.Path.{_≡_, refl, sym, ap, subst, _∙_}
+use mathlib.Core.Bool.{Bool, true, false, cond, _&&_}
+use mathlib.Core.Logic.{inl, inr}
+use mathlib.Core.List.{List, [], _∷_}
+use lib.ListN.{length, getD, List·getD-eq-default}
+use lib.Dec.{T, leb, eqb, leb→le, eqb→eq}
+use lib.Ieee.Bits.{is-true}
+use borrow.Author.Tests.{lt-ltb}
+use Rattle.layout.specs.Cones.{Cone, records, wholeRecords, reads, rowCount}
+use Rattle.layout.specs.Lists.{all}
+use Rattle.layout.specs.Patterns.{Pattern}
+use Rattle.layout.specs.Checks.{noCone, sizesBounded, conesBounded, conesRead, namesItsCone}
+use Rattle.layout.proofs.Tests.{and-iff, lt-or-le}
+use Rattle.layout.proofs.Members.{all-at}
+use Rattle.layout.proofs.Records.{record-count, record-at}
+use Rattle.supportedcone.specs.Cases.{coneRecord, recordAt}
+use Rattle.supportedcone.specs.Ranges.{rowTotal, isPsdOf}
+
+pub inside : (ws : List ℕ) (i : ℕ) → i < length (records ws) → i * 3 + 3 ≤ length ws
+inside ws i h = omega (arith, record-count ws)
+
+-- the numbers of record i
+pub record-in : (ws : List ℕ) (i : ℕ) → i < length (records ws)
+    → recordAt ws i ≡ coneRecord (getD ws (i * 3) 0) (getD ws (i * 3 + 1) 0) (getD ws (i * 3 + 2) 0)
+record-in ws i h = record-at ws i noCone (inside ws i h)
+
+pub record-out : (ws : List ℕ) (i : ℕ) → length (records ws) ≤ i → recordAt ws i ≡ noCone
+record-out ws i h = List·getD-eq-default (records ws) noCone h
+
+-- the words are three to a record
+pub whole : (ws : List ℕ) → length (records ws) * 3 ≡ length ws → wholeRecords ws ≡ true
+whole [] e = refl
+whole (k ∷ []) e = absurd (omega arith)
+whole (k ∷ a ∷ []) e = absurd (omega arith)
+whole (k ∷ a ∷ c ∷ ws) e = whole ws (omega arith)
+
+pub part-record : (ws : List ℕ) → (length (records ws) * 3 ≡ length ws → ⊥) → wholeRecords ws ≡ false
+part-record [] n = absurd (n refl)
+part-record (k ∷ []) n = refl
+part-record (k ∷ a ∷ []) n = refl
+part-record (k ∷ a ∷ c ∷ ws) n = part-record ws (λ e. n (omega arith))
+
+-- a test that every record passes
+pub every-record : (p : Cone → Bool) (ws : List ℕ) (i : ℕ) → all p (records ws) ≡ true → i < length (records ws) → p (recordAt ws i) ≡ true
+every-record p ws i h l = is-true (p (recordAt ws i)) (all-at noCone p (records ws) .0 (subst T (sym h) tt) i l)
+
+-- check 1 of the records, and of one
+both : (ws : List ℕ) → conesBounded ws ≡ true → T (leb (length (records ws)) 1024) × T (all sizesBounded (records ws))
+both ws h = and-iff (leb (length (records ws)) 1024) (all sizesBounded (records ws)) .0 (subst T (sym h) tt)
+
+pub few-records : (ws : List ℕ) → conesBounded ws ≡ true → length (records ws) ≤ 1024
+few-records ws h = leb→le (length (records ws)) 1024 (both ws h .0)
+
+pub bounded-at : (ws : List ℕ) (i : ℕ) → conesBounded ws ≡ true → sizesBounded (recordAt ws i) ≡ true
+bounded-at ws i h = elim (lt-or-le i (length (records ws))) [
+  | inl l ↦ every-record sizesBounded ws i (is-true (all sizesBounded (records ws)) (both ws h .1)) l
+  | inr l ↦ ap sizesBounded (record-out ws i l)
+]
+
+-- a record that reads as no kind is none of those that do
+pub unread-rows : (ws : List ℕ) (i : ℕ) → all reads (records ws) ≡ true → reads (recordAt ws i) ≡ false → rowCount (recordAt ws i) ≡ 0
+unread-rows ws i h e = elim (lt-or-le i (length (records ws))) [
+  | inl l ↦ absurd (subst T (sym (every-record reads ws i h l) ∙ e) tt)
+  | inr l ↦ ap rowCount (record-out ws i l)
+]
+
+pub psd-in : (ws : List ℕ) (i v : ℕ) → i < length (records ws) → isPsdOf ws i v ≡ (eqb (getD ws (i * 3) 0) 6 && eqb (getD ws (i * 3 + 1) 0) v)
+psd-in ws i v h =
+    rw (lt-ltb i (length (records ws)) h) (ap (λ (c : Cone). eqb (c .kind) 6 && eqb (c .first) v) (record-in ws i h))
+
+-- check 5's test of a pattern's cone
+pub names-its-cone : (ws : List ℕ) (p : Pattern) → namesItsCone (records ws) p ≡ isPsdOf ws (p .origIndex) (p .vertexCount)
+names-its-cone ws p = refl
+
+-- ---- what a caller has once checks 1 and 4 passed
+
+pub cones-read : (m : ℕ) (ws : List ℕ) → _≡_ {A = ℕ} (cond (conesRead m ws) 0 4) 0 → conesRead m ws ≡ true
+cones-read m ws e = go (conesRead m ws) e
+  where
+    go : (b : Bool) → _≡_ {A = ℕ} (cond b 0 4) 0 → b ≡ true
+    go true h = refl
+    go false h = absurd (omega arith)
+
+pub all-read : (m : ℕ) (ws : List ℕ) → conesRead m ws ≡ true → all reads (records ws) ≡ true
+all-read m ws h =
+    let (both, rows) = and-iff (wholeRecords ws && all reads (records ws)) (eqb (rowTotal (records ws)) m) .0 (subst T (sym h) tt) in
+    is-true (all reads (records ws)) (and-iff (wholeRecords ws) (all reads (records ws)) .0 both .1)
+
+pub rows-read : (m : ℕ) (ws : List ℕ) → conesRead m ws ≡ true → rowTotal (records ws) ≡ m
+rows-read m ws h =
+    eqb→eq (rowTotal (records ws)) m (and-iff (wholeRecords ws && all reads (records ws)) (eqb (rowTotal (records ws)) m) .0 (subst T (sym h) tt) .1)

@@ -1,0 +1,45 @@
+-- Tests and sums over a list, one element at a time; three elements stored.
+use Prim.Native.Nat.{ℕ, _+_, _-_, _≤_, _<_}
+use native.Mathlib.Nat.{le-refl}
+use native.Mathlib.Numerals.{add-one}
+use native.Mathlib.Omega.{arith}
+use mathlib.Core.Path.{_≡_, refl, sym, ap, _∙_}
+use mathlib.Core.Bool.{Bool, true, false}
+use mathlib.Core.List.{List, [], _∷_, map}
+use lib.ListN.{length, getD, take, drop, set, length-drop, take-append-drop, drop-of-length-le}
+use lib.Seq.{take-suc, take-all, drop-cons}
+use Rattle.layout.specs.Lists.{all, sum, written}
+use Rattle.layout.proofs.Keeps.{map-append}
+use Rattle.layout.proofs.Starts.{sum-append}
+
+module _ {A : Type 0} (p : A → Bool) where
+  pub all-step : (xs : List A) (i : ℕ) (d : A) → i < length xs → p (getD xs i d) ≡ true → all p (drop i xs) ≡ all p (drop (i + 1) xs)
+  all-step xs i d h e = rw (add-one, drop-cons xs i d h, e)
+
+  pub all-fails : (xs : List A) (i : ℕ) (d : A) → i < length xs → p (getD xs i d) ≡ false → all p (drop i xs) ≡ false
+  all-fails xs i d h e = rw (drop-cons xs i d h, e)
+
+  pub all-done : (xs : List A) (i : ℕ) → length xs ≤ i → all p (drop i xs) ≡ true
+  all-done xs i h = rw (drop-of-length-le xs h)
+
+module _ {A : Type 0} (f : A → ℕ) where
+  pub total-more : (xs : List A) (i : ℕ) (d : A) → i < length xs → sum (map f (take (i + 1) xs)) ≡ sum (map f (take i xs)) + f (getD xs i d)
+  total-more xs i d h =
+      rw (add-one, take-suc xs i d h, map-append f (take i xs) (getD xs i d ∷ []), sum-append (map f (take i xs)) (f (getD xs i d) ∷ [])) (omega arith)
+
+  pub total-done : (xs : List A) (i : ℕ) → length xs ≤ i → sum (map f (take i xs)) ≡ sum (map f xs)
+  total-done xs i h = rw (take-all i xs h)
+
+  pub total-le : (xs : List A) (i : ℕ) → sum (map f (take i xs)) ≤ sum (map f xs)
+  total-le xs i =
+      omega (arith, sym (ap (λ (l : List A). sum (map f l)) (take-append-drop i xs)) ∙ ap sum (map-append f (take i xs) (drop i xs)) ∙ sum-append (map f (take i xs)) (map f (drop i xs)))
+
+-- what is left of a list from a place on, as a slice has it
+pub length-left : {A : Type 0} (xs : List A) (a : ℕ) → length (take (length xs - a) (drop a xs)) ≡ length xs - a
+length-left xs a = rw (take-all (length xs - a) (drop a xs) (rw length-drop (le-refl (length xs - a)))) (length-drop a xs)
+
+pub set-three : {A : Type 0} (old : List A) (a b c : A) → 3 ≤ length old → set (set (set old 0 a) 1 b) 2 c ≡ written (a ∷ b ∷ c ∷ []) old
+set-three [] a b c h = absurd (omega arith)
+set-three (x ∷ []) a b c h = absurd (omega arith)
+set-three (x ∷ y ∷ []) a b c h = absurd (omega arith)
+set-three (x ∷ y ∷ z ∷ old) a b c h = refl

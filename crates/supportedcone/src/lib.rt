@@ -1,0 +1,314 @@
+ghost use mathlib.Core.Path.{_≡_};
+ghost use mathlib.Core.Bool.{true, cond};
+ghost use Prim.Native.Nat.{_≤_};
+ghost use lib.ListN.{length};
+ghost use Rattle.layout.specs.Lists.{all, written};
+ghost use Rattle.layout.specs.Cones.{records, reads, rowCount, alphaCount};
+ghost use Rattle.layout.specs.Compact.{coneWords};
+ghost use Rattle.layout.specs.Checks.{sizesBounded, conesBounded, conesRead, alphasAsMany};
+ghost use Rattle.supportedcone.specs.Cases.{coneRecord, recordOf, told, readsAs, readsWith, recordAt};
+ghost use Rattle.supportedcone.specs.Ranges.{firstRows, rowTotal, isPsdOf};
+
+// A cone by value: its dimension, or its exponent, or its two counts. GenPower has its count of α first; the α stay in their table.
+pub enum SupportedCone {
+    ZeroConeT(u32),
+    NonnegativeConeT(u32),
+    SecondOrderConeT(u32),
+    ExponentialConeT,
+    PowerConeT(f64),
+    GenPowerConeT(u32, u32),
+    PSDTriangleConeT(u32),
+}
+
+// What a record reads as.
+pub enum ReadCone {
+    Is(SupportedCone),
+    Bad,
+}
+
+impl SupportedCone {
+    // the kinds' codes
+    pub const ZERO: u32 = 0;
+
+    pub const NONNEGATIVE: u32 = 1;
+
+    pub const SECOND_ORDER: u32 = 2;
+
+    pub const EXPONENTIAL: u32 = 3;
+
+    pub const POWER: u32 = 4;
+
+    pub const GEN_POWER: u32 = 5;
+
+    pub const PSD_TRIANGLE: u32 = 6;
+
+    // A record, with the exponent that kind 4 carries. An unused size other than 0 is bad.
+    pub fn read(kind: u32, first: u32, second: u32, alpha: f64) -> ReadCone
+        ensures { λ r. ⌜ told r ≡ readsAs (coneRecord kind first second) alpha ⌝ }
+    {
+        if kind == SupportedCone::GEN_POWER {
+            return ReadCone::Is(SupportedCone::GenPowerConeT(first, second));
+        }
+        if second != 0 {
+            return ReadCone::Bad;
+        }
+        if kind == SupportedCone::ZERO {
+            return ReadCone::Is(SupportedCone::ZeroConeT(first));
+        }
+        if kind == SupportedCone::NONNEGATIVE {
+            return ReadCone::Is(SupportedCone::NonnegativeConeT(first));
+        }
+        if kind == SupportedCone::SECOND_ORDER {
+            return ReadCone::Is(SupportedCone::SecondOrderConeT(first));
+        }
+        if kind == SupportedCone::PSD_TRIANGLE {
+            return ReadCone::Is(SupportedCone::PSDTriangleConeT(first));
+        }
+        if first != 0 {
+            return ReadCone::Bad;
+        }
+        if kind == SupportedCone::EXPONENTIAL {
+            return ReadCone::Is(SupportedCone::ExponentialConeT);
+        }
+        if kind == SupportedCone::POWER {
+            return ReadCone::Is(SupportedCone::PowerConeT(alpha));
+        }
+        ReadCone::Bad
+    }
+
+    // How many rows the cone has.
+    pub fn nvars(self) -> u32
+        requires { ⌜ sizesBounded (recordOf self) ≡ true ⌝ }
+        ensures { λ r. ⌜ r ≡ rowCount (recordOf self) ⌝ }
+    {
+        match self {
+            SupportedCone::ZeroConeT(dim) => dim,
+            SupportedCone::NonnegativeConeT(dim) => dim,
+            SupportedCone::SecondOrderConeT(dim) => dim,
+            SupportedCone::ExponentialConeT => 3,
+            SupportedCone::PowerConeT(_) => 3,
+            SupportedCone::GenPowerConeT(alphas, dim2) => alphas + dim2,
+            SupportedCone::PSDTriangleConeT(dim) => dim * (dim + 1) / 2,
+        }
+    }
+
+    // How many values it takes from the table of α.
+    pub fn alpha_count(self) -> u32
+        ensures { λ r. ⌜ r ≡ alphaCount (recordOf self) ⌝ }
+    {
+        match self {
+            SupportedCone::ZeroConeT(_) => 0,
+            SupportedCone::NonnegativeConeT(_) => 0,
+            SupportedCone::SecondOrderConeT(_) => 0,
+            SupportedCone::ExponentialConeT => 0,
+            SupportedCone::PowerConeT(_) => 1,
+            SupportedCone::GenPowerConeT(alphas, _) => alphas,
+            SupportedCone::PSDTriangleConeT(_) => 0,
+        }
+    }
+
+    // Its kind's code.
+    pub fn as_tag(self) -> u32
+        ensures { λ r. ⌜ r ≡ recordOf self .kind ⌝ }
+    {
+        match self {
+            SupportedCone::ZeroConeT(_) => SupportedCone::ZERO,
+            SupportedCone::NonnegativeConeT(_) => SupportedCone::NONNEGATIVE,
+            SupportedCone::SecondOrderConeT(_) => SupportedCone::SECOND_ORDER,
+            SupportedCone::ExponentialConeT => SupportedCone::EXPONENTIAL,
+            SupportedCone::PowerConeT(_) => SupportedCone::POWER,
+            SupportedCone::GenPowerConeT(_, _) => SupportedCone::GEN_POWER,
+            SupportedCone::PSDTriangleConeT(_) => SupportedCone::PSD_TRIANGLE,
+        }
+    }
+
+    fn first(self) -> u32
+        ensures { λ r. ⌜ r ≡ recordOf self .first ⌝ }
+    {
+        match self {
+            SupportedCone::ZeroConeT(dim) => dim,
+            SupportedCone::NonnegativeConeT(dim) => dim,
+            SupportedCone::SecondOrderConeT(dim) => dim,
+            SupportedCone::ExponentialConeT => 0,
+            SupportedCone::PowerConeT(_) => 0,
+            SupportedCone::GenPowerConeT(alphas, _) => alphas,
+            SupportedCone::PSDTriangleConeT(dim) => dim,
+        }
+    }
+
+    fn second(self) -> u32
+        ensures { λ r. ⌜ r ≡ recordOf self .second ⌝ }
+    {
+        match self {
+            SupportedCone::ZeroConeT(_) => 0,
+            SupportedCone::NonnegativeConeT(_) => 0,
+            SupportedCone::SecondOrderConeT(_) => 0,
+            SupportedCone::ExponentialConeT => 0,
+            SupportedCone::PowerConeT(_) => 0,
+            SupportedCone::GenPowerConeT(_, dim2) => dim2,
+            SupportedCone::PSDTriangleConeT(_) => 0,
+        }
+    }
+
+    // Writes its record. A power cone's exponent is not in it: that stays in the table of α.
+    pub fn write(self, out: &mut [u32])
+        requires { ⌜ 3 ≤ length (now out) ⌝ }
+        ensures { λ _. ⌜ now (out .exit) ≡ written (coneWords (recordOf self)) (now (out .entry)) ⌝ }
+    {
+        out[0] = self.as_tag();
+        out[1] = self.first();
+        out[2] = self.second();
+    }
+}
+
+// How many whole records there are.
+pub fn record_count(cones: &[u32]) -> usize
+    ensures { λ r. ⌜ r ≡ length (records (now (cones .entry))) ⌝ }
+{
+    cones.len() / 3
+}
+
+// Record i, with the exponent that a power cone carries; bad where there is none of that number. A joining is not given the α:
+// kinds and rows do not depend on them, so there any exponent will do.
+pub fn cone_at(cones: &[u32], i: usize, alpha: f64) -> ReadCone
+    ensures { λ r. ⌜ told r ≡ readsAs (recordAt (now (cones .entry)) i) alpha ⌝ }
+{
+    if record_count(cones) <= i {
+        return ReadCone::Bad;
+    }
+    let at = i * 3;
+    SupportedCone::read(cones[at], cones[at + 1], cones[at + 2], alpha)
+}
+
+// Record i, with the next of the α that are left; bad where they are fewer than it takes.
+pub fn read_with_alpha(cones: &[u32], i: usize, alphas: &[f64]) -> ReadCone
+    ensures { λ r. ⌜ told r ≡ readsWith (recordAt (now (cones .entry)) i) (now (alphas .entry)) ⌝ }
+{
+    let mut alpha = 0.0;
+    if 0 < alphas.len() {
+        alpha = alphas[0];
+    }
+    let ReadCone::Is(cone) = cone_at(cones, i, alpha) else {
+        return ReadCone::Bad;
+    };
+    if alphas.len() < cone.alpha_count() as usize {
+        return ReadCone::Bad;
+    }
+    ReadCone::Is(cone)
+}
+
+// Check 1 of one record, of whatever kind.
+fn sizes_bounded(kind: u32, first: u32, second: u32) -> bool
+    ensures { λ r. ⌜ r ≡ sizesBounded (coneRecord kind first second) ⌝ }
+{
+    if 65536 < first {
+        return false;
+    }
+    if 65536 < second {
+        return false;
+    }
+    kind != SupportedCone::PSD_TRIANGLE || first <= 256
+}
+
+// Check 1 of the cones: at most 1,024 whole records, and their sizes. A part record at the end is passed over.
+pub fn cones_bounded(cones: &[u32]) -> bool
+    ensures { λ r. ⌜ r ≡ conesBounded (now (cones .entry)) ⌝ }
+{
+    let count = record_count(cones);
+    if 1024 < count {
+        return false;
+    }
+    let mut i = 0;
+    while i < count {
+        let at = i * 3;
+        if !sizes_bounded(cones[at], cones[at + 1], cones[at + 2]) {
+            return false;
+        }
+        i += 1;
+    }
+    true
+}
+
+// Check 4 of the records, 4 or 0: each reads as one of the seven kinds, none is a part, and their rows are m.
+pub fn check_cones(m: u32, cones: &[u32]) -> u32
+    requires { ⌜ conesBounded (now cones) ≡ true ⌝ }
+    ensures { λ r. ⌜ r ≡ cond (conesRead m (now (cones .entry))) 0 4 ⌝ }
+{
+    let count = record_count(cones);
+    if count * 3 != cones.len() {
+        return 4;
+    }
+    let mut rows = 0;
+    let mut i = 0;
+    while i < count {
+        let ReadCone::Is(cone) = cone_at(cones, i, 0.0) else {
+            return 4;
+        };
+        rows += cone.nvars();
+        i += 1;
+    }
+    if rows != m {
+        return 4;
+    }
+    0
+}
+
+// The table of α has as many values as the cones take.
+pub fn alphas_as_many(cones: &[u32], alphas: &[f64]) -> bool
+    requires { ⌜ all reads (records (now cones)) ≡ true ⌝ }
+    ensures { λ r. ⌜ r ≡ alphasAsMany (now (cones .entry)) (now (alphas .entry)) ⌝ }
+{
+    let count = record_count(cones);
+    let mut next = 0;
+    let mut i = 0;
+    while i < count {
+        let ReadCone::Is(cone) = read_with_alpha(cones, i, &alphas[next..]) else {
+            return false;
+        };
+        next += cone.alpha_count() as usize;
+        i += 1;
+    }
+    next == alphas.len()
+}
+
+// The rows of cone i, and none where there is no such cone.
+pub fn cone_rows(cones: &[u32], i: usize) -> u32
+    requires { ⌜ conesBounded (now cones) ≡ true ⌝ }
+    requires { ⌜ all reads (records (now cones)) ≡ true ⌝ }
+    ensures { λ r. ⌜ r ≡ rowCount (recordAt (now (cones .entry)) i) ⌝ }
+{
+    let ReadCone::Is(cone) = cone_at(cones, i, 0.0) else {
+        return 0;
+    };
+    cone.nvars()
+}
+
+// Writes the first row of each cone; answers how many rows there are in all, where the last range ends.
+pub fn rng_cones(cones: &[u32], out: &mut [u32]) -> u32
+    requires { ⌜ conesBounded (now cones) ≡ true ⌝ }
+    requires { ⌜ all reads (records (now cones)) ≡ true ⌝ }
+    requires { ⌜ length (records (now cones)) ≤ length (now out) ⌝ }
+    ensures { λ r. ⌜ r ≡ rowTotal (records (now (cones .entry))) ⌝ }
+    ensures { λ _. ⌜ now (out .exit) ≡ written (firstRows 0 (records (now (cones .entry)))) (now (out .entry)) ⌝ }
+{
+    let count = record_count(cones);
+    let mut row = 0;
+    let mut i = 0;
+    while i < count {
+        out[i] = row;
+        row += cone_rows(cones, i);
+        i += 1;
+    }
+    row
+}
+
+// Cone i is there, and is a PSD cone of dimension v.
+pub fn is_psd_of(cones: &[u32], i: usize, v: usize) -> bool
+    ensures { λ r. ⌜ r ≡ isPsdOf (now (cones .entry)) i v ⌝ }
+{
+    if record_count(cones) <= i {
+        return false;
+    }
+    let at = i * 3;
+    cones[at] == SupportedCone::PSD_TRIANGLE && cones[at + 1] as usize == v
+}
