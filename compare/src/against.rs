@@ -1,0 +1,202 @@
+//! The plain reading against clarabel's own files, on one problem and one solution.
+
+use crate::expected::{self, JoinInput};
+use crate::problem::*;
+use crate::report::*;
+use reference::door::{Prepared, Tables, Vars};
+
+pub fn tables(p: &Problem) -> Tables<'_> {
+    Tables {
+        n: p.n,
+        m: p.m,
+        p_starts: &p.p.starts,
+        p_rows: &p.p.rows,
+        p_values: &p.p.values,
+        q: &p.q,
+        a_starts: &p.a.starts,
+        a_rows: &p.a.rows,
+        a_values: &p.a.values,
+        b: &p.b,
+        cones: &p.cones,
+        alphas: &p.alphas,
+        pattern_count: p.pattern_count,
+        pattern_words: &p.pattern_words,
+    }
+}
+
+pub fn join_input<'a>(p: &'a Problem, solution: &'a Solution) -> JoinInput<'a> {
+    JoinInput {
+        n: p.n,
+        m: p.m,
+        cones: &p.cones,
+        pattern_count: p.pattern_count,
+        pattern_words: &p.pattern_words,
+        solution,
+    }
+}
+
+fn narrow(xs: &[usize]) -> Option<Vec<u32>> {
+    xs.iter().map(|&x| u32::try_from(x).ok()).collect()
+}
+
+/// The reference's cut in this program's types; none where it holds a row that was never set.
+pub fn narrowed(cut: &reference::door::Cut) -> Option<Cut> {
+    let columns = |c: &reference::door::Columns| {
+        Some(Columns { starts: narrow(&c.starts)?, rows: narrow(&c.rows)?, values: c.values.clone() })
+    };
+    Some(Cut {
+        p: columns(&cut.p)?,
+        q: cut.q.clone(),
+        a: columns(&cut.a)?,
+        b: cut.b.clone(),
+        cones: cut.cones.clone(),
+        alphas: cut.alphas.clone(),
+        map: cut
+            .map
+            .iter()
+            .flatten()
+            .flat_map(|(orig, block)| match block {
+                None => [*orig as u32, NONE, 0],
+                Some((pattern, clique)) => [*orig as u32, *pattern as u32, *clique as u32],
+            })
+            .collect(),
+    })
+}
+
+/// The first output in which two cuts differ. What is copied keeps its bits, NaNs included.
+pub fn cut_difference(a: &Cut, b: &Cut) -> Option<&'static str> {
+    let tests = [
+        ("P starts", a.p.starts == b.p.starts),
+        ("P rows", a.p.rows == b.p.rows),
+        ("P values", all_bits(&a.p.values, &b.p.values)),
+        ("q", all_bits(&a.q, &b.q)),
+        ("A starts", a.a.starts == b.a.starts),
+        ("A rows", a.a.rows == b.a.rows),
+        ("A values", all_bits(&a.a.values, &b.a.values)),
+        ("b", all_bits(&a.b, &b.b)),
+        ("cones", a.cones == b.cones),
+        ("alphas", all_bits(&a.alphas, &b.alphas)),
+        ("map", a.map == b.map),
+    ];
+    tests.iter().find(|t| !t.1).map(|t| t.0)
+}
+
+pub fn join_difference(a: &Joined, b: &Joined) -> Option<&'static str> {
+    let tests = [
+        ("x", all_bits(&a.x, &b.x)),
+        ("s", all_same(&a.s, &b.s)),
+        ("z", all_same(&a.z, &b.z)),
+        ("tau", same(a.tau, b.tau)),
+        ("kappa", same(a.kappa, b.kappa)),
+    ];
+    tests.iter().find(|t| !t.1).map(|t| t.0)
+}
+
+/// Compares the cut and, with a solution, the joining, where document 01 accepts. A refused problem only counts
+/// what clarabel does with it.
+pub fn compare(report: &mut Report, route: Route, p: &Problem, solution: Option<&Solution>, storage: usize) {
+    let r = route.name();
+    let expected = match expected::cut(route, p, None) {
+        Ok(cut) => cut,
+        Err(number) => {
+            report.count(format!("{r}: refused {number:>2}"));
+            return;
+        }
+    };
+    let prepared = Prepared::new(&tables(p), storage);
+    let made = prepared.and_then(|mut prepared| prepared.cut(route == Route::Compact).map(|raw| (prepared, raw)));
+    let (prepared, raw) = match made {
+        Ok(made) => made,
+        Err(message) => {
+            // the one panic that document 01 knows: no entries and no overlaps
+            let known = route == Route::Compact && p.a.values.is_empty() && expected.a.values.is_empty();
+            if known {
+                report.count(format!("{r}: accepted, clarabel panics (no entries, no overlaps)"));
+            } else {
+                report.fail(format!("{r}: clarabel panics on an accepted problem"), p.weight(), || {
+                    format!("{message}\n{}", problem_text(p))
+                });
+            }
+            return;
+        }
+    };
+    let plain = prepared.plain(&raw);
+    let difference = match narrowed(&plain) {
+        None => Some("a row that was never set"),
+        Some(cut) => cut_difference(&expected, &cut),
+    };
+    match difference {
+        None => report.count(format!("{r}: cut equal to clarabel's")),
+        Some(what) => report.fail(format!("{r}: cut differs in {what}"), p.weight(), || {
+            format!("{}\n expected {expected:?}\n clarabel {plain:?}", problem_text(p))
+        }),
+    }
+    let Some(solution) = solution else { return };
+    let vars = Vars::new(&solution.x, &solution.s, &solution.z, solution.tau, solution.kappa);
+    let theirs = prepared.join(route == Route::Compact, &raw, &vars);
+    let ours = expected::join(route, &join_input(p, solution), None);
+    match (ours, theirs) {
+        (Ok(ours), Ok(t)) => {
+            let theirs = Joined { x: t.x, s: t.s, z: t.z, tau: t.tau, kappa: t.kappa };
+            match join_difference(&ours, &theirs) {
+                None => report.count(format!("{r}: joining equal to clarabel's")),
+                Some(what) => report.fail(format!("{r}: joining differs in {what}"), p.weight(), || {
+                    format!(
+                        "{}\n{}\n expected {ours:?}\n clarabel {theirs:?}",
+                        problem_text(p),
+                        solution_text(solution)
+                    )
+                }),
+            }
+        }
+        (ours, theirs) => report.fail(
+            format!("{r}: joining of an accepted problem: expected {:?}, clarabel {:?}", ours.err(), theirs.err()),
+            p.weight(),
+            || format!("{}\n{}", problem_text(p), solution_text(solution)),
+        ),
+    }
+}
+
+/// The small calls against clarabel's functions, where document 01 accepts.
+pub fn compare_small(report: &mut Report, words: &[u32], permutation: &[u32]) {
+    if let Ok(ours) = expected::renumber(words, words.len()) {
+        match reference::door::renumber(words) {
+            Ok(theirs) if theirs == ours => report.count("renumbering equal to clarabel's"),
+            theirs => report.fail("renumbering differs", words.len(), || {
+                format!("  {words:?}\n expected {ours:?}\n clarabel {theirs:?}")
+            }),
+        }
+    }
+    if let Ok(ours) = expected::inverse(permutation, permutation.len()) {
+        match reference::door::inverse(permutation).map(|v| narrow(&v)) {
+            Ok(Some(theirs)) if theirs == ours => report.count("inverse equal to clarabel's"),
+            theirs => report.fail("inverse differs", permutation.len(), || {
+                format!("  {permutation:?}\n expected {ours:?}\n clarabel {theirs:?}")
+            }),
+        }
+    }
+}
+
+/// All pairs and all indices.
+pub fn compare_pairs(report: &mut Report) {
+    for i in 0..256u32 {
+        for j in 0..256u32 {
+            let ours = expected::pair_index(i, j, 1).unwrap();
+            let theirs = reference::door::pair_index(i as usize, j as usize);
+            if theirs == Ok(ours as usize) {
+                report.count("pair index equal to clarabel's");
+            } else {
+                report.fail("pair index differs", (i + j) as usize, || format!("  ({i}, {j})"));
+            }
+        }
+    }
+    for index in 0..32_896u32 {
+        let (row, column) = expected::pair_back(index, 2).unwrap();
+        let theirs = reference::door::pair_back(index as usize);
+        if theirs == Ok((row as usize, column as usize)) {
+            report.count("pair back equal to clarabel's");
+        } else {
+            report.fail("pair back differs", index as usize, || format!("  {index}"));
+        }
+    }
+}

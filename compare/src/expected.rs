@@ -1,0 +1,826 @@
+//! Document 01 read plainly: what each call answers, refusals included. Written from the document alone, for
+//! clearness and not for speed. An answer is `Ok`, a refusal number is `Err`.
+
+use crate::problem::*;
+
+// ---- scalarmath.rs: the packed upper triangle, column by column
+
+pub fn triangle(k: u64) -> u64 {
+    k * (k + 1) / 2
+}
+
+fn index_of(i: u64, j: u64) -> u64 {
+    let (row, column) = (i.min(j), i.max(j));
+    triangle(column) + row
+}
+
+pub fn pair_index(i: u32, j: u32, room: usize) -> Result<u32, u32> {
+    if i > 255 || j > 255 {
+        return Err(1);
+    }
+    if room < 1 {
+        return Err(11);
+    }
+    Ok(index_of(i as u64, j as u64) as u32)
+}
+
+pub fn pair_back(index: u32, room: usize) -> Result<(u32, u32), u32> {
+    if index > 32_895 {
+        return Err(1);
+    }
+    if room < 2 {
+        return Err(11);
+    }
+    let column = (0..256).take_while(|&j| triangle(j) <= index as u64).last().unwrap();
+    Ok(((index as u64 - triangle(column)) as u32, column as u32))
+}
+
+// ---- utils.rs
+
+// each number below the length exactly once
+fn is_permutation(p: &[u32]) -> bool {
+    let mut seen = vec![false; p.len()];
+    p.iter().all(|&x| {
+        let fresh = (x as usize) < p.len() && !seen[x as usize];
+        if fresh {
+            seen[x as usize] = true;
+        }
+        fresh
+    })
+}
+
+pub fn inverse(p: &[u32], room: usize) -> Result<Vec<u32>, u32> {
+    if !is_permutation(p) {
+        return Err(5);
+    }
+    if room < p.len() {
+        return Err(11);
+    }
+    let mut out = vec![0; p.len()];
+    for (place, &x) in p.iter().enumerate() {
+        out[x as usize] = place as u32;
+    }
+    Ok(out)
+}
+
+// ---- cone records
+
+#[derive(Clone, Copy, Debug)]
+pub struct Cone {
+    pub kind: u32,
+    pub first: u32,
+    pub second: u32,
+}
+
+impl Cone {
+    fn reads(&self) -> bool {
+        match self.kind {
+            0..=2 | 6 => self.second == 0,
+            3 | 4 => self.first == 0 && self.second == 0,
+            5 => true,
+            _ => false,
+        }
+    }
+    pub fn rows(&self) -> u64 {
+        match self.kind {
+            0..=2 => self.first as u64,
+            3 | 4 => 3,
+            5 => self.first as u64 + self.second as u64,
+            _ => triangle(self.first as u64),
+        }
+    }
+    fn alphas(&self) -> u64 {
+        match self.kind {
+            4 => 1,
+            5 => self.first as u64,
+            _ => 0,
+        }
+    }
+}
+
+// the whole records; a part record at the end is passed over
+pub fn records(words: &[u32]) -> Vec<Cone> {
+    words.chunks_exact(3).map(|w| Cone { kind: w[0], first: w[1], second: w[2] }).collect()
+}
+
+// ---- patterns
+
+#[derive(Clone, Debug)]
+pub struct Clique {
+    pub parent: u32,
+    pub snode: Vec<u32>,
+    pub separator: Vec<u32>,
+}
+
+impl Clique {
+    fn members(&self) -> impl Iterator<Item = u32> + '_ {
+        self.snode.iter().chain(&self.separator).copied()
+    }
+    pub fn size(&self) -> u64 {
+        (self.snode.len() + self.separator.len()) as u64
+    }
+}
+
+#[derive(Clone, Debug)]
+pub struct Pattern {
+    pub orig_index: u32,
+    pub vertices: u32,
+    pub ordering: Vec<u32>,
+    pub cliques: Vec<Clique>,
+}
+
+impl Pattern {
+    // a clique's original vertices, sorted
+    pub fn block(&self, c: usize) -> Vec<u32> {
+        let mut vs: Vec<u32> = self.cliques[c].members().map(|v| self.ordering[v as usize]).collect();
+        vs.sort();
+        vs
+    }
+
+    pub fn words(&self) -> Vec<u32> {
+        let mut w = vec![self.orig_index, self.vertices, self.cliques.len() as u32];
+        w.extend(&self.ordering);
+        for c in &self.cliques {
+            w.extend([c.parent, c.snode.len() as u32, c.separator.len() as u32]);
+            w.extend(c.members());
+        }
+        w
+    }
+}
+
+// the next `count` words, or none if they end early
+fn taken(words: &mut &[u32], count: u32) -> Option<Vec<u32>> {
+    if words.len() < count as usize {
+        return None;
+    }
+    let (first, rest) = words.split_at(count as usize);
+    *words = rest;
+    Some(first.to_vec())
+}
+
+fn read_pattern(words: &mut &[u32]) -> Option<Pattern> {
+    let head = taken(words, 3)?;
+    let ordering = taken(words, head[1])?;
+    let mut cliques = vec![];
+    for _ in 0..head[2] {
+        let counts = taken(words, 3)?;
+        let snode = taken(words, counts[1])?;
+        let separator = taken(words, counts[2])?;
+        cliques.push(Clique { parent: counts[0], snode, separator });
+    }
+    Some(Pattern { orig_index: head[0], vertices: head[1], ordering, cliques })
+}
+
+/// The patterns, if the words end neither early nor late.
+pub fn read_patterns(count: u32, words: &[u32]) -> Option<Vec<Pattern>> {
+    let mut rest = words;
+    let mut out = vec![];
+    for _ in 0..count {
+        out.push(read_pattern(&mut rest)?);
+    }
+    rest.is_empty().then_some(out)
+}
+
+// ---- checks 1 to 7
+
+fn bounded(n: u32, m: u32, cones: &[u32]) -> bool {
+    let cones = records(cones);
+    n <= 65_536
+        && m <= 65_536
+        && cones.len() <= 1_024
+        && cones.iter().all(|c| c.first <= 65_536 && c.second <= 65_536 && !(c.kind == 6 && c.first > 256))
+}
+
+fn starts_right(n: u32, c: &Columns) -> bool {
+    c.starts.len() as u64 == n as u64 + 1
+        && c.starts[0] == 0
+        && c.starts.windows(2).all(|w| w[0] <= w[1])
+        && *c.starts.last().unwrap() as usize == c.values.len()
+        && c.rows.len() == c.values.len()
+}
+
+fn rows_right(m: u32, c: &Columns) -> bool {
+    c.starts.windows(2).all(|w| {
+        let rows = &c.rows[w[0] as usize..w[1] as usize];
+        rows.iter().all(|&r| r < m) && rows.windows(2).all(|r| r[0] < r[1])
+    })
+}
+
+fn cones_read(m: u32, words: &[u32]) -> bool {
+    words.len() % 3 == 0
+        && records(words).iter().all(Cone::reads)
+        && records(words).iter().map(Cone::rows).sum::<u64>() == m as u64
+}
+
+fn check5(cones: &[u32], count: u32, words: &[u32]) -> Result<Vec<Pattern>, u32> {
+    let cones = records(cones);
+    let patterns = read_patterns(count, words).ok_or(5u32)?;
+    let rise = patterns.windows(2).all(|w| w[0].orig_index < w[1].orig_index);
+    let fit = patterns.iter().all(|p| {
+        cones.get(p.orig_index as usize).is_some_and(|c| c.kind == 6 && c.first == p.vertices)
+            && is_permutation(&p.ordering)
+    });
+    if rise && fit {
+        Ok(patterns)
+    } else {
+        Err(5)
+    }
+}
+
+fn check6(p: &Pattern) -> bool {
+    let count = p.cliques.len();
+    count > 0
+        && p.cliques.iter().enumerate().all(|(c, q)| {
+            if c + 1 == count {
+                q.parent == NONE && q.separator.is_empty()
+            } else {
+                (q.parent as usize) > c && (q.parent as usize) < count
+            }
+        })
+}
+
+fn check7(p: &Pattern) -> bool {
+    let vertices: Vec<u32> = p.cliques.iter().flat_map(|c| c.snode.clone()).collect();
+    p.cliques.iter().all(|c| !c.snode.is_empty())
+        && vertices.len() == p.vertices as usize
+        && is_permutation(&vertices)
+        && p.cliques.iter().all(|c| {
+            let mut sorted = c.separator.clone();
+            sorted.sort();
+            let repeats = sorted.windows(2).any(|w| w[0] == w[1]);
+            // the last clique has no separator, so each that asks has a parent
+            !repeats
+                && (c.separator.is_empty() || {
+                    let mut held: Vec<u32> = p.cliques[c.parent as usize].members().collect();
+                    held.sort();
+                    c.separator.iter().all(|v| held.binary_search(v).is_ok())
+                })
+        })
+}
+
+fn checks6and7(patterns: &[Pattern]) -> Result<(), u32> {
+    if !patterns.iter().all(check6) {
+        return Err(6);
+    }
+    if !patterns.iter().all(check7) {
+        return Err(7);
+    }
+    Ok(())
+}
+
+// checks 1 to 7 of a whole problem
+fn first_seven(p: &Problem) -> Result<Layout, u32> {
+    if !bounded(p.n, p.m, &p.cones) || p.a.values.len() > 262_144 || p.p.values.len() > 262_144 {
+        return Err(1);
+    }
+    if !starts_right(p.n, &p.a) || !starts_right(p.n, &p.p) {
+        return Err(2);
+    }
+    if !rows_right(p.m, &p.a) || !rows_right(p.n, &p.p) {
+        return Err(3);
+    }
+    let alphas: u64 = records(&p.cones).iter().map(Cone::alphas).sum();
+    if !cones_read(p.m, &p.cones)
+        || alphas != p.alphas.len() as u64
+        || p.q.len() != p.n as usize
+        || p.b.len() != p.m as usize
+    {
+        return Err(4);
+    }
+    let patterns = check5(&p.cones, p.pattern_count, &p.pattern_words)?;
+    checks6and7(&patterns)?;
+    Ok(Layout::new(&p.cones, patterns))
+}
+
+// ---- the layout
+
+/// A cone in order: its first original row, and its pattern if it is decomposed.
+struct Part {
+    cone: Cone,
+    first_row: u64,
+    pattern: Option<usize>,
+}
+
+/// Cones and patterns that have passed checks 1 to 7.
+pub struct Layout {
+    parts: Vec<Part>,
+    patterns: Vec<Pattern>,
+}
+
+/// One augmented row of the compact route.
+#[derive(Clone, Copy)]
+enum Row {
+    Kept(usize),
+    Owned(usize),
+    /// the original row, and the row of the same pair in the parent's block
+    Overlap(usize, usize),
+}
+
+impl Row {
+    fn original(self) -> usize {
+        match self {
+            Row::Kept(o) | Row::Owned(o) | Row::Overlap(o, _) => o,
+        }
+    }
+}
+
+impl Layout {
+    fn new(cones: &[u32], patterns: Vec<Pattern>) -> Layout {
+        let mut first_row = 0;
+        let parts = records(cones)
+            .into_iter()
+            .enumerate()
+            .map(|(i, cone)| {
+                let part = Part { cone, first_row, pattern: patterns.iter().position(|p| p.orig_index as usize == i) };
+                first_row += cone.rows();
+                part
+            })
+            .collect();
+        Layout { parts, patterns }
+    }
+
+    /// Rows of all blocks and undecomposed cones.
+    pub fn block_rows(&self) -> u64 {
+        self.parts
+            .iter()
+            .map(|part| match part.pattern {
+                None => part.cone.rows(),
+                Some(k) => self.patterns[k].cliques.iter().map(|c| triangle(c.size())).sum(),
+            })
+            .sum()
+    }
+
+    /// Entries whose pair lies wholly in the separator.
+    pub fn overlaps(&self) -> u64 {
+        self.patterns.iter().flat_map(|p| &p.cliques).map(|c| triangle(c.separator.len() as u64)).sum()
+    }
+
+    // the original rows of one block, in svec order
+    fn block_originals(first_row: u64, block: &[u32]) -> Vec<usize> {
+        let mut out = vec![];
+        for (j, &column) in block.iter().enumerate() {
+            for &row in &block[..=j] {
+                out.push((first_row + index_of(row as u64, column as u64)) as usize);
+            }
+        }
+        out
+    }
+
+    // the compact route's rows: cones in order, cliques from last to first
+    fn compact_rows(&self) -> Vec<Row> {
+        let mut rows = vec![];
+        for part in &self.parts {
+            let Some(k) = part.pattern else {
+                rows.extend((0..part.cone.rows()).map(|r| Row::Kept((part.first_row + r) as usize)));
+                continue;
+            };
+            let pattern = &self.patterns[k];
+            let mut block_starts = vec![0; pattern.cliques.len()];
+            for c in (0..pattern.cliques.len()).rev() {
+                block_starts[c] = rows.len();
+                let clique = &pattern.cliques[c];
+                let block = pattern.block(c);
+                let mut separator: Vec<u32> = clique.separator.iter().map(|&v| pattern.ordering[v as usize]).collect();
+                separator.sort();
+                let in_separator: Vec<bool> = block.iter().map(|v| separator.binary_search(v).is_ok()).collect();
+                // place of each separator vertex in the parent's block
+                let parent_places: Vec<u64> = if separator.is_empty() {
+                    vec![0; block.len()]
+                } else {
+                    let parent = pattern.block(clique.parent as usize);
+                    block.iter().map(|v| parent.binary_search(v).unwrap_or(0) as u64).collect()
+                };
+                let originals = Self::block_originals(part.first_row, &block);
+                let mut place = 0;
+                for j in 0..block.len() {
+                    for i in 0..=j {
+                        let original = originals[place];
+                        place += 1;
+                        rows.push(if in_separator[i] && in_separator[j] {
+                            let at = index_of(parent_places[i], parent_places[j]) as usize;
+                            Row::Overlap(original, block_starts[clique.parent as usize] + at)
+                        } else {
+                            Row::Owned(original)
+                        });
+                    }
+                }
+            }
+        }
+        rows
+    }
+
+    // the rows of H's ones: cones in order, cliques from first to last
+    fn standard_rows(&self) -> Vec<usize> {
+        let mut rows = vec![];
+        for part in &self.parts {
+            match part.pattern {
+                None => rows.extend((0..part.cone.rows()).map(|r| (part.first_row + r) as usize)),
+                Some(k) => {
+                    let pattern = &self.patterns[k];
+                    for c in 0..pattern.cliques.len() {
+                        rows.extend(Self::block_originals(part.first_row, &pattern.block(c)));
+                    }
+                }
+            }
+        }
+        rows
+    }
+
+    // rows of decomposed cones that no clique covers
+    pub fn uncovered(&self) -> Vec<usize> {
+        let mut out = vec![];
+        for part in &self.parts {
+            if let Some(k) = part.pattern {
+                let mut covered = vec![false; part.cone.rows() as usize];
+                for c in 0..self.patterns[k].cliques.len() {
+                    for r in Self::block_originals(0, &self.patterns[k].block(c)) {
+                        covered[r] = true;
+                    }
+                }
+                let open = (0..covered.len()).filter(|&r| !covered[r]);
+                out.extend(open.map(|r| part.first_row as usize + r));
+            }
+        }
+        out
+    }
+
+    fn map(&self, route: Route) -> Vec<u32> {
+        let mut out = vec![];
+        if route == Route::Standard {
+            return out;
+        }
+        for (i, part) in self.parts.iter().enumerate() {
+            match part.pattern {
+                None => out.extend([i as u32, NONE, 0]),
+                Some(k) => {
+                    for c in (0..self.patterns[k].cliques.len()).rev() {
+                        out.extend([i as u32, k as u32, c as u32]);
+                    }
+                }
+            }
+        }
+        out
+    }
+
+    fn cones(&self, route: Route, m: u32) -> Vec<u32> {
+        let mut out = vec![];
+        if route == Route::Standard {
+            out.extend([0, m, 0]);
+        }
+        for part in &self.parts {
+            match part.pattern {
+                None => out.extend([part.cone.kind, part.cone.first, part.cone.second]),
+                Some(k) => {
+                    let mut sizes: Vec<u32> = self.patterns[k].cliques.iter().map(|c| c.size() as u32).collect();
+                    if route == Route::Compact {
+                        sizes.reverse();
+                    }
+                    sizes.iter().for_each(|&s| out.extend([6, s, 0]));
+                }
+            }
+        }
+        out
+    }
+
+    fn check10(&self, route: Route, m: u32) -> Result<(), u32> {
+        let right = match route {
+            Route::Standard => m as u64 + self.block_rows() <= 262_144,
+            Route::Compact => self.block_rows() <= 262_144 && self.overlaps() <= 131_072,
+        };
+        right.then_some(()).ok_or(10)
+    }
+
+    // added unknowns and augmented rows
+    fn added(&self, route: Route) -> usize {
+        match route {
+            Route::Standard => self.block_rows() as usize,
+            Route::Compact => self.overlaps() as usize,
+        }
+    }
+    fn augmented_rows(&self, route: Route, m: u32) -> usize {
+        match route {
+            Route::Standard => m as usize + self.block_rows() as usize,
+            Route::Compact => self.block_rows() as usize,
+        }
+    }
+}
+
+// ---- the cut
+
+/// Checks 1 to 10.
+pub fn accepted(route: Route, p: &Problem) -> Result<Layout, u32> {
+    let layout = first_seven(p)?;
+    if route == Route::Compact {
+        if p.n == 0 {
+            return Err(8);
+        }
+        let mut open = vec![false; p.m as usize];
+        layout.uncovered().iter().for_each(|&r| open[r] = true);
+        let stored = p.a.rows.iter().any(|&r| open[r as usize]);
+        let unequal = p.b.iter().enumerate().any(|(r, &v)| open[r] && v != 0.0);
+        if stored || unequal {
+            return Err(9);
+        }
+    }
+    layout.check10(route, p.m)?;
+    Ok(layout)
+}
+
+fn lengths(route: Route, p: &Problem, layout: &Layout) -> [usize; 11] {
+    let added = layout.added(route);
+    let entries = p.a.values.len() + 2 * added;
+    [
+        p.n as usize + added + 1,
+        p.p.rows.len(),
+        p.p.values.len(),
+        p.n as usize + added,
+        p.n as usize + added + 1,
+        entries,
+        entries,
+        layout.augmented_rows(route, p.m),
+        layout.cones(route, p.m).len(),
+        p.alphas.len(),
+        layout.map(route).len(),
+    ]
+}
+
+pub fn sizes(route: Route, p: &Problem, room: usize) -> Result<[usize; 11], u32> {
+    let layout = accepted(route, p)?;
+    if room < 11 {
+        return Err(11);
+    }
+    Ok(lengths(route, p, &layout))
+}
+
+pub fn cut(route: Route, p: &Problem, rooms: Option<&[usize; 11]>) -> Result<Cut, u32> {
+    let layout = accepted(route, p)?;
+    if let Some(rooms) = rooms {
+        let needed = lengths(route, p, &layout);
+        if (0..11).any(|i| rooms[i] < needed[i]) {
+            return Err(11);
+        }
+    }
+    let added = layout.added(route);
+    let mut extended = p.p.clone();
+    let last = *extended.starts.last().unwrap();
+    extended.starts.extend(std::iter::repeat_n(last, added));
+    let mut q = p.q.clone();
+    q.extend(std::iter::repeat_n(0.0, added));
+    let (a, b) = match route {
+        Route::Compact => compact_a_b(p, &layout),
+        Route::Standard => standard_a_b(p, &layout),
+    };
+    Ok(Cut { p: extended, q, a, b, cones: layout.cones(route, p.m), alphas: p.alphas.clone(), map: layout.map(route) })
+}
+
+fn push_column(out: &mut Columns, mut entries: Vec<(usize, f64)>) {
+    entries.sort_by_key(|e| e.0);
+    for (row, value) in entries {
+        out.rows.push(row as u32);
+        out.values.push(value);
+    }
+    out.starts.push(out.values.len() as u32);
+}
+
+fn compact_a_b(p: &Problem, layout: &Layout) -> (Columns, Vec<f64>) {
+    let rows = layout.compact_rows();
+    // where a value in an original row moves to
+    let mut moved = vec![usize::MAX; p.m as usize];
+    for (at, row) in rows.iter().enumerate() {
+        if let Row::Kept(o) | Row::Owned(o) = *row {
+            moved[o] = at;
+        }
+    }
+    let mut a = Columns { starts: vec![0], ..Columns::default() };
+    for w in p.a.starts.windows(2) {
+        let entries = (w[0] as usize..w[1] as usize).map(|k| (moved[p.a.rows[k] as usize], p.a.values[k])).collect();
+        push_column(&mut a, entries);
+    }
+    for (at, row) in rows.iter().enumerate() {
+        if let Row::Overlap(_, parent) = *row {
+            push_column(&mut a, vec![(at, 1.0), (parent, -1.0)]);
+        }
+    }
+    let mut b = vec![0.0; rows.len()];
+    for (o, &v) in p.b.iter().enumerate() {
+        if v != 0.0 {
+            b[moved[o]] = v;
+        }
+    }
+    (a, b)
+}
+
+fn standard_a_b(p: &Problem, layout: &Layout) -> (Columns, Vec<f64>) {
+    let rows = layout.standard_rows();
+    let mut a = p.a.clone();
+    for (at, &o) in rows.iter().enumerate() {
+        push_column(&mut a, vec![(o, 1.0), (p.m as usize + at, -1.0)]);
+    }
+    let mut b = p.b.clone();
+    b.extend(std::iter::repeat_n(0.0, rows.len()));
+    (a, b)
+}
+
+// ---- the joining
+
+pub struct JoinInput<'a> {
+    pub n: u32,
+    pub m: u32,
+    pub cones: &'a [u32],
+    pub pattern_count: u32,
+    pub pattern_words: &'a [u32],
+    pub solution: &'a Solution,
+}
+
+/// `rooms` are those of x, s, z and the two scalars.
+pub fn join(route: Route, j: &JoinInput, rooms: Option<&[usize; 4]>) -> Result<Joined, u32> {
+    if !bounded(j.n, j.m, j.cones) {
+        return Err(1);
+    }
+    if !cones_read(j.m, j.cones) {
+        return Err(4);
+    }
+    let patterns = check5(j.cones, j.pattern_count, j.pattern_words)?;
+    checks6and7(&patterns)?;
+    let layout = Layout::new(j.cones, patterns);
+    if route == Route::Compact && j.n == 0 {
+        return Err(8);
+    }
+    layout.check10(route, j.m)?;
+    let (n, m) = (j.n as usize, j.m as usize);
+    if let Some(rooms) = rooms {
+        if rooms[0] < n || rooms[1] < m || rooms[2] < m || rooms[3] < 2 {
+            return Err(11);
+        }
+    }
+    let sol = j.solution;
+    let rows = layout.augmented_rows(route, j.m);
+    if sol.x.len() != n + layout.added(route) || sol.s.len() != rows || sol.z.len() != rows {
+        return Err(12);
+    }
+    // the standard route has no cone map, so none is compared
+    if route == Route::Compact && sol.map != layout.map(route) {
+        return Err(12);
+    }
+    let mut out = Joined { x: sol.x[..n].to_vec(), s: vec![0.0; m], z: vec![0.0; m], tau: 1.0, kappa: 1.0 };
+    match route {
+        Route::Compact => {
+            for (at, row) in layout.compact_rows().iter().enumerate() {
+                let o = row.original();
+                out.z[o] = sol.z[at];
+                match row {
+                    Row::Kept(_) => out.s[o] = sol.s[at],
+                    _ => out.s[o] += sol.s[at],
+                }
+            }
+        }
+        Route::Standard => {
+            let mut counts = vec![0u32; m];
+            for (at, o) in layout.standard_rows().into_iter().enumerate() {
+                out.s[o] += sol.s[m + at];
+                out.z[o] += sol.z[m + at];
+                counts[o] += 1;
+            }
+            for (z, &count) in out.z.iter_mut().zip(&counts) {
+                if count > 1 {
+                    *z /= count as f64;
+                }
+            }
+        }
+    }
+    Ok(out)
+}
+
+/// The lengths of x and of s and z, and the cone map, that a joining asks for.
+pub fn solution_shape(route: Route, p: &Problem) -> Option<(usize, usize, Vec<u32>)> {
+    if !bounded(p.n, p.m, &p.cones) || !cones_read(p.m, &p.cones) {
+        return None;
+    }
+    let patterns = check5(&p.cones, p.pattern_count, &p.pattern_words).ok()?;
+    checks6and7(&patterns).ok()?;
+    let layout = Layout::new(&p.cones, patterns);
+    Some((p.n as usize + layout.added(route), layout.augmented_rows(route, p.m), layout.map(route)))
+}
+
+// ---- renumbering, and same layout
+
+pub fn renumber(words: &[u32], room: usize) -> Result<Vec<u32>, u32> {
+    let p = read_patterns(1, words).ok_or(5u32)?.remove(0);
+    if !is_permutation(&p.ordering) {
+        return Err(5);
+    }
+    checks6and7(std::slice::from_ref(&p))?;
+    if room < words.len() {
+        return Err(11);
+    }
+    // old numbers by rising clique and, within a snode, rising
+    let mut old = vec![];
+    for c in &p.cliques {
+        let mut snode = c.snode.clone();
+        snode.sort();
+        old.extend(snode);
+    }
+    let mut new = vec![0; old.len()];
+    for (at, &v) in old.iter().enumerate() {
+        new[v as usize] = at as u32;
+    }
+    let mut next = 0;
+    let cliques = p
+        .cliques
+        .iter()
+        .map(|c| {
+            let first = next;
+            next += c.snode.len() as u32;
+            Clique {
+                parent: c.parent,
+                snode: (first..next).collect(),
+                separator: c.separator.iter().map(|&v| new[v as usize]).collect(),
+            }
+        })
+        .collect();
+    let ordering = old.iter().map(|&v| p.ordering[v as usize]).collect();
+    Ok(Pattern { ordering, cliques, ..p }.words())
+}
+
+pub fn same_layout(first: &Problem, second: &Problem, room: usize) -> Result<bool, u32> {
+    first_seven(first)?;
+    first_seven(second)?;
+    if room < 1 {
+        return Err(11);
+    }
+    Ok(first.n == second.n
+        && first.m == second.m
+        && first.cones == second.cones
+        && first.pattern_words == second.pattern_words)
+}
+
+#[cfg(test)]
+mod marked_cases {
+    use super::*;
+
+    fn three_projectors() -> Problem {
+        Problem {
+            n: 1,
+            m: 6,
+            p: Columns { starts: vec![0, 0], ..Columns::default() },
+            q: vec![0.0],
+            a: Columns { starts: vec![0, 5], rows: vec![0, 1, 2, 4, 5], values: vec![10.0, 20.0, 30.0, 40.0, 50.0] },
+            b: vec![1.0, 2.0, 3.0, 0.0, 4.0, 5.0],
+            cones: vec![6, 3, 0],
+            alphas: vec![],
+            pattern_count: 1,
+            pattern_words: vec![0, 3, 2, 0, 1, 2, 1, 1, 1, 0, 1, NONE, 2, 0, 1, 2],
+        }
+    }
+
+    #[test]
+    fn p1_to_p7() {
+        for (pair, index) in [((0, 0), 0), ((0, 1), 1), ((1, 0), 1), ((2, 5), 17), ((255, 255), 32_895)] {
+            assert_eq!(pair_index(pair.0, pair.1, 1), Ok(index));
+        }
+        assert_eq!(pair_index(256, 0, 1), Err(1));
+        assert_eq!(pair_back(0, 2), Ok((0, 0)));
+        assert_eq!(pair_back(3, 2), Ok((0, 2)));
+        assert_eq!(pair_back(32_896, 2), Err(1));
+        let words = [0, 3, 2, 2, 0, 1, 1, 1, 1, 2, 0, NONE, 2, 0, 0, 1];
+        let renumbered = vec![0, 3, 2, 1, 2, 0, 1, 1, 1, 0, 1, NONE, 2, 0, 1, 2];
+        assert_eq!(renumber(&words, 16), Ok(renumbered));
+        assert_eq!(inverse(&[1, 1], 2), Err(5));
+    }
+
+    #[test]
+    fn p8_to_p12() {
+        let mut p = three_projectors();
+        let c = cut(Route::Compact, &p, None).unwrap();
+        assert_eq!(c.a.starts, [0, 5, 7]);
+        assert_eq!(c.a.rows, [0, 1, 2, 3, 4, 0, 5]);
+        assert_eq!(c.a.values, [30.0, 40.0, 50.0, 10.0, 20.0, -1.0, 1.0]);
+        assert_eq!(c.b, [3.0, 4.0, 5.0, 1.0, 2.0, 0.0]);
+        let tail = vec![3.0, 4.0, 5.0, 1.0, 2.0, 7.0];
+        let solution = Solution { x: vec![0.0; 2], s: tail.clone(), z: tail, map: c.map, ..Solution::default() };
+        fn input<'a>(p: &'a Problem, solution: &'a Solution) -> JoinInput<'a> {
+            JoinInput { n: 1, m: 6, cones: &p.cones, pattern_count: 1, pattern_words: &p.pattern_words, solution }
+        }
+        let j = join(Route::Compact, &input(&p, &solution), None).unwrap();
+        assert_eq!(j.s, [1.0, 2.0, 10.0, 0.0, 4.0, 5.0]);
+        assert_eq!(j.z, [1.0, 2.0, 7.0, 0.0, 4.0, 5.0]);
+
+        let c = cut(Route::Standard, &p, None).unwrap();
+        assert_eq!((c.b.len(), c.q.len()), (12, 7));
+        let ones: Vec<u32> = c.a.rows[5..].iter().step_by(2).copied().collect();
+        assert_eq!(ones, [0, 1, 2, 2, 4, 5]);
+        let tail = vec![9.0, 9.0, 9.0, 9.0, 9.0, 9.0, 1.0, 2.0, 7.0, 3.0, 4.0, 5.0];
+        let solution = Solution { x: vec![0.0; 7], s: tail.clone(), z: tail, ..Solution::default() };
+        let j = join(Route::Standard, &input(&p, &solution), None).unwrap();
+        assert_eq!((j.s[2], j.z[2]), (10.0, 5.0));
+
+        p.b[3] = -0.0;
+        assert!(cut(Route::Compact, &p, None).is_ok());
+        p.b[3] = 1.0;
+        assert_eq!(cut(Route::Compact, &p, None).unwrap_err(), 9);
+        p.b[3] = 0.0;
+        p.a = Columns { starts: vec![0, 1], rows: vec![3], values: vec![0.0] };
+        assert_eq!(cut(Route::Compact, &p, None).unwrap_err(), 9);
+        assert!(cut(Route::Standard, &p, None).is_ok());
+    }
+}

@@ -1,0 +1,325 @@
+//! Compares document 01's plain reading (`expected`), clarabel's own files (crate `reference`) and, where
+//! libdoor.a is there, the door.
+
+mod against;
+mod differences;
+mod door;
+mod exhaustive;
+mod expected;
+#[cfg(feature = "mock")]
+mod mock;
+mod problem;
+mod random;
+mod report;
+mod speed;
+mod store;
+mod vectors;
+
+use problem::*;
+use random::{Draws, Scale};
+use report::Report;
+use std::io::Write;
+use std::time::Instant;
+
+const HELP: &str = "compare/run [--cases N] [--seed S] [--routes standard|compact|both]
+    N random problems from seed S (100000, 1), about a third of them damaged, on the routes (both)
+compare/run --case K --seed S      one case again, its problem printed
+compare/run --exhaustive           every clique tree on up to 4 vertices, every ordering
+compare/run --vectors FILE         stored cases (JSON, one a line)
+compare/run --differences          clarabel on the inputs of docs/DIFFERENCES.md
+compare/run --speed                times, with ratios where the door is linked
+compare/run --store FILE --cases N --seed S    writes stored answers
+The door is linked where target/staticlib/libdoor.a or $DOOR_LIB is there.";
+
+/// The draws of one case, which can so be made again alone.
+pub fn case_draws(seed: u64, index: u64) -> Draws {
+    Draws::new(seed.wrapping_mul(0x2545_f491_4f6c_dd1d).wrapping_add(index))
+}
+
+struct Options {
+    cases: u64,
+    seed: u64,
+    routes: Vec<Route>,
+}
+
+// the problem of a case: one in three is damaged, in one to three places
+fn case_problem(d: &mut Draws, scale: Scale) -> Problem {
+    let mut p = random::problem(d, scale);
+    if d.chance(33) {
+        for _ in 0..1 + d.below(3).saturating_sub(d.below(2)) {
+            // check 10 needs large problems, so it is seldom
+            let check = if d.below(2000) == 0 { 10 } else { 1 + d.below(9) };
+            random::damage(d, &mut p, check);
+        }
+    }
+    p
+}
+
+fn damaged_solution(d: &mut Draws, solution: &mut Solution) {
+    match d.below(6) {
+        0 => solution.x.push(0.0),
+        1 => {
+            solution.x.pop();
+        }
+        2 => solution.s.push(0.0),
+        3 => {
+            solution.z.pop();
+        }
+        4 => solution.map.push(0),
+        _ => {
+            if !solution.map.is_empty() {
+                let at = d.below(solution.map.len());
+                solution.map[at] = solution.map[at].wrapping_add(1 + d.below(2) as u32);
+            }
+        }
+    }
+}
+
+fn case(report: &mut Report, o: &Options, index: u64, scale: Scale) {
+    let mut d = case_draws(o.seed, index);
+    let p = case_problem(&mut d, scale);
+    let storage = d.below(4);
+    for &route in &o.routes {
+        let shape = expected::solution_shape(route, &p);
+        let solution = random::solution(&mut d, &shape.clone().unwrap_or_default());
+        against::compare(report, route, &p, shape.is_some().then_some(&solution), storage);
+        if door::LINKED {
+            door::compare_cut(report, &mut d, route, &p);
+            let mut solution = solution;
+            if d.chance(20) {
+                damaged_solution(&mut d, &mut solution);
+            }
+            door::compare_join(report, &mut d, route, &p, &solution);
+        }
+    }
+    // one pattern alone, and a permutation, each damaged now and then
+    let vertices = 1 + d.below(scale.psd);
+    let orig_index = d.next() as u32;
+    let made = random::pattern(&mut d, orig_index, vertices);
+    let mut words = made.words();
+    let length = d.below(9);
+    let mut permutation = d.permutation(length);
+    if d.chance(25) {
+        let mut only = Problem { pattern_count: 1, pattern_words: words, ..Problem::default() };
+        let check = 5 + d.below(3);
+        random::damage(&mut d, &mut only, check);
+        words = only.pattern_words;
+    }
+    if d.chance(25) && !permutation.is_empty() {
+        let at = d.below(permutation.len());
+        permutation[at] = if d.chance(50) { permutation[0] } else { d.next() as u32 };
+    }
+    against::compare_small(report, &words, &permutation);
+    if door::LINKED {
+        door::compare_small(report, &mut d, &words, &permutation);
+        let mut second = p.clone();
+        match d.below(4) {
+            0 => {
+                let check = 1 + d.below(9);
+                random::damage(&mut d, &mut second, check);
+            }
+            1 => second.a.values.iter_mut().for_each(|v| *v = 2.0),
+            2 => second = case_problem(&mut d, scale),
+            _ => {}
+        }
+        door::compare_same_layout(report, &mut d, &p, &second);
+    }
+}
+
+fn random_cases(report: &mut Report, o: &Options) {
+    against::compare_pairs(report);
+    if door::LINKED {
+        door::compare_pairs(report);
+    }
+    for (_, p) in random::at_limits() {
+        let mut d = case_draws(o.seed, u64::MAX);
+        for &route in &o.routes {
+            let shape = expected::solution_shape(route, &p);
+            let solution = random::solution(&mut d, &shape.clone().unwrap_or_default());
+            against::compare(report, route, &p, shape.is_some().then_some(&solution), 0);
+            if door::LINKED {
+                for _ in 0..4 {
+                    door::compare_cut(report, &mut d, route, &p);
+                }
+                door::compare_join(report, &mut d, route, &p, &solution);
+            }
+        }
+    }
+    let started = Instant::now();
+    for index in 0..o.cases {
+        let scale = match index % 20 {
+            0..=5 => random::TINY,
+            19 => random::LARGE,
+            _ => random::SMALL,
+        };
+        case(report, o, index, scale);
+        if index % 4096 == 4095 || index + 1 == o.cases {
+            eprint!(
+                "\r{} of {} cases, {} failed, {:.0} s ",
+                index + 1,
+                o.cases,
+                report.failures(),
+                started.elapsed().as_secs_f64()
+            );
+            let _ = std::io::stderr().flush();
+        }
+    }
+    eprintln!();
+    if report.failed() {
+        eprintln!("looking for smaller ones");
+        for index in 0..100_000u64 {
+            case(report, o, u64::MAX / 2 + index, random::TINY);
+        }
+    }
+}
+
+fn exhaustive_cases(report: &mut Report, o: &Options) {
+    let mut d = case_draws(o.seed, 0);
+    for vertices in 1..=4 {
+        let mut seen = 0u64;
+        exhaustive::patterns(vertices, &mut d, &mut |d, pattern| {
+            seen += 1;
+            let p = exhaustive::problem(d, &pattern);
+            for &route in &o.routes {
+                let shape = expected::solution_shape(route, &p);
+                if shape.is_none() {
+                    report.fail("a clique tree is refused", p.weight(), || report::problem_text(&p));
+                }
+                let solution = random::solution(d, &shape.unwrap_or_default());
+                against::compare(report, route, &p, Some(&solution), seen as usize % 3);
+                if door::LINKED {
+                    door::compare_cut(report, d, route, &p);
+                    door::compare_join(report, d, route, &p, &solution);
+                }
+            }
+            let words = pattern.words();
+            against::compare_small(report, &words, &pattern.ordering);
+            if door::LINKED {
+                door::compare_small(report, d, &words, &pattern.ordering);
+            }
+        });
+        eprintln!("{vertices} vertices: {seen} clique trees with orderings");
+    }
+}
+
+// the comparison runs on a thread of Rust's usual 2 MB, which a call of the door has to fit
+fn main() {
+    let on_thread = std::thread::Builder::new().stack_size(2 << 20).spawn(compare).expect("a thread");
+    std::process::exit(on_thread.join().unwrap_or(101));
+}
+
+fn compare() -> i32 {
+    let mut o = Options { cases: 100_000, seed: 1, routes: vec![Route::Standard, Route::Compact] };
+    let (mut mode, mut file, mut one) = ("random", None, 0);
+    let mut args = std::env::args().skip(1);
+    while let Some(arg) = args.next() {
+        let mut value = || {
+            args.next().unwrap_or_else(|| {
+                eprintln!("{arg} wants a value\n{HELP}");
+                std::process::exit(2)
+            })
+        };
+        match arg.as_str() {
+            "--cases" => o.cases = value().parse().expect("a number of cases"),
+            "--seed" => o.seed = value().parse().expect("a seed"),
+            "--routes" => {
+                o.routes = match value().as_str() {
+                    "standard" => vec![Route::Standard],
+                    "compact" => vec![Route::Compact],
+                    _ => vec![Route::Standard, Route::Compact],
+                }
+            }
+            "--exhaustive" => mode = "exhaustive",
+            "--differences" => mode = "differences",
+            "--speed" => mode = "speed",
+            "--vectors" => (mode, file) = ("vectors", Some(value())),
+            "--store" => (mode, file) = ("store", Some(value())),
+            "--case" => (mode, one) = ("one", value().parse().expect("a case's number")),
+            _ => {
+                eprintln!("{HELP}");
+                std::process::exit(2);
+            }
+        }
+    }
+    let mut report = Report::default();
+    match mode {
+        "differences" => {
+            differences::print();
+            return 0;
+        }
+        "speed" => {
+            speed::print();
+            return 0;
+        }
+        "store" => {
+            let path = file.unwrap();
+            let mut out = std::io::BufWriter::new(std::fs::File::create(&path).expect("a file to write"));
+            store::write(&mut out, o.cases, o.seed).expect("writing");
+            println!("{} cases stored in {path}", o.cases);
+            return 0;
+        }
+        "vectors" => {
+            let text = std::fs::read_to_string(file.unwrap()).expect("a file to read");
+            let mut d = case_draws(o.seed, 0);
+            let read = vectors::compare(&mut report, &text, |report, p| {
+                for route in [Route::Compact, Route::Standard] {
+                    against::compare(report, route, p, None, 0);
+                    if door::LINKED {
+                        door::compare_cut(report, &mut d, route, p);
+                    }
+                }
+            });
+            if let Err(e) = read {
+                eprintln!("{e}");
+                std::process::exit(2);
+            }
+        }
+        "exhaustive" => exhaustive_cases(&mut report, &o),
+        "one" => {
+            for scale in [random::TINY, random::SMALL, random::LARGE] {
+                let mut d = case_draws(o.seed, one);
+                println!("{scale:?}\n{}", report::problem_text(&case_problem(&mut d, scale)));
+                case(&mut report, &o, one, scale);
+            }
+        }
+        _ => random_cases(&mut report, &o),
+    }
+    println!("door: {}", if door::LINKED { "linked" } else { "not linked" });
+    report.print();
+    report.failed() as i32
+}
+
+#[test]
+fn limits() {
+    let refused: Vec<(String, u32, u32)> = random::at_limits()
+        .iter()
+        .map(|(name, p)| {
+            let number = |route| expected::accepted(route, p).err().unwrap_or(0);
+            (name.clone(), number(Route::Standard), number(Route::Compact))
+        })
+        .collect();
+    for (name, standard, compact) in [
+        ("n 65536", 0, 0),
+        ("n 65537", 1, 1),
+        ("m 65536", 0, 0),
+        ("m 65537", 1, 1),
+        ("size 65536", 0, 0),
+        ("size 65537", 1, 1),
+        ("cones 1024", 0, 0),
+        ("cones 1024 and a part", 4, 4),
+        ("cones 1025", 1, 1),
+        ("psd 256", 0, 0),
+        ("psd 257", 1, 1),
+        ("psd second 257", 4, 4),
+        ("entries 262144 of A", 0, 0),
+        ("entries 262145 of A", 1, 1),
+        ("entries 262144 of P", 0, 0),
+        ("entries 262145 of P", 1, 1),
+        ("standard rows 262144, 0 over", 0, 10),
+        ("standard rows 262144, 1 over", 10, 10),
+        ("overlaps 131072, 0 over", 0, 0),
+        ("overlaps 131072, 1 over", 0, 10),
+    ] {
+        assert!(refused.contains(&(name.into(), standard, compact)), "{name} among {refused:?}");
+    }
+}

@@ -1,0 +1,298 @@
+//! Times of each call on the inputs of the design's speed table: clarabel's and, where it is linked, the door's.
+//!
+//! clarabel's time is that of `decomp_augment` and `decomp_reverse` alone, on tables already in its own types; the
+//! door's is the whole call, checks included, with outputs already allocated.
+
+use crate::against::{join_input, tables};
+use crate::door;
+use crate::expected::{self, triangle, Clique, Pattern};
+use crate::problem::*;
+use crate::random::{self, band_pattern, Draws};
+use reference::door::{Prepared, Vars};
+use std::hint::black_box;
+use std::time::Instant;
+
+// the rows that the patterns' cliques cover, and those of undecomposed cones
+fn open_rows(cones: &[u32], patterns: &[Pattern]) -> Vec<u32> {
+    let mut out = vec![];
+    let mut first = 0;
+    for (i, cone) in expected::records(cones).iter().enumerate() {
+        let rows = cone.rows() as usize;
+        let mut covered = vec![true; rows];
+        if let Some(p) = patterns.iter().find(|p| p.orig_index as usize == i) {
+            covered = vec![false; rows];
+            for c in 0..p.cliques.len() {
+                let block = p.block(c);
+                for (j, &column) in block.iter().enumerate() {
+                    for &row in &block[..=j] {
+                        covered[triangle(column as u64) as usize + row as usize] = true;
+                    }
+                }
+            }
+        }
+        out.extend((0..rows).filter(|&r| covered[r]).map(|r| (first + r) as u32));
+        first += rows;
+    }
+    out
+}
+
+// n columns, each with `entries` of the open rows, spread evenly (all of them where that is more)
+fn made(d: &mut Draws, n: usize, entries: usize, cones: Vec<u32>, patterns: Vec<Pattern>) -> Problem {
+    let open = open_rows(&cones, &patterns);
+    let m: u64 = expected::records(&cones).iter().map(|c| c.rows()).sum();
+    let mut a = Columns { starts: vec![0], ..Columns::default() };
+    let entries = entries.min(open.len());
+    for _ in 0..n {
+        let mut rows: Vec<u32> = if entries == open.len() {
+            open.clone()
+        } else {
+            let shift = d.below(open.len());
+            (0..entries).map(|e| open[(shift + e * open.len() / entries) % open.len()]).collect()
+        };
+        rows.sort();
+        rows.dedup();
+        a.rows.extend(rows);
+        a.starts.push(a.rows.len() as u32);
+    }
+    a.values = (0..a.rows.len()).map(|_| d.below(201) as f64 - 100.0).collect();
+    let mut b = vec![0.0; m as usize];
+    for &r in &open {
+        b[r as usize] = d.below(201) as f64 - 100.0;
+    }
+    Problem {
+        n: n as u32,
+        m: m as u32,
+        p: Columns { starts: vec![0; n + 1], ..Columns::default() },
+        q: vec![0.0; n],
+        a,
+        b,
+        cones,
+        alphas: vec![],
+        pattern_count: patterns.len() as u32,
+        pattern_words: patterns.iter().flat_map(|p| p.words()).collect(),
+    }
+}
+
+fn shuffled(d: &mut Draws, mut p: Pattern) -> Pattern {
+    p.ordering = d.permutation(p.vertices as usize);
+    p
+}
+
+// `count` cliques over 256 vertices, each with the same 10 of the root's vertices
+fn star(count: u32) -> Pattern {
+    let leaves = count - 1;
+    let each = (240 / leaves.max(1)).max(1);
+    let mut cliques: Vec<Clique> = (0..leaves)
+        .map(|c| Clique {
+            parent: leaves,
+            snode: (c * each..(c + 1) * each).collect(),
+            separator: (246..256).collect(),
+        })
+        .collect();
+    cliques.push(Clique { parent: NONE, snode: (leaves * each..256).collect(), separator: vec![] });
+    Pattern { orig_index: 0, vertices: 256, ordering: (0..256).collect(), cliques }
+}
+
+fn inputs() -> Vec<(String, Problem)> {
+    let d = &mut Draws::new(11);
+    let mut out: Vec<(String, Problem)> = vec![];
+    let band = shuffled(d, band_pattern(0, 256, 10));
+    let psd = vec![6, 256, 0];
+    out.push((
+        "PSD 256, band 10, n 10,000, one entry a column".into(),
+        made(d, 10_000, 1, psd.clone(), vec![band.clone()]),
+    ));
+    for n in [10, 90] {
+        out.push((format!("PSD 256, band 10, n {n}, dense"), made(d, n, 1 << 20, psd.clone(), vec![band.clone()])));
+    }
+    let seam = Pattern {
+        orig_index: 0,
+        vertices: 3,
+        ordering: vec![0, 1, 2],
+        cliques: vec![
+            Clique { parent: 1, snode: vec![0], separator: vec![1] },
+            Clique { parent: NONE, snode: vec![1, 2], separator: vec![] },
+        ],
+    };
+    out.push(("three projectors".into(), made(d, 1, 8, vec![6, 3, 0], vec![seam])));
+    let small: Vec<Pattern> = (0..500).map(|i| shuffled(d, band_pattern(i, 6, 2))).collect();
+    out.push((
+        "500 cones PSD 6, band 2, n 200, 100 entries a column".into(),
+        made(d, 200, 100, [6, 6, 0].repeat(500), small),
+    ));
+    out.push((
+        "undecomposed, m 65,536, n 1,000, 250 entries a column".into(),
+        made(d, 1_000, 250, vec![1, 65_536, 0], vec![]),
+    ));
+    for n in [2_500, 5_000, 10_000, 20_000, 40_000] {
+        out.push((format!("n doubled: {n}, one entry a column"), made(d, n, 1, psd.clone(), vec![band.clone()])));
+    }
+    for count in [2, 4, 8, 16, 31] {
+        let patterns = (0..count).map(|i| shuffled(d, band_pattern(i, 64, 6))).collect();
+        out.push((
+            format!("m doubled: {} (PSD 64, band 6)", count * 2_080),
+            made(d, 50, 100, [6, 64, 0].repeat(count as usize), patterns),
+        ));
+    }
+    for count in [16, 31, 61, 121, 241] {
+        let p = shuffled(d, star(count));
+        out.push((format!("cliques doubled: {count} of PSD 256"), made(d, 50, 100, psd.clone(), vec![p])));
+    }
+    out
+}
+
+// the thread's own time in microseconds, so that other programs on the machine do not count
+fn now() -> f64 {
+    #[repr(C)]
+    struct Timespec {
+        seconds: i64,
+        nanos: i64,
+    }
+    extern "C" {
+        fn clock_gettime(clock: i32, time: *mut Timespec) -> i32;
+    }
+    const CLOCK_THREAD_CPUTIME_ID: i32 = 3;
+    let mut t = Timespec { seconds: 0, nanos: 0 };
+    let failed = unsafe { clock_gettime(CLOCK_THREAD_CPUTIME_ID, &mut t) };
+    assert_eq!(failed, 0);
+    t.seconds as f64 * 1e6 + t.nanos as f64 / 1e3
+}
+
+// the median of several runs in microseconds a call; short calls are timed many at once
+fn median(mut f: impl FnMut()) -> f64 {
+    let started = now();
+    f();
+    let batch = (200.0 / (now() - started).max(0.01)).clamp(1.0, 1e5) as u32;
+    let mut times = vec![];
+    let all = Instant::now();
+    while times.len() < 5 || (all.elapsed().as_secs_f64() < 0.4 && times.len() < 101) {
+        let started = now();
+        for _ in 0..batch {
+            f();
+        }
+        times.push((now() - started) / batch as f64);
+    }
+    times.sort_by(f64::total_cmp);
+    times[times.len() / 2]
+}
+
+fn shown(micros: Option<f64>) -> String {
+    match micros {
+        None => "-".into(),
+        Some(t) if t < 100.0 => format!("{t:.2} us"),
+        Some(t) if t < 100_000.0 => format!("{:.3} ms", t / 1e3),
+        Some(t) => format!("{:.3} s", t / 1e6),
+    }
+}
+
+fn line(input: &str, call: &str, clarabel: Option<f64>, door: Option<f64>) {
+    let ratio = match (clarabel, door) {
+        (Some(c), Some(d)) if d > 0.0 => format!("{:.2}", c / d),
+        _ => "-".into(),
+    };
+    println!("| {input} | {call} | {} | {} | {ratio} |", shown(clarabel), shown(door));
+}
+
+fn one(name: &str, p: &Problem) {
+    let d = &mut Draws::new(5);
+    for route in [Route::Compact, Route::Standard] {
+        let r = route.name();
+        let lengths = match expected::sizes(route, p, 11) {
+            Ok(lengths) => lengths,
+            Err(number) => {
+                println!("| {name} | {r} | refused {number} | | |");
+                continue;
+            }
+        };
+        let mut prepared = Prepared::new(&tables(p), 0).expect("a problem that clarabel reads");
+        let compact = route == Route::Compact;
+        let raw = prepared.cut(compact).expect("a problem that clarabel cuts");
+        let clarabel = median(|| {
+            black_box(prepared.cut_uncaught(compact));
+        });
+        let mut outputs = door::cut_outputs(&lengths);
+        let mut sizes = [0; 11];
+        let linked = |f: &mut dyn FnMut() -> u32| {
+            door::LINKED.then(|| {
+                assert_eq!(f(), 0, "the door refuses {name}");
+                median(|| {
+                    black_box(f());
+                })
+            })
+        };
+        let door_sizes = linked(&mut || door::sizes(route.code(), p, &mut sizes));
+        let door_cut = linked(&mut || door::cut(route.code(), p, &mut outputs));
+        line(name, &format!("{r} cut"), Some(clarabel), door_cut);
+        if door::LINKED {
+            line(name, &format!("{r} sizes"), None, door_sizes);
+        }
+
+        let shape = expected::solution_shape(route, p).unwrap();
+        let mut solution = random::solution(d, &shape);
+        // ordinary values: NaNs and subnormals have times of their own
+        for v in [&mut solution.x, &mut solution.s, &mut solution.z] {
+            v.iter_mut().for_each(|x| *x = d.below(201) as f64 - 100.0);
+        }
+        let vars = Vars::new(&solution.x, &solution.s, &solution.z, 1.0, 1.0);
+        let clarabel = median(|| {
+            black_box(prepared.join_uncaught(compact, &raw, &vars));
+        });
+        let input = join_input(p, &solution);
+        let mut outputs = door::join_outputs(&[p.n as usize, p.m as usize, p.m as usize, 2]);
+        let door_join = linked(&mut || door::join(route.code(), &input, &mut outputs));
+        line(name, &format!("{r} joining"), Some(clarabel), door_join);
+    }
+    if door::LINKED {
+        let mut out = [0];
+        let time = median(|| {
+            black_box(door::same_layout(p, p, &mut out));
+        });
+        line(name, "same layout", None, Some(time));
+    }
+}
+
+fn small_calls() {
+    let d = &mut Draws::new(7);
+    for length in [1_000, 32_768, 65_536, 131_072, 262_144, 524_288, 1_048_576] {
+        let p = d.permutation(length);
+        let wide: Vec<usize> = p.iter().map(|&x| x as usize).collect();
+        let clarabel = median(|| {
+            black_box(reference::door::inverse_wide(&wide));
+        });
+        let mut out = vec![0; length];
+        let door = door::LINKED.then(|| {
+            median(|| {
+                black_box(door::inverse(&p, &mut out));
+            })
+        });
+        line(&format!("{length} numbers"), "inverse", Some(clarabel), door);
+    }
+    for (v, w) in [(64, 6), (256, 10), (1_024, 10), (4_096, 10)] {
+        let words = shuffled(d, band_pattern(0, v, w)).words();
+        let clarabel = reference::door::renumber_timer(&words, median_of);
+        let mut out = vec![0; words.len()];
+        let door = door::LINKED.then(|| {
+            median(|| {
+                black_box(door::renumber(&words, &mut out));
+            })
+        });
+        line(&format!("{v} vertices, band {w}"), "renumbering", Some(clarabel), door);
+    }
+}
+
+// the median over runs that each make their input first, which is not timed
+fn median_of(run: &mut dyn FnMut() -> f64) -> f64 {
+    let mut times: Vec<f64> = (0..21).map(|_| run()).collect();
+    times.sort_by(f64::total_cmp);
+    times[times.len() / 2]
+}
+
+pub fn print() {
+    println!("door: {}\n", if door::LINKED { "linked" } else { "not linked" });
+    println!("| input | call | clarabel | door | clarabel / door |");
+    println!("|---|---|---|---|---|");
+    for (name, p) in inputs() {
+        one(&name, &p);
+    }
+    small_calls();
+}

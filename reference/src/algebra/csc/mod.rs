@@ -1,0 +1,7 @@
+// Stand-in for csc/mod.rs.
+mod block_concatenate;
+mod core;
+mod matrix_math;
+mod utils;
+
+pub use self::core::*;

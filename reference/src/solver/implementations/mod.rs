@@ -1,0 +1,2 @@
+// Stand-in for solver/implementations/mod.rs.
+pub(crate) mod default;
