@@ -1,0 +1,51 @@
+use native.Mathlib.Omega.{arith}
+use mathlib.Core.List.{[]}
+use mathlib.Core.Path.{refl}
+use lib.ListN.{length}
+use borrow.Author.Tests.{le-leb, lt-leb}
+use borrow.Author.Needs.{needs}
+use Rattle.layout.proofs.Buffers.{set-written}
+use Rattle.scalarmath.proofs.pair_index.Statement.{statement}
+use Rattle.scalarmath.proofs.pair_index.Tie as tie
+
+returns : tie.Need-returns
+returns c = simp (lt-leb (c .before .before .args .i) 255 (omega arith)) (refl, refl)
+
+returns-2 : tie.Need-returns-2
+returns-2 c =
+    let s = c .before .before .before in
+    simp (le-leb (s .args .i) 255 (omega arith), lt-leb (s .args .j) 255 (omega arith)) (refl, refl)
+
+returns-3 : tie.Need-returns-3
+returns-3 c =
+    let s = c .before .before .before .before in
+    simp (le-leb (s .args .i) 255 (omega arith), le-leb (s .args .j) 255 (omega arith), lt-leb 1 (length (s .args .out .now)) (omega arith)) (refl, refl)
+
+coord-to-upper-triangular-index-requires : tie.Need-coord-to-upper-triangular-index-requires
+coord-to-upper-triangular-index-requires c κs = search needs
+
+slice-write-out : tie.Need-slice-write-out
+slice-write-out c = search needs
+
+same-length : tie.Need-same-length
+same-length c = search needs
+
+returns-4 : tie.Need-returns-4
+returns-4 c =
+    let e = c .before in
+    let s = e .before .before .before .before in
+    let out = s .args .out .now in
+    simp (le-leb (s .args .i) 255 (omega arith), le-leb (s .args .j) 255 (omega arith), le-leb 1 (length out) (omega arith))
+    (refl, rw (c .coord-to-upper-triangular-index .ensures) (set-written [] out _ 0 refl (omega arith)))
+
+pub pair-index-spec : {M : Type 1} → statement M
+pair-index-spec =
+    tie.close
+    (tie.spec
+    returns
+    returns-2
+    returns-3
+    coord-to-upper-triangular-index-requires
+    slice-write-out
+    same-length
+    returns-4)

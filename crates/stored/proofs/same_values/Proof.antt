@@ -1,0 +1,84 @@
+use Prim.Native.Nat.{_-_, _≤_}
+use native.Mathlib.Omega.{arith}
+use mathlib.Core.Path.{_≡_, sym, _∙_}
+use lib.ListN.{length, drop}
+use lib.Ieee.{nan}
+use borrow.Author.Tests.{not-true, not-false}
+use borrow.Author.Needs.{needs}
+use Rattle.stored.specs.Same.{sameBy, alikeValues}
+use Rattle.stored.proofs.Same.{same-lengths, same-step, same-miss, same-done}
+use Rattle.stored.proofs.same_values.Statement.{statement}
+use Rattle.stored.proofs.same_values.Tie as tie
+
+abbrev Inv-loop : tie.InvT-loop
+Inv-loop a b k₀ k = (k ≤ length a) × (length a ≡ length b) × (sameBy alikeValues a b ≡ sameBy alikeValues (drop k a) (drop k b))
+
+abbrev μ-loop : tie.MeasureT-loop
+μ-loop a b k₀ k = length a - k
+
+returns : tie.Need-returns Inv-loop μ-loop
+returns c = sym (same-lengths alikeValues (c .before .before .before .args .a .now) (c .before .before .before .args .b .now) (c .if1 .taken))
+
+loop-holds : tie.Need-loop-holds Inv-loop μ-loop
+loop-holds c = search needs
+
+mul-alike-values : tie.Need-mul-alike-values Inv-loop μ-loop
+mul-alike-values c = search needs
+
+shared-slice-read-alike-values : tie.Need-shared-slice-read-alike-values Inv-loop μ-loop
+shared-slice-read-alike-values c = search needs
+
+mul-alike-values-2 : tie.Need-mul-alike-values-2 Inv-loop μ-loop
+mul-alike-values-2 c = search needs
+
+shared-slice-read-alike-values-2 : tie.Need-shared-slice-read-alike-values-2 Inv-loop μ-loop
+shared-slice-read-alike-values-2 c = search needs
+
+alike-values-requires : tie.Need-alike-values-requires Inv-loop μ-loop
+alike-values-requires c κs = search needs
+
+returns-2 : tie.Need-returns-2 Inv-loop μ-loop
+returns-2 c =
+    let l = c .before .before .before .before .before in
+    let s = l .before .before .before .before in
+    sym (l .loop .inv .2 ∙ same-miss alikeValues (s .args .a .now) (s .args .b .now) nan (l .loop .k) (omega arith) (omega arith) (sym (c .before .alike-values .ensures) ∙ not-true _ (c .if2 .taken)))
+
+add-k : tie.Need-add-k Inv-loop μ-loop
+add-k c = search needs
+
+loop-less : tie.Need-loop-less Inv-loop μ-loop
+loop-less c = search needs
+
+loop-again : tie.Need-loop-again Inv-loop μ-loop
+loop-again c =
+    let l = c .before .before .before .before .before in
+    let s = l .before .before .before .before in (
+      omega arith,
+      l .loop .inv .1,
+      l .loop .inv .2 ∙ same-step alikeValues (s .args .a .now) (s .args .b .now) nan (l .loop .k) (omega arith) (omega arith) (sym (c .before .alike-values .ensures) ∙ not-false _ (c .if2 .left)),
+    )
+
+returns-3 : tie.Need-returns-3 Inv-loop μ-loop
+returns-3 c =
+    let l = c .before in
+    let s = l .before .before .before .before in
+    sym (l .loop .inv .2 ∙ same-done alikeValues (s .args .a .now) (s .args .b .now) (l .loop .k) (omega arith) (omega arith))
+
+pub same-values-spec : {M : Type 1} → statement M
+same-values-spec =
+    tie.close
+    (tie.spec
+    Inv-loop
+    μ-loop
+    returns
+    loop-holds
+    mul-alike-values
+    shared-slice-read-alike-values
+    mul-alike-values-2
+    shared-slice-read-alike-values-2
+    alike-values-requires
+    returns-2
+    add-k
+    loop-less
+    loop-again
+    returns-3)

@@ -1,0 +1,80 @@
+use Prim.Native.Nat.{_-_, _≤_}
+use native.Mathlib.Omega.{arith}
+use mathlib.Core.Path.{_≡_, sym, _∙_}
+use lib.ListN.{length, drop}
+use lib.Dec.{eqb}
+use borrow.Author.Tests.{eq-eqb, ne-eqb}
+use borrow.Author.Needs.{needs}
+use Rattle.stored.specs.Same.{sameBy}
+use Rattle.stored.proofs.Same.{same-lengths, same-step, same-miss, same-done}
+use Rattle.stored.proofs.same_words.Statement.{statement}
+use Rattle.stored.proofs.same_words.Tie as tie
+
+abbrev Inv-loop : tie.InvT-loop
+Inv-loop a b k₀ k = (k ≤ length a) × (length a ≡ length b) × (sameBy eqb a b ≡ sameBy eqb (drop k a) (drop k b))
+
+abbrev μ-loop : tie.MeasureT-loop
+μ-loop a b k₀ k = length a - k
+
+returns : tie.Need-returns Inv-loop μ-loop
+returns c = sym (same-lengths eqb (c .before .args .a .now) (c .before .args .b .now) (c .if1 .taken))
+
+loop-holds : tie.Need-loop-holds Inv-loop μ-loop
+loop-holds c = search needs
+
+mul-if2 : tie.Need-mul-if2 Inv-loop μ-loop
+mul-if2 c = search needs
+
+shared-slice-read-if2 : tie.Need-shared-slice-read-if2 Inv-loop μ-loop
+shared-slice-read-if2 c = search needs
+
+mul-if2-2 : tie.Need-mul-if2-2 Inv-loop μ-loop
+mul-if2-2 c = search needs
+
+shared-slice-read-if2-2 : tie.Need-shared-slice-read-if2-2 Inv-loop μ-loop
+shared-slice-read-if2-2 c = search needs
+
+returns-2 : tie.Need-returns-2 Inv-loop μ-loop
+returns-2 c =
+    let l = c .before .before .before .before in
+    let s = l .before .before in
+    sym (l .loop .inv .2 ∙ same-miss eqb (s .args .a .now) (s .args .b .now) 0 (l .loop .k) (omega arith) (omega arith) (ne-eqb _ _ (c .if2 .taken)))
+
+add-k : tie.Need-add-k Inv-loop μ-loop
+add-k c = search needs
+
+loop-less : tie.Need-loop-less Inv-loop μ-loop
+loop-less c = search needs
+
+loop-again : tie.Need-loop-again Inv-loop μ-loop
+loop-again c =
+    let l = c .before .before .before .before in
+    let s = l .before .before in (
+      omega arith,
+      l .loop .inv .1,
+      l .loop .inv .2 ∙ same-step eqb (s .args .a .now) (s .args .b .now) 0 (l .loop .k) (omega arith) (omega arith) (eq-eqb _ _ (c .if2 .left)),
+    )
+
+returns-3 : tie.Need-returns-3 Inv-loop μ-loop
+returns-3 c =
+    let l = c .before in
+    let s = l .before .before in
+    sym (l .loop .inv .2 ∙ same-done eqb (s .args .a .now) (s .args .b .now) (l .loop .k) (omega arith) (omega arith))
+
+pub same-words-spec : {M : Type 1} → statement M
+same-words-spec =
+    tie.close
+    (tie.spec
+    Inv-loop
+    μ-loop
+    returns
+    loop-holds
+    mul-if2
+    shared-slice-read-if2
+    mul-if2-2
+    shared-slice-read-if2-2
+    returns-2
+    add-k
+    loop-less
+    loop-again
+    returns-3)
