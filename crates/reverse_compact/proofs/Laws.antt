@@ -90,5 +90,5 @@ module _ {m : ℕ} {cones : List ℕ} {count : ℕ} {words : List ℕ} (h : Soun
   joined-inside i l =
       let inside : i < length rows = omega (arith, length-map rows joinCode) in
       let e : rowOfCode (getD (map joinCode rows) i 0) ≡ originalRow (rowAt rows i) =
-          ap rowOfCode (getD-map joinCode rows i (kept 0) 0 inside) ∙ row-of-code (rowAt rows i) (small i inside) in
+      ap rowOfCode (getD-map joinCode rows i (kept 0) 0 inside) ∙ row-of-code (rowAt rows i) (small i inside) in
       omega (arith, e, sound-rows h .inside i inside .1)

@@ -94,10 +94,10 @@ loop-again c =
       omega arith,
       length-set ws (r .row-of .result) (c .joined-value .result) ∙ l .loop .inv .1,
       ap (addAll (drop (k + 1) (a .codes .now)) (drop (k + 1) (a .values .now)))
-      (ap (set ws (r .row-of .result)) (c .joined-value .ensures)
-      ∙ ap (λ (o : ℕ). set ws o (cond (ltb code 65536) (add binary64 (getD ws o nan) v) v)) (r .row-of .ensures)
-      ∙ add-stored code v ws)
-      ∙ sym (walk-step addCoded 0 nan (a .codes .now) (a .values .now) ws k (omega arith) (omega arith)) ∙ l .loop .inv .2,
+          (ap (set ws (r .row-of .result)) (c .joined-value .ensures)
+          ∙ ap (λ (o : ℕ). set ws o (cond (ltb code 65536) (add binary64 (getD ws o nan) v) v)) (r .row-of .ensures)
+          ∙ add-stored code v ws)
+          ∙ sym (walk-step addCoded 0 nan (a .codes .now) (a .values .now) ws k (omega arith) (omega arith)) ∙ l .loop .inv .2,
     )
 
 -- src/lib.rt:32:1

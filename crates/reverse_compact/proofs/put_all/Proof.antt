@@ -77,7 +77,7 @@ loop-again c =
       omega arith,
       length-set ws (r .row-of .result) v ∙ l .loop .inv .1,
       ap (λ (o : ℕ). putAll (drop (k + 1) (a .codes .now)) (drop (k + 1) (a .values .now)) (set ws o v)) (r .row-of .ensures)
-      ∙ sym (walk-step putCoded 0 nan (a .codes .now) (a .values .now) ws k (omega arith) (omega arith)) ∙ l .loop .inv .2,
+          ∙ sym (walk-step putCoded 0 nan (a .codes .now) (a .values .now) ws k (omega arith) (omega arith)) ∙ l .loop .inv .2,
     )
 
 -- src/lib.rt:46:1

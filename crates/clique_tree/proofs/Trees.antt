@@ -1,0 +1,63 @@
+-- Check 6 as a walk over a pattern's cliques.
+use Prim.Native.Nat.{ℕ, zero, suc, _+_}
+use native.Mathlib.Omega.{arith}
+use mathlib.Core.Bool.{Bool, true, false, not, _&&_}
+use mathlib.Core.Path.{_≡_, refl, sym, ap, _∙_}
+use mathlib.Core.List.{List, [], _∷_}
+use lib.Dec.{eqb}
+use lib.ListN.{length, drop, drop-of-length-le}
+use lib.Seq.{drop-cons}
+use Rattle.layout.specs.Lists.{all, upFrom}
+use Rattle.layout.specs.Patterns.{Read, read, short, andThen, Head, readHead, withCliques, readClique, readCliques, Clique, Pattern, noClique, noPattern}
+use Rattle.layout.specs.Checks.{parentRight, treeRight}
+use Rattle.supernode_tree.proofs.Many.{many-length}
+use Rattle.supernode_tree.specs.Reads.{whole, valueOr, patternAt}
+use Rattle.clique_tree.specs.Trees.{parentOk}
+use Rattle.utils.proofs.Tests.{and-right}
+
+abbrev pub cliqueOk : ℕ → ℕ → Clique → Bool
+cliqueOk k c q = parentOk k c (q .parent) (length (q .separator))
+
+abbrev pub treeFrom : ℕ → ℕ → List Clique → Bool
+treeFrom k c [] = true
+treeFrom k c (q ∷ qs) = cliqueOk k c q && treeFrom k (suc c) qs
+
+-- of cliques that are read
+abbrev pub treeRead : ℕ → ℕ → Read (List Clique) → Bool
+treeRead k c (read cs left) = treeFrom k c cs
+treeRead k c short = false
+
+tree-from : (p : Pattern) (c j : ℕ) → length (p .cliques) ≡ c + j
+    → all (parentRight p) (upFrom c j) ≡ treeFrom (length (p .cliques)) c (drop c (p .cliques))
+tree-from p c zero e = rw (drop-of-length-le (p .cliques) {i = c} (omega arith))
+tree-from p c (suc j) e = rw (drop-cons (p .cliques) c noClique (omega arith), tree-from p (suc c) j (omega arith))
+
+pub tree-right : (p : Pattern) → treeRight p ≡ (not (eqb (length (p .cliques)) 0) && treeFrom (length (p .cliques)) 0 (p .cliques))
+tree-right p = rw (tree-from p 0 (length (p .cliques)) (omega arith))
+
+pub tree-short : (ws : List ℕ) (at : ℕ) → readHead (drop at ws) ≡ short → treeRight (patternAt ws at) ≡ false
+tree-short ws at e = rw e
+
+pub tree-start : (ws : List ℕ) (at : ℕ) (h : Head) (rest : List ℕ) → readHead (drop at ws) ≡ read h rest
+    → treeRight (patternAt ws at) ≡ (not (eqb (h .cliqueCount) 0) && treeRead (h .cliqueCount) 0 (readCliques (h .cliqueCount) rest))
+tree-start ws at h rest e = rw e (go (readCliques (h .cliqueCount) rest) refl)
+  where
+    go : (r : Read (List Clique)) → readCliques (h .cliqueCount) rest ≡ r
+        → treeRight (valueOr noPattern (andThen r (λ cs left. read (withCliques h cs) left)))
+        ≡ (not (eqb (h .cliqueCount) 0) && treeRead (h .cliqueCount) 0 r)
+    go (read cs left) q =
+        let m : length cs ≡ h .cliqueCount =
+        sym (ap (λ (r : Read (List Clique)). length (valueOr [] r)) q) ∙ many-length readClique (h .cliqueCount) rest (ap whole q) in
+        tree-right (withCliques h cs) ∙ ap (λ (k : ℕ). not (eqb k 0) && treeFrom k 0 cs) m
+    go short q = sym (and-right (not (eqb (h .cliqueCount) 0)) false refl)
+
+pub tree-none : (k c j : ℕ) (ws : List ℕ) → readClique ws ≡ short → treeRead k c (readCliques (suc j) ws) ≡ false
+tree-none k c j ws e = rw e
+
+pub tree-step : (k c j : ℕ) (ws rest : List ℕ) (q : Clique) → readClique ws ≡ read q rest
+    → treeRead k c (readCliques (suc j) ws) ≡ (cliqueOk k c q && treeRead k (suc c) (readCliques j rest))
+tree-step k c j ws rest q e = rw e (go (readCliques j rest))
+  where
+    go : (r : Read (List Clique)) → treeRead k c (andThen r (λ cs left. read (q ∷ cs) left)) ≡ (cliqueOk k c q && treeRead k (suc c) r)
+    go (read cs left) = refl
+    go short = sym (and-right (cliqueOk k c q) false refl)

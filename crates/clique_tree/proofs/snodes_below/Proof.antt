@@ -1,0 +1,131 @@
+use Rattle.clique_tree.specs.Trees.{snodesOf}
+use Rattle.supernode_tree.proofs.Cliques.{none-here, whole-next, from-next, from-none, snode-part}
+use Rattle.vertex_set.proofs.Walks.{all-append}
+use Rattle.utils.proofs.Tests.{differ, and-cases}
+use Rattle.supernode_tree.specs.Reads.{Whole, cliquesFrom, cliqueOf}
+use Rattle.layout.specs.Patterns.{Clique}
+use Rattle.layout.specs.Lists.{all, join}
+use borrow.Author.Tests.{not-true, not-false}
+use lib.Dec.{ltb}
+use Prim.Native.Nat.{ℕ, _-_}
+use mathlib.Core.Path.{_≡_, refl, sym, ap, _∙_}
+use mathlib.Core.List.{List}
+use mathlib.Core.Bool.{Bool, true, false, _&&_}
+use native.Mathlib.Omega.{arith}
+use borrow.Author.Needs.{needs}
+use Rattle.clique_tree.proofs.snodes_below.Statement.{statement}
+use Rattle.clique_tree.proofs.snodes_below.Tie as tie
+
+abbrev Inv-loop : tie.InvT-loop
+Inv-loop words first count n at₀ left₀ at left =
+    Whole words at left
+    × (all (λ x. ltb x n) (snodesOf (cliquesFrom words first count)) ≡ all (λ x. ltb x n) (snodesOf (cliquesFrom words at left)))
+
+abbrev μ-loop : tie.MeasureT-loop
+μ-loop words first count n at₀ left₀ at left = left
+
+abbrev snode : Clique → List ℕ
+snode c = c .snode
+
+-- a clique was read, and its snode looked at
+stepped : (c : tie.After-all-below Inv-loop μ-loop)
+    → let l = c .before .before .before .before .before .before .before in
+    let s = l .before .before in
+    let ws = s .args .words .now in
+    let q = c .before .before .before .q .given .0 .0 in
+    let whole-below = all (λ x. ltb x (s .args .n)) (join snode (cliquesFrom ws (s .args .first) (s .args .count))) in
+    (c .all-below .result ≡ false → whole-below ≡ false)
+    × (c .all-below .result ≡ true → Whole ws (q .next) (l .loop .left - 1)
+    × (whole-below ≡ all (λ x. ltb x (s .args .n)) (join snode (cliquesFrom ws (q .next) (l .loop .left - 1)))))
+stepped c =
+    let k = c .before .before in
+    let l = k .before .before .before .before .before in
+    let s = l .before .before in
+    let ws = s .args .words .now in
+    let g = k .before .q .given in
+    let q = g .0 .0 in
+    let r = k .before .before .before in
+    let n = l .loop .left in
+    let more = r .before .loop-test .taken in
+    let inside = rw (g .1) at (r .read .ensures .1) in
+    let p : ℕ → Bool = λ x. ltb x (s .args .n) in
+    let rest = cliquesFrom ws (q .next) (n - 1) in
+    let cases = and-cases (c .all-below .result) (all p (join snode rest)) _
+    (l .loop .inv .1 ∙ ap (λ (cs : List Clique). all p (join snode cs)) (from-next ws (l .loop .at) n _ (r .read .ensures .0) more q (g .1) (l .loop .inv .0))
+    ∙ all-append p (cliqueOf ws q .snode) (join snode rest)
+    ∙ ap (λ (b : Bool). b && all p (join snode rest)) (sym (c .all-below .ensures ∙ ap (all p) (snode-part ws (l .loop .at) q inside)))) in
+    (cases .0, λ e. (sym (whole-next ws (l .loop .at) n _ (r .read .ensures .0) more q (g .1)) ∙ l .loop .inv .0, cases .1 e))
+
+loop-holds : tie.Need-loop-holds Inv-loop μ-loop
+loop-holds c = (c .before .pre, refl)
+
+read-requires : tie.Need-read-requires Inv-loop μ-loop
+read-requires c κs = search needs
+
+enum-known-q : tie.Need-enum-known-q Inv-loop μ-loop
+enum-known-q c = search needs
+
+enum-told : tie.Need-enum-told Inv-loop μ-loop
+enum-told c = search needs
+
+returns : tie.Need-returns Inv-loop μ-loop
+returns c =
+    let l = c .before .before .before .before in
+    let ws = l .before .before .args .words .now in
+    absurd (differ _ (l .loop .inv .0) (none-here ws (l .loop .at) (l .loop .left) _ (c .before .before .read .ensures .0) (c .before .before .before .loop-test .taken) (c .enum-told .given .1)))
+
+mul-all-below : tie.Need-mul-all-below Inv-loop μ-loop
+mul-all-below c = let inside = rw (c .before .q .given .1) at (c .before .before .before .read .ensures .1) in omega arith
+
+sub-all-below : tie.Need-sub-all-below Inv-loop μ-loop
+sub-all-below c = let inside = rw (c .before .q .given .1) at (c .before .before .before .read .ensures .1) in omega arith
+
+part-all-below-start : tie.Need-part-all-below-start Inv-loop μ-loop
+part-all-below-start c = let inside = rw (c .before .q .given .1) at (c .before .before .before .read .ensures .1) in omega arith
+
+part-all-below-end : tie.Need-part-all-below-end Inv-loop μ-loop
+part-all-below-end c = let inside = rw (c .before .q .given .1) at (c .before .before .before .read .ensures .1) in omega arith
+
+all-below-requires : tie.Need-all-below-requires Inv-loop μ-loop
+all-below-requires c κs = search needs
+
+returns-2 : tie.Need-returns-2 Inv-loop μ-loop
+returns-2 c = sym (stepped (c .before) .0 (not-true _ (c .if1 .taken)))
+
+sub-left : tie.Need-sub-left Inv-loop μ-loop
+sub-left c = search needs
+
+loop-less : tie.Need-loop-less Inv-loop μ-loop
+loop-less c = search needs
+
+loop-again : tie.Need-loop-again Inv-loop μ-loop
+loop-again c = stepped (c .before) .1 (not-false _ (c .if1 .left))
+
+returns-3 : tie.Need-returns-3 Inv-loop μ-loop
+returns-3 c =
+    let l = c .before in
+    let s = l .before .before in
+    let ws = s .args .words .now in
+    sym (l .loop .inv .1 ∙ ap (λ (cs : List Clique). all (λ x. ltb x (s .args .n)) (join snode cs)) (from-none ws (l .loop .at) (l .loop .left) (c .loop-test .left)))
+
+pub snodes-below-spec : {M : Type 1} → statement M
+snodes-below-spec =
+    tie.close
+    (tie.spec
+    Inv-loop
+    μ-loop
+    loop-holds
+    read-requires
+    enum-known-q
+    enum-told
+    returns
+    mul-all-below
+    sub-all-below
+    part-all-below-start
+    part-all-below-end
+    all-below-requires
+    returns-2
+    sub-left
+    loop-less
+    loop-again
+    returns-3)

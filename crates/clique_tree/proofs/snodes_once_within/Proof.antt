@@ -1,0 +1,189 @@
+use Rattle.clique_tree.specs.Trees.{snodesOf}
+use Rattle.layout.proofs.Keeps.{append-nil}
+use Rattle.utils.proofs.Tests.{passes, differ, passed}
+use Rattle.supernode_tree.proofs.Cliques.{none-here, whole-next, from-next, from-none, snode-part}
+use Rattle.clique_tree.proofs.Snodes.{repeats-front}
+use Rattle.utils.proofs.Windows.{marked-none}
+use Rattle.utils.specs.Windows.{within, Marked}
+use Rattle.supernode_tree.specs.Reads.{Whole, cliquesFrom, cliqueOf}
+use Rattle.layout.specs.Patterns.{Clique}
+use Rattle.layout.specs.Lists.{join, keep, distinct}
+use borrow.Author.Tests.{not-true, not-false}
+use lib.ListN.{length}
+use lib.Dec.{T}
+use Prim.Native.Nat.{ℕ, _-_}
+use mathlib.Core.Path.{_≡_, refl, sym, ap, _∙_}
+use mathlib.Core.List.{List, [], _++_, append-assoc}
+use mathlib.Core.Bool.{Bool, true}
+use native.Mathlib.Omega.{arith}
+use borrow.Author.Needs.{needs}
+use Rattle.clique_tree.proofs.snodes_once_within.Statement.{statement}
+use Rattle.clique_tree.proofs.snodes_once_within.Tie as tie
+
+abbrev Inv-loop : tie.InvT-loop
+Inv-loop words first count low marks₀ at₀ left₀ marks at left =
+    Whole words at left × (length marks ≡ length marks₀)
+    × ((met : List ℕ) × (met ++ snodesOf (cliquesFrom words at left) ≡ snodesOf (cliquesFrom words first count))
+    × Marked low marks met × T (distinct (keep (within low (length marks)) met)))
+
+abbrev μ-loop : tie.MeasureT-loop
+μ-loop words first count low marks₀ at₀ left₀ marks at left = left
+
+abbrev snode : Clique → List ℕ
+snode c = c .snode
+
+-- a clique was read, and its snode marked
+stepped : (c : tie.After-mark Inv-loop μ-loop)
+    → let t = c .before .before .before in
+    let l = t .before .before .before .before .before in
+    let s = l .before .before .before .before .before .before .before in
+    let ws = s .args .words .now in
+    let q = t .before .q .given .0 .0 in
+    let now = l .loop .inv .2 .0 ++ cliqueOf ws q .snode in
+    (now ++ join snode (cliquesFrom ws (q .next) (l .loop .left - 1)) ≡ join snode (cliquesFrom ws (s .args .first) (s .args .count)))
+    × (c .mark .result ≡ distinct (keep (within (s .args .low) (length (l .loop .marks))) now))
+    × (c .mark .result ≡ true → Marked (s .args .low) (c .mark .last .1 .1 .0) now)
+stepped c =
+    let t = c .before .before .before in
+    let l = t .before .before .before .before .before in
+    let s = l .before .before .before .before .before .before .before in
+    let ws = s .args .words .now in
+    let g = t .before .q .given in
+    let q = g .0 .0 in
+    let r = t .before .before .before in
+    let n = l .loop .left in
+    let i = l .loop .inv .2 in
+    let met = i .0 in
+    let inside = rw (g .1) at (r .read .ensures .1) in
+    let rest = cliquesFrom ws (q .next) (n - 1) in
+    let done = rw (snode-part ws (l .loop .at) q inside) at (c .mark .ensures met (i .2) (i .3)) in (
+      append-assoc met (cliqueOf ws q .snode) (join snode rest)
+          ∙ ap (λ (cs : List Clique). met ++ join snode cs) (sym (from-next ws (l .loop .at) n _ (r .read .ensures .0) (r .before .loop-test .taken) q (g .1) (l .loop .inv .0)))
+          ∙ i .1,
+      done .0,
+      done .1,
+    )
+
+clear-requires : tie.Need-clear-requires Inv-loop μ-loop
+clear-requires c κs = search needs
+
+loop-holds : tie.Need-loop-holds Inv-loop μ-loop
+loop-holds c =
+    let k = c .before .before in
+    let s = k .before .before .before .before in
+    (s .pre, refl, ([], refl, rw (k .clear .ensures) (marked-none (s .args .low) (length (s .args .marks .now))), tt))
+
+read-requires : tie.Need-read-requires Inv-loop μ-loop
+read-requires c κs = search needs
+
+enum-known-q : tie.Need-enum-known-q Inv-loop μ-loop
+enum-known-q c = search needs
+
+enum-told : tie.Need-enum-told Inv-loop μ-loop
+enum-told c = search needs
+
+same-length : tie.Need-same-length Inv-loop μ-loop
+same-length c = search needs
+
+returns : tie.Need-returns Inv-loop μ-loop
+returns c =
+    let l = c .before .before .before .before in
+    let ws = l .before .before .before .before .before .before .before .args .words .now in
+    absurd (differ _ (l .loop .inv .0) (none-here ws (l .loop .at) (l .loop .left) _ (c .before .before .read .ensures .0) (c .before .before .before .loop-test .taken) (c .enum-told .given .1)))
+
+mul-mark : tie.Need-mul-mark Inv-loop μ-loop
+mul-mark c = let inside = rw (c .before .q .given .1) at (c .before .before .before .read .ensures .1) in omega arith
+
+sub-mark : tie.Need-sub-mark Inv-loop μ-loop
+sub-mark c = let inside = rw (c .before .q .given .1) at (c .before .before .before .read .ensures .1) in omega arith
+
+part-mark-start : tie.Need-part-mark-start Inv-loop μ-loop
+part-mark-start c = let inside = rw (c .before .q .given .1) at (c .before .before .before .read .ensures .1) in omega arith
+
+part-mark-end : tie.Need-part-mark-end Inv-loop μ-loop
+part-mark-end c = let inside = rw (c .before .q .given .1) at (c .before .before .before .read .ensures .1) in omega arith
+
+mark-requires : tie.Need-mark-requires Inv-loop μ-loop
+mark-requires c κs = search needs
+
+same-length-2 : tie.Need-same-length-2 Inv-loop μ-loop
+same-length-2 c = search needs
+
+returns-2 : tie.Need-returns-2 Inv-loop μ-loop
+returns-2 c =
+    let k = c .before .before .before in
+    let t = k .before .before .before in
+    let l = t .before .before .before .before .before in
+    let s = l .before .before .before .before .before .before .before in
+    let m = stepped k in
+    let low = s .args .low in
+    let n : length (l .loop .marks) ≡ length (s .args .marks .now) = omega arith in
+    let ws = s .args .words .now in
+    let q = t .before .q .given .0 .0 in
+    let p : ℕ → Bool = within low (length (s .args .marks .now)) in
+    sym (ap (λ (x : List ℕ). distinct (keep p x)) (sym (m .0))
+    ∙ repeats-front p (l .loop .inv .2 .0 ++ cliqueOf ws q .snode) (join snode (cliquesFrom ws (q .next) (l .loop .left - 1)))
+    (rw n at (sym (m .1) ∙ not-true _ (c .if1 .taken))))
+
+sub-left : tie.Need-sub-left Inv-loop μ-loop
+sub-left c = search needs
+
+loop-less : tie.Need-loop-less Inv-loop μ-loop
+loop-less c = search needs
+
+loop-again : tie.Need-loop-again Inv-loop μ-loop
+loop-again c =
+    let k = c .before .before .before in
+    let t = k .before .before .before in
+    let l = t .before .before .before .before .before in
+    let s = l .before .before .before .before .before .before .before in
+    let ws = s .args .words .now in
+    let q = t .before .q .given .0 .0 in
+    let r = t .before .before .before in
+    let m = stepped k in
+    let yes = not-false _ (c .if1 .left) in
+    let n : length (k .mark .last .1 .1 .0) ≡ length (l .loop .marks) = omega arith in (
+      sym (whole-next ws (l .loop .at) (l .loop .left) _ (r .read .ensures .0) (r .before .loop-test .taken) q (t .before .q .given .1)) ∙ l .loop .inv .0,
+      omega arith,
+      (l .loop .inv .2 .0 ++ cliqueOf ws q .snode, m .0, m .2 yes, rw n (passes _ (sym (m .1) ∙ yes))),
+    )
+
+same-length-3 : tie.Need-same-length-3 Inv-loop μ-loop
+same-length-3 c = search needs
+
+returns-3 : tie.Need-returns-3 Inv-loop μ-loop
+returns-3 c =
+    let l = c .before in
+    let s = l .before .before .before .before .before .before .before in
+    let ws = s .args .words .now in
+    let i = l .loop .inv .2 in
+    let n : length (l .loop .marks) ≡ length (s .args .marks .now) = omega arith in
+    let e : i .0 ≡ join snode (cliquesFrom ws (s .args .first) (s .args .count)) =
+    sym (append-nil (i .0)) ∙ ap (λ (cs : List Clique). i .0 ++ join snode cs) (sym (from-none ws (l .loop .at) (l .loop .left) (c .loop-test .left))) ∙ i .1 in
+    sym (passed _ (rw (e, n) at (i .3)))
+
+pub snodes-once-within-spec : {M : Type 1} → statement M
+snodes-once-within-spec =
+    tie.close
+    (tie.spec
+    Inv-loop
+    μ-loop
+    clear-requires
+    loop-holds
+    read-requires
+    enum-known-q
+    enum-told
+    same-length
+    returns
+    mul-mark
+    sub-mark
+    part-mark-start
+    part-mark-end
+    mark-requires
+    same-length-2
+    returns-2
+    sub-left
+    loop-less
+    loop-again
+    same-length-3
+    returns-3)

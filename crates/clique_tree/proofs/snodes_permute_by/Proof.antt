@@ -1,0 +1,103 @@
+use Rattle.clique_tree.specs.Trees.{snodesOf}
+use Rattle.utils.proofs.Windows.{window-none, window-more, repeats-within, windows-all}
+use Rattle.utils.proofs.Tests.{passes, and-true, and-false, and-right}
+use Rattle.supernode_tree.specs.Reads.{cliquesFrom}
+use Rattle.layout.specs.Lists.{all, keep, distinct}
+use lib.ListN.{length}
+use lib.Dec.{T, ltb}
+use borrow.Author.Tests.{not-true, not-false}
+use Prim.Native.Nat.{_+_, _-_, _≤_}
+use mathlib.Core.Path.{_≡_, refl, sym, _∙_}
+use mathlib.Core.Bool.{true}
+use native.Mathlib.Omega.{arith}
+use borrow.Author.Needs.{needs}
+use Rattle.clique_tree.proofs.snodes_permute_by.Statement.{statement}
+use Rattle.clique_tree.proofs.snodes_permute_by.Tie as tie
+
+abbrev Inv-loop : tie.InvT-loop
+Inv-loop words first count n marks₀ low₀ marks low =
+    (low ≤ n) × (length marks ≡ length marks₀) × T (distinct (keep (λ x. ltb x low) (snodesOf (cliquesFrom words first count))))
+
+abbrev μ-loop : tie.MeasureT-loop
+μ-loop words first count n marks₀ low₀ marks low = n - low
+
+snodes-below-requires : tie.Need-snodes-below-requires Inv-loop μ-loop
+snodes-below-requires c κs = search needs
+
+returns : tie.Need-returns Inv-loop μ-loop
+returns c =
+    let b = c .before in
+    let s = b .before .before .before in
+    let us = snodesOf (cliquesFrom (s .args .words .now) (s .args .first) (s .args .count)) in
+    sym (and-false (all (λ x. ltb x (length us)) us) (distinct us) (rw (s .pre .1 .0) at (sym (b .snodes-below .ensures) ∙ not-true _ (c .if1 .taken))))
+
+loop-holds : tie.Need-loop-holds Inv-loop μ-loop
+loop-holds c =
+    let s = c .before .before .before .before in
+    (omega arith, refl, window-none (snodesOf (cliquesFrom (s .args .words .now) (s .args .first) (s .args .count))))
+
+snodes-once-within-requires : tie.Need-snodes-once-within-requires Inv-loop μ-loop
+snodes-once-within-requires c κs = search needs
+
+same-length : tie.Need-same-length Inv-loop μ-loop
+same-length c = search needs
+
+returns-2 : tie.Need-returns-2 Inv-loop μ-loop
+returns-2 c =
+    let w = c .before .before .before in
+    let s = w .before .before .before .before .before .before .before in
+    let us = snodesOf (cliquesFrom (s .args .words .now) (s .args .first) (s .args .count)) in
+    sym (and-right (all (λ x. ltb x (length us)) us) (distinct us) (repeats-within _ us (sym (w .snodes-once-within .ensures) ∙ not-true _ (c .if2 .taken))))
+
+sub-if3 : tie.Need-sub-if3 Inv-loop μ-loop
+sub-if3 c = search needs
+
+same-length-2 : tie.Need-same-length-2 Inv-loop μ-loop
+same-length-2 c = search needs
+
+returns-3 : tie.Need-returns-3 Inv-loop μ-loop
+returns-3 c =
+    let w = c .before .before .before .before in
+    let l = w .before .before in
+    let a = l .before .before in
+    let s = a .before .before .before in
+    let us = snodesOf (cliquesFrom (s .args .words .now) (s .args .first) (s .args .count)) in
+    let all-in : all (λ x. ltb x (length us)) us ≡ true = rw (s .pre .1 .0) at (sym (a .snodes-below .ensures) ∙ not-false _ (l .before .if1 .left)) in
+    let once = passes _ (sym (w .snodes-once-within .ensures) ∙ not-false _ (c .before .if2 .left)) in
+    sym (and-true _ _ all-in
+    ∙ windows-all (length us) (l .loop .low + length (l .loop .marks)) us all-in (omega (arith, s .pre .1 .0)) (window-more (l .loop .low) (length (l .loop .marks)) us (l .loop .inv .2) once))
+
+add-low : tie.Need-add-low Inv-loop μ-loop
+add-low c = search needs
+
+loop-less : tie.Need-loop-less Inv-loop μ-loop
+loop-less c = search needs
+
+loop-again : tie.Need-loop-again Inv-loop μ-loop
+loop-again c =
+    let w = c .before .before .before .before in
+    let l = w .before .before in
+    let s = l .before .before .before .before .before in
+    let us = snodesOf (cliquesFrom (s .args .words .now) (s .args .first) (s .args .count)) in
+    let once = passes _ (sym (w .snodes-once-within .ensures) ∙ not-false _ (c .before .if2 .left)) in
+    let e : length (w .snodes-once-within .last .1 .1 .1 .1 .0) ≡ length (l .loop .marks) = omega arith in
+    (omega arith, omega arith, rw e (window-more (l .loop .low) (length (l .loop .marks)) us (l .loop .inv .2) once))
+
+pub snodes-permute-by-spec : {M : Type 1} → statement M
+snodes-permute-by-spec =
+    tie.close
+    (tie.spec
+    Inv-loop
+    μ-loop
+    snodes-below-requires
+    returns
+    loop-holds
+    snodes-once-within-requires
+    same-length
+    returns-2
+    sub-if3
+    same-length-2
+    returns-3
+    add-low
+    loop-less
+    loop-again)

@@ -1,0 +1,25 @@
+-- Checks 6 and 7 for one clique.
+use Prim.Native.Nat.{ℕ, suc}
+use mathlib.Core.Bool.{Bool, cond, _&&_}
+use mathlib.Core.List.{List}
+use lib.ListN.{getD}
+use lib.Dec.{eqb, ltb}
+use Rattle.layout.specs.Patterns.{Clique, noClique, members, noParent}
+use Rattle.layout.specs.Lists.{all, join}
+use Rattle.vertex_set.specs.OnceIn.{onceIn}
+
+-- clique c of k, with its parent and the count of its separator
+abbrev pub parentOk : ℕ → ℕ → ℕ → ℕ → Bool
+parentOk k c parent separators =
+    cond (eqb (suc c) k) (eqb parent noParent && eqb separators 0) (ltb c parent && ltb parent k)
+
+-- a separator among cliques cs: no repeat, and its parent's clique holds each member
+abbrev pub separatorOk : List Clique → ℕ → List ℕ → Bool
+separatorOk cs parent us = onceIn (members (getD cs parent noClique)) us
+
+abbrev pub separatorsOk : List Clique → Bool
+separatorsOk cs = all (λ c. separatorOk cs (c .parent) (c .separator)) cs
+
+-- the snodes' numbers, one after the other
+abbrev pub snodesOf : List Clique → List ℕ
+snodesOf cs = join (λ c. c .snode) cs

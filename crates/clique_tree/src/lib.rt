@@ -1,0 +1,330 @@
+// Checks 6 and 7: a pattern's cliques are a clique tree over its vertices.
+ghost use mathlib.Core.Path.{_≡_};
+ghost use Prim.Native.Nat.{_-_, _*_, _≤_, _<_};
+ghost use mathlib.Core.Bool.{true, not, _&&_};
+ghost use lib.ListN.{length, take, drop};
+ghost use lib.Dec.{ltb, eqb};
+ghost use Rattle.layout.specs.Lists.{all, distinct, keep};
+ghost use Rattle.layout.specs.Checks.{isPermutation, treeRight, cliquesRight};
+ghost use Rattle.layout.specs.Patterns.{readPatterns, patterns, endsRight};
+ghost use Rattle.utils.specs.Windows.{within};
+ghost use Rattle.supernode_tree.specs.Reads.{patternAt, Whole, cliquesFrom};
+ghost use Rattle.supernode_tree.specs.Offsets.{OffsetsEvery};
+ghost use Rattle.vertex_set.specs.OnceIn.{onceIn};
+ghost use Rattle.clique_tree.specs.Trees.{parentOk, snodesOf, separatorsOk};
+use supernode_tree::Clique;
+use supernode_tree::CliqueRead;
+use supernode_tree::Members;
+use supernode_tree::Pattern;
+use supernode_tree::PatternRead;
+
+// ---- check 6
+
+// The c-th of count cliques has a later parent, or is the last and has neither parent nor separator.
+fn parent_right(q: Clique, c: u32, count: u32) -> bool
+    requires { ⌜ c < count ⌝ }
+    ensures { λ r. ⌜ r ≡ parentOk count c (q .parent) (q .«separator_count») ⌝ }
+{
+    if c + 1 == count {
+        return q.parent == Clique::NO_PARENT && q.separator_count == 0;
+    }
+    c < q.parent && q.parent < count
+}
+
+// Check 6 of the pattern at an offset; words that end early are refused.
+pub fn tree_right(words: &[u32], at: usize) -> bool
+    ensures { λ r. ⌜ r ≡ treeRight (patternAt (now (words .entry)) at) ⌝ }
+{
+    let PatternRead::Pattern(p) = Pattern::read(words, at) else {
+        return false;
+    };
+    let count = p.clique_count;
+    if count == 0 {
+        return false;
+    }
+    let mut next = p.cliques;
+    let mut c = 0;
+    while c < count {
+        let CliqueRead::Clique(q) = Clique::read(words, next) else {
+            return false;
+        };
+        if !parent_right(q, c, count) {
+            return false;
+        }
+        next = q.next;
+        c += 1;
+    }
+    true
+}
+
+// Check 6.
+pub fn trees_right(count: u32, words: &[u32]) -> bool
+    requires { ⌜ endsRight (readPatterns count (now words)) ≡ true ⌝ }
+    ensures { λ r. ⌜ r ≡ all treeRight (patterns count (now (words .entry))) ⌝ }
+{
+    let mut at = 0;
+    let mut left = count;
+    while 0 < left {
+        if !tree_right(words, at) {
+            return false;
+        }
+        at = supernode_tree::pattern_next(words, at);
+        left -= 1;
+    }
+    true
+}
+
+// ---- check 7: snodes
+
+// No snode is empty.
+fn snodes_filled(words: &[u32], first: usize, count: u32) -> bool
+    requires { ⌜ Whole (now words) first count ⌝ }
+    ensures { λ r. ⌜ r ≡ all (λ c. not (eqb (length (c .snode)) 0)) (cliquesFrom (now (words .entry)) first count) ⌝ }
+{
+    let mut at = first;
+    let mut left = count;
+    while 0 < left {
+        let CliqueRead::Clique(q) = Clique::read(words, at) else {
+            return false;
+        };
+        if q.snode_count == 0 {
+            return false;
+        }
+        at = q.next;
+        left -= 1;
+    }
+    true
+}
+
+// How many numbers the snodes hold.
+fn snode_total(words: &[u32], first: usize, count: u32) -> usize
+    requires { ⌜ Whole (now words) first count ⌝ }
+    ensures { λ r. ⌜ r ≡ length (snodesOf (cliquesFrom (now (words .entry)) first count)) ⌝ }
+{
+    let mut total = 0;
+    let mut at = first;
+    let mut left = count;
+    while 0 < left {
+        let CliqueRead::Clique(q) = Clique::read(words, at) else {
+            return 0;
+        };
+        total += q.snode_count;
+        at = q.next;
+        left -= 1;
+    }
+    total
+}
+
+// No number of the window stands twice in the snodes.
+fn snodes_once_within(
+    words: &[u32],
+    first: usize,
+    count: u32,
+    low: usize,
+    marks: &mut [bool],
+) -> bool
+    requires { ⌜ Whole (now words) first count ⌝ }
+    ensures { λ r. ⌜ r ≡ distinct (keep (within low (length (now (marks .entry)))) (snodesOf (cliquesFrom (now (words .entry)) first count))) ⌝ }
+{
+    utils::clear(&mut *marks);
+    let mut at = first;
+    let mut left = count;
+    while 0 < left {
+        let CliqueRead::Clique(q) = Clique::read(words, at) else {
+            return false;
+        };
+        let a = q.snode;
+        let e = q.separator;
+        if !utils::mark(&words[a..e], low, &mut *marks) {
+            return false;
+        }
+        at = q.next;
+        left -= 1;
+    }
+    true
+}
+
+// Each number of the snodes is below n.
+fn snodes_below(words: &[u32], first: usize, count: u32, n: usize) -> bool
+    requires { ⌜ Whole (now words) first count ⌝ }
+    ensures { λ r. ⌜ r ≡ all (λ x. ltb x n) (snodesOf (cliquesFrom (now (words .entry)) first count)) ⌝ }
+{
+    let mut at = first;
+    let mut left = count;
+    while 0 < left {
+        let CliqueRead::Clique(q) = Clique::read(words, at) else {
+            return false;
+        };
+        let a = q.snode;
+        let e = q.separator;
+        if !utils::all_below(&words[a..e], n) {
+            return false;
+        }
+        at = q.next;
+        left -= 1;
+    }
+    true
+}
+
+// The snodes hold each number below their count once, window by window.
+fn snodes_permute_by(words: &[u32], first: usize, count: u32, n: usize, marks: &mut [bool]) -> bool
+    requires { ⌜ Whole (now words) first count ⌝ }
+    requires { ⌜ n ≡ length (snodesOf (cliquesFrom (now words) first count)) ⌝ }
+    requires { ⌜ 0 < length (now marks) ⌝ }
+    ensures { λ r. ⌜ r ≡ isPermutation (snodesOf (cliquesFrom (now (words .entry)) first count)) ⌝ }
+{
+    if !snodes_below(words, first, count, n) {
+        return false;
+    }
+    let mut low = 0;
+    loop {
+        if !snodes_once_within(words, first, count, low, &mut *marks) {
+            return false;
+        }
+        if n - low <= marks.len() {
+            return true;
+        }
+        low += marks.len();
+    }
+}
+
+// ---- check 7: separators
+
+// A separator repeats no member, and its parent's clique, whose members stand at m, holds each.
+fn separator_right(words: &[u32], q: Clique, m: Members, n: usize, marks: &mut [bool]) -> bool
+    requires { ⌜ (q .separator ≤ q .next) × (q .next ≤ length (now words)) ⌝ }
+    requires { ⌜ (m .start ≤ m .end) × (m .end ≤ length (now words)) ⌝ }
+    requires { ⌜ 0 < length (now marks) ⌝ }
+    ensures { λ r. ⌜ r ≡ onceIn (take (m .end - m .start) (drop (m .start) (now (words .entry)))) (take (q .next - q .separator) (drop (q .separator) (now (words .entry)))) ⌝ }
+{
+    let a = q.separator;
+    let e = q.next;
+    let b = m.start;
+    let f = m.end;
+    vertex_set::once_in(&words[a..e], &words[b..f], n, marks)
+}
+
+fn separators_by(
+    words: &[u32],
+    first: usize,
+    count: u32,
+    n: usize,
+    step: u32,
+    offsets: &[usize],
+    marks: &mut [bool],
+) -> bool
+    requires { ⌜ Whole (now words) first count ⌝ }
+    requires { ⌜ (0 < step) × (count ≤ length (now offsets) * step) ⌝ }
+    requires { ⌜ OffsetsEvery step (now words) first count (now offsets) ⌝ }
+    requires { ⌜ 0 < length (now marks) ⌝ }
+    ensures { λ r. ⌜ r ≡ separatorsOk (cliquesFrom (now (words .entry)) first count) ⌝ }
+{
+    let mut at = first;
+    let mut left = count;
+    while 0 < left {
+        let CliqueRead::Clique(q) = Clique::read(words, at) else {
+            return false;
+        };
+        let m = supernode_tree::members_by(words, first, count, step, offsets, q.parent);
+        if !separator_right(words, q, m, n, &mut *marks) {
+            return false;
+        }
+        at = q.next;
+        left -= 1;
+    }
+    true
+}
+
+// Each separator, with a table of offsets in which to find the parents.
+fn separators_right(
+    words: &[u32],
+    first: usize,
+    count: u32,
+    n: usize,
+    marks: &mut [bool],
+    offsets: &mut [usize],
+) -> bool
+    requires { ⌜ Whole (now words) first count ⌝ }
+    requires { ⌜ (0 < length (now marks)) × (256 ≤ length (now offsets)) ⌝ }
+    ensures { λ r. ⌜ r ≡ separatorsOk (cliquesFrom (now (words .entry)) first count) ⌝ }
+{
+    let step = (count as usize / offsets.len() + 1) as u32;
+    supernode_tree::offsets_every(words, first, count, step, &mut *offsets);
+    separators_by(words, first, count, n, step, offsets, marks)
+}
+
+// ---- check 7
+
+// The snodes hold each number below their count n once, and each separator is right.
+fn members_right_by(
+    words: &[u32],
+    first: usize,
+    count: u32,
+    n: usize,
+    marks: &mut [bool],
+    offsets: &mut [usize],
+) -> bool
+    requires { ⌜ Whole (now words) first count ⌝ }
+    requires { ⌜ n ≡ length (snodesOf (cliquesFrom (now words) first count)) ⌝ }
+    requires { ⌜ (0 < length (now marks)) × (256 ≤ length (now offsets)) ⌝ }
+    ensures { λ r. ⌜ r ≡ (isPermutation (snodesOf (cliquesFrom (now (words .entry)) first count)) && separatorsOk (cliquesFrom (now (words .entry)) first count)) ⌝ }
+{
+    if !snodes_permute_by(words, first, count, n, &mut *marks) {
+        return false;
+    }
+    separators_right(words, first, count, n, marks, offsets)
+}
+
+fn members_right(words: &[u32], first: usize, count: u32, n: usize) -> bool
+    requires { ⌜ Whole (now words) first count ⌝ }
+    requires { ⌜ n ≡ length (snodesOf (cliquesFrom (now words) first count)) ⌝ }
+    ensures { λ r. ⌜ r ≡ (isPermutation (snodesOf (cliquesFrom (now (words .entry)) first count)) && separatorsOk (cliquesFrom (now (words .entry)) first count)) ⌝ }
+{
+    if n <= 256 {
+        let mut few = [false; 256];
+        let mut near = [0usize; 256];
+        return members_right_by(words, first, count, n, &mut few, &mut near);
+    }
+    let mut marks = [false; 65536];
+    let mut offsets = [0usize; 4096];
+    members_right_by(words, first, count, n, &mut marks, &mut offsets)
+}
+
+// Check 7 of the pattern at an offset; words that end early are refused.
+pub fn cliques_right(words: &[u32], at: usize) -> bool
+    ensures { λ r. ⌜ r ≡ cliquesRight (patternAt (now (words .entry)) at) ⌝ }
+{
+    let PatternRead::Pattern(p) = Pattern::read(words, at) else {
+        return false;
+    };
+    let first = p.cliques;
+    let count = p.clique_count;
+    if !supernode_tree::cliques_whole(words, first, count) {
+        return false;
+    }
+    if !snodes_filled(words, first, count) {
+        return false;
+    }
+    let n = snode_total(words, first, count);
+    if n != p.vertex_count {
+        return false;
+    }
+    members_right(words, first, count, n)
+}
+
+// Check 7.
+pub fn all_cliques_right(count: u32, words: &[u32]) -> bool
+    requires { ⌜ endsRight (readPatterns count (now words)) ≡ true ⌝ }
+    ensures { λ r. ⌜ r ≡ all cliquesRight (patterns count (now (words .entry))) ⌝ }
+{
+    let mut at = 0;
+    let mut left = count;
+    while 0 < left {
+        if !cliques_right(words, at) {
+            return false;
+        }
+        at = supernode_tree::pattern_next(words, at);
+        left -= 1;
+    }
+    true
+}

@@ -1,0 +1,36 @@
+-- Check 5 as walks over the patterns.
+use Prim.Native.Nat.{ℕ, suc, _+_, _*_, _≤_, _<_}
+use native.Mathlib.Omega.{arith}
+use mathlib.Core.Bool.{Bool, true, false, _&&_}
+use mathlib.Core.Path.{_≡_, refl, ap, _∙_}
+use mathlib.Core.List.{List, [], _∷_}
+use lib.ListN.{length, getD}
+use lib.Dec.{leb, ltb, eqb}
+use borrow.Author.Tests.{lt-ltb, le-ltb, le-leb}
+use Rattle.layout.specs.Lists.{all, rises}
+
+-- ---- tests of each
+
+pub all-both : {A : Type 0} (f g : A → Bool) (xs : List A) → all (λ x. f x && g x) xs ≡ (all f xs && all g xs)
+all-both f g [] = refl
+all-both f g (x ∷ xs) = rw (all-both f g xs) (go (f x) (g x) (all f xs) (all g xs))
+  where
+    go : (a b c d : Bool) → ((a && b) && (c && d)) ≡ ((a && c) && (b && d))
+    go true true c d = refl
+    go true false true d = refl
+    go true false false d = refl
+    go false b c d = refl
+
+-- ---- rising numbers, none of them below the least
+
+abbrev pub risesFrom : ℕ → List ℕ → Bool
+risesFrom least [] = true
+risesFrom least (x ∷ xs) = leb least x && risesFrom (suc x) xs
+
+rises-after : (x : ℕ) (xs : List ℕ) → rises (x ∷ xs) ≡ risesFrom (suc x) xs
+rises-after x [] = refl
+rises-after x (y ∷ ys) = ap (λ (b : Bool). ltb x y && b) (rises-after y ys)
+
+pub rises-start : (xs : List ℕ) → rises xs ≡ risesFrom 0 xs
+rises-start [] = refl
+rises-start (x ∷ xs) = rises-after x xs ∙ rw (le-leb 0 x (omega arith))

@@ -1,0 +1,79 @@
+// Check 5: pattern words end right, name their PSD cones in order, and their orderings are permutations.
+ghost use mathlib.Core.Path.{_≡_};
+ghost use mathlib.Core.Bool.{true};
+ghost use lib.ListN.{drop};
+ghost use Rattle.layout.specs.Lists.{all};
+ghost use Rattle.layout.specs.Checks.{originsRise, patternsRead};
+ghost use Rattle.layout.specs.Patterns.{readPattern, readPatterns, patterns, endsRight};
+ghost use Rattle.supernode_tree.specs.Reads.{whole, patternAt};
+ghost use Rattle.sparsity_pattern.specs.Sparsity.{patternRight};
+use supernode_tree::Pattern;
+use supernode_tree::PatternRead;
+
+// Each orig_index is above the one before it.
+fn origins_rise(count: u32, words: &[u32]) -> bool
+    requires { ⌜ endsRight (readPatterns count (now words)) ≡ true ⌝ }
+    ensures { λ r. ⌜ r ≡ originsRise (patterns count (now (words .entry))) ⌝ }
+{
+    let mut least: u64 = 0;
+    let mut at = 0;
+    let mut left = count;
+    while 0 < left {
+        let PatternRead::Pattern(p) = Pattern::read(words, at) else {
+            return false;
+        };
+        let origin = p.orig_index as u64;
+        if origin < least {
+            return false;
+        }
+        least = origin + 1;
+        at = supernode_tree::pattern_next(words, at);
+        left -= 1;
+    }
+    true
+}
+
+// The pattern at an offset names a PSD cone of its dimension, and its ordering is a permutation.
+fn pattern_right(cones: &[u32], words: &[u32], at: usize) -> bool
+    requires { ⌜ whole (readPattern (drop at (now words))) ≡ true ⌝ }
+    ensures { λ r. ⌜ r ≡ patternRight (now (cones .entry)) (patternAt (now (words .entry)) at) ⌝ }
+{
+    let PatternRead::Pattern(p) = Pattern::read(words, at) else {
+        return false;
+    };
+    if !supportedcone::is_psd_of(cones, p.orig_index as usize, p.vertex_count) {
+        return false;
+    }
+    let a = p.ordering;
+    let e = p.cliques;
+    utils::is_permutation(&words[a..e])
+}
+
+fn patterns_right(cones: &[u32], count: u32, words: &[u32]) -> bool
+    requires { ⌜ endsRight (readPatterns count (now words)) ≡ true ⌝ }
+    ensures { λ r. ⌜ r ≡ all (patternRight (now (cones .entry))) (patterns count (now (words .entry))) ⌝ }
+{
+    let mut at = 0;
+    let mut left = count;
+    while 0 < left {
+        if !pattern_right(cones, words, at) {
+            return false;
+        }
+        at = supernode_tree::pattern_next(words, at);
+        left -= 1;
+    }
+    true
+}
+
+// Check 5. Words that end early are found before any of their counts is used.
+pub fn check_patterns(cones: &[u32], count: u32, words: &[u32]) -> bool
+    ensures { λ r. ⌜ r ≡ patternsRead (now (cones .entry)) count (now (words .entry)) ⌝ }
+{
+    if !supernode_tree::patterns_end(count, words) {
+        return false;
+    }
+    if !origins_rise(count, words) {
+        return false;
+    }
+    patterns_right(cones, count, words)
+}

@@ -1,0 +1,128 @@
+-- Walking k cliques from an offset on.
+use Prim.Native.Nat.{ℕ, zero, suc, _+_, _-_, _≤_, _<_}
+use native.Mathlib.Omega.{arith}
+use mathlib.Core.Bool.{Bool, true, false, _&&_}
+use mathlib.Core.Path.{_≡_, refl, sym, ap, subst, _∙_}
+use mathlib.Core.List.{List, [], _∷_}
+use lib.ListN.{length, getD, take, drop}
+use Rattle.layout.specs.Patterns.{Read, read, short, andThen, Head, readHead, withCliques, readClique, readCliques, readPattern, Clique, Pattern, noPattern, members, blockSize}
+use Rattle.layout.specs.Lists.{all}
+use Rattle.layout.specs.Checks.{treeRight}
+use lib.Dec.{T}
+use Rattle.supernode_tree.specs.Reads.{whole, Whole, rest, cliquesFrom, valueOr, cliqueOf, cliqueRead, CliqueInside, patternAt}
+use Rattle.supernode_tree.specs.declared.Clique.{Clique as CliqueAt}
+use Rattle.supernode_tree.specs.declared.CliqueRead.{CliqueRead}
+use Rattle.supernode_tree.specs.declared.CliqueRead.the-variants.{Clique as Found, Short}
+use Rattle.supernode_tree.proofs.Words.{clique-found, part-part, length-part}
+use Rattle.supernode_tree.proofs.Many.{many-short, many-whole, many-rest, many-value}
+use Rattle.utils.proofs.Tests.{differ, and-cases}
+
+module _ (ws : List ℕ) (at k : ℕ) (r : CliqueRead) (e : cliqueRead ws r ≡ readClique (drop at ws)) (more : 0 < k) where
+  pub none-here : r ≡ Short → whole (readCliques k (drop at ws)) ≡ false
+  none-here f = many-short readClique k (drop at ws) more (sym e ∙ ap (cliqueRead ws) f)
+
+  pub whole-next : (q : CliqueAt) → r ≡ Found q → whole (readCliques k (drop at ws)) ≡ whole (readCliques (k - 1) (drop (q .next) ws))
+  whole-next q f = many-whole readClique k (drop at ws) more (cliqueOf ws q) (drop (q .next) ws) (clique-found ws at r q e f)
+
+  pub rest-next : (q : CliqueAt) → r ≡ Found q → rest (readCliques k (drop at ws)) ≡ rest (readCliques (k - 1) (drop (q .next) ws))
+  rest-next q f = many-rest readClique k (drop at ws) more (cliqueOf ws q) (drop (q .next) ws) (clique-found ws at r q e f)
+
+  pub from-next : (q : CliqueAt) → r ≡ Found q → Whole ws at k → cliquesFrom ws at k ≡ cliqueOf ws q ∷ cliquesFrom ws (q .next) (k - 1)
+  from-next q f h = many-value readClique k (drop at ws) more (cliqueOf ws q) (drop (q .next) ws) (clique-found ws at r q e f) h
+
+  -- a test of each: b is the first clique's
+  module _ (q : CliqueAt) (found : r ≡ Found q) (w : Whole ws at k) (f : Clique → Bool) (x b : Bool) (so : x ≡ all f (cliquesFrom ws at k)) (same : b ≡ f (cliqueOf ws q)) where
+    cases : (b ≡ false → x ≡ false) × (b ≡ true → x ≡ all f (cliquesFrom ws (q .next) (k - 1)))
+    cases =
+        and-cases b (all f (cliquesFrom ws (q .next) (k - 1))) x
+        (so ∙ ap (all f) (from-next q found w) ∙ ap (λ (c : Bool). c && all f (cliquesFrom ws (q .next) (k - 1))) (sym same))
+
+    pub clique-stops : b ≡ false → x ≡ false
+    clique-stops = cases .0
+
+    pub clique-goes : b ≡ true → x ≡ all f (cliquesFrom ws (q .next) (k - 1))
+    clique-goes = cases .1
+
+-- none are left
+pub from-none : (ws : List ℕ) (at k : ℕ) → k ≤ 0 → cliquesFrom ws at k ≡ []
+from-none ws at k h = let e : k ≡ 0 = omega arith in ap (λ (n : ℕ). cliquesFrom ws at n) e
+
+pub whole-none : (ws : List ℕ) (at k : ℕ) → k ≤ 0 → whole (readCliques k (drop at ws)) ≡ true
+whole-none ws at k h = let e : k ≡ 0 = omega arith in ap (λ (n : ℕ). whole (readCliques n (drop at ws))) e
+
+-- the parts of a found clique as parts between offsets
+module _ (ws : List ℕ) (at : ℕ) (q : CliqueAt) (in-words : CliqueInside (length ws) at (Found q)) where
+  pub snode-part : take (q .separator - q .snode) (drop (q .snode) ws) ≡ cliqueOf ws q .snode
+  snode-part = let e : q .separator - q .snode ≡ q .«snode_count» = omega arith in ap (λ (n : ℕ). take n (drop (q .snode) ws)) e
+
+  pub separator-part : take (q .next - q .separator) (drop (q .separator) ws) ≡ cliqueOf ws q .separator
+  separator-part = let e : q .next - q .separator ≡ q .«separator_count» = omega arith in ap (λ (n : ℕ). take n (drop (q .separator) ws)) e
+
+  pub members-part : take (q .next - q .snode) (drop (q .snode) ws) ≡ members (cliqueOf ws q)
+  members-part = sym (part-part ws (q .snode) (q .separator) (q .next) (omega arith) (omega arith)) ∙ rw (snode-part, separator-part)
+
+  pub separator-size : length (cliqueOf ws q .separator) ≡ q .«separator_count»
+  separator-size = length-part (q .separator) (q .«separator_count») ws (omega arith)
+
+  pub block-size : blockSize (cliqueOf ws q) ≡ q .«snode_count» + q .«separator_count»
+  block-size = omega (arith, length-part (q .snode) (q .«snode_count») ws (omega arith), separator-size)
+
+-- ---- the pattern at an offset by its head and its cliques
+
+module _ (ws : List ℕ) (at : ℕ) where
+  pub no-head : readHead (drop at ws) ≡ short → patternAt ws at ≡ noPattern
+  no-head e = rw e
+
+  module _ (h : Head) (first : ℕ) (e : readHead (drop at ws) ≡ read h (drop first ws)) where
+    pub no-cliques : whole (readCliques (h .cliqueCount) (drop first ws)) ≡ false → patternAt ws at ≡ noPattern
+    no-cliques w = rw e (go (readCliques (h .cliqueCount) (drop first ws)) w)
+      where
+        go : (r : Read (List Clique)) → whole r ≡ false → valueOr noPattern (andThen r (λ cs left. read (withCliques h cs) left)) ≡ noPattern
+        go (read cs left) w = absurd (differ true refl w)
+        go short w = refl
+
+    pub pattern-whole : Whole ws first (h .cliqueCount) → patternAt ws at ≡ withCliques h (cliquesFrom ws first (h .cliqueCount))
+    pattern-whole w = rw e (go (readCliques (h .cliqueCount) (drop first ws)) w)
+      where
+        go : (r : Read (List Clique)) → whole r ≡ true → valueOr noPattern (andThen r (λ cs left. read (withCliques h cs) left)) ≡ withCliques h (valueOr [] r)
+        go (read cs left) w = refl
+        go short w = absurd (differ false w refl)
+
+    -- a pattern that passes check 6 is whole
+    pub right-whole : T (treeRight (patternAt ws at)) → Whole ws first (h .cliqueCount)
+    right-whole t = go (whole (readCliques (h .cliqueCount) (drop first ws))) refl
+      where
+        go : (b : Bool) → whole (readCliques (h .cliqueCount) (drop first ws)) ≡ b → b ≡ true
+        go true q = refl
+        go false q = absurd (subst (λ (p : Pattern). T (treeRight p)) (no-cliques q) t)
+
+pub rest-none : (ws : List ℕ) (at k : ℕ) → k ≤ 0 → rest (readCliques k (drop at ws)) ≡ drop at ws
+rest-none ws at k h = let e : k ≡ 0 = omega arith in ap (λ (n : ℕ). rest (readCliques n (drop at ws))) e
+
+-- a pattern is whole where its head and its cliques are
+module _ (ws : List ℕ) (h : Head) (left : List ℕ) (e : readHead ws ≡ read h left) where
+  pub cliques-of-whole : whole (readPattern ws) ≡ true → whole (readCliques (h .cliqueCount) left) ≡ true
+  cliques-of-whole w = go (readCliques (h .cliqueCount) left) (rw e at w)
+    where
+      go : (r : Read (List Clique)) → whole (andThen r (λ cs end. read (withCliques h cs) end)) ≡ true → whole r ≡ true
+      go (read cs end) w = refl
+      go short w = w
+
+  pub rest-of-cliques : rest (readPattern ws) ≡ rest (readCliques (h .cliqueCount) left)
+  rest-of-cliques = rw e (go (readCliques (h .cliqueCount) left))
+    where
+      go : (r : Read (List Clique)) → rest (andThen r (λ cs end. read (withCliques h cs) end)) ≡ rest r
+      go (read cs end) = refl
+      go short = refl
+
+pub no-pattern-whole : (ws : List ℕ) → readHead ws ≡ short → whole (readPattern ws) ≡ false
+no-pattern-whole ws e = rw e
+
+pub getD-later : {A : Type 0} (x : A) (xs : List A) (k : ℕ) (d : A) → (k ≡ 0 → ⊥) → getD (x ∷ xs) k d ≡ getD xs (k - 1) d
+getD-later x xs zero d h = absurd (h refl)
+getD-later x xs (suc k) d h = let e : k ≡ suc k - 1 = omega arith in ap (λ (n : ℕ). getD xs n d) e
+
+-- a whole pattern by its head
+pub pattern-head : (ws : List ℕ) (at : ℕ) (h : Head) (first : ℕ) → readHead (drop at ws) ≡ read h (drop first ws)
+    → whole (readPattern (drop at ws)) ≡ true → patternAt ws at ≡ withCliques h (cliquesFrom ws first (h .cliqueCount))
+pattern-head ws at h first e w = pattern-whole ws at h first e (cliques-of-whole (drop at ws) h (drop first ws) e w)

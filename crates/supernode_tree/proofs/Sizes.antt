@@ -1,0 +1,55 @@
+-- Block sizes: sums over cliques walked, and the bounds of a pattern that passed the checks.
+use Prim.Native.Nat.{ℕ, _+_, _≤_, _<_}
+use native.Mathlib.Omega.{arith}
+use mathlib.Core.Bool.{Bool, true}
+use mathlib.Core.Path.{_≡_, sym, ap, _∙_}
+use mathlib.Core.List.{List, [], _∷_, map}
+use lib.ListN.{length, length-append}
+use lib.Dec.{T, leb, le→leb}
+use Rattle.layout.specs.Lists.{all, sum, below}
+use Rattle.layout.specs.Triangle.{triangle}
+use Rattle.layout.specs.Patterns.{Clique, Pattern, noClique, blockSize, members, cliqueAt, cliqueCount}
+use Rattle.layout.proofs.Tests.{and-iff}
+use Rattle.layout.proofs.Triangles.{triangle-mono}
+use Rattle.layout.proofs.Members.{all-at, has-below, length-below}
+use Rattle.layout.proofs.Distinct.{distinct-length}
+use Rattle.layout.specs.Checks.{RightPattern}
+use Rattle.layout.proofs.Cliques.{clique-distinct, clique-vertices}
+use Rattle.utils.proofs.Tests.{passed, passes}
+
+-- a block's rows, and the overlaps among them
+abbrev pub rowsOf : Clique → ℕ
+rowsOf c = triangle (blockSize c)
+
+abbrev pub overlapsOf : Clique → ℕ
+overlapsOf c = triangle (length (c .separator))
+
+abbrev pub atMost : ℕ → Clique → Bool
+atMost n c = leb (blockSize c) n
+
+pub triangle-small : (k : ℕ) → k ≤ 256 → triangle k ≤ 32896
+triangle-small k l = triangle-mono k 256 l
+
+-- the blocks of a pattern that passed the checks are no larger than its cone
+pub blocks-small : (p : Pattern) (n : ℕ) → RightPattern p → p .vertexCount ≤ n → all (atMost n) (p .cliques) ≡ true
+blocks-small p n ok l = passed _ (all-at noClique (atMost n) (p .cliques) .1 (λ c i. le→leb (blockSize (cliqueAt p c)) n (small c i)))
+  where
+    small : (c : ℕ) → c < cliqueCount p → blockSize (cliqueAt p c) ≤ n
+    small c i =
+        let us = members (cliqueAt p c) in
+        let h : length us ≤ length (below (p .vertexCount)) =
+        distinct-length us (below (p .vertexCount)) (clique-distinct p ok c i) (λ u m. has-below u (p .vertexCount) .1 (clique-vertices p ok c i u m)) in
+        omega (arith, length-append (cliqueAt p c .snode) (cliqueAt p c .separator), length-below (p .vertexCount))
+
+-- one clique, and those after it
+pub all-cons : (f : Clique → Bool) (q : Clique) (cs ds : List Clique) → ds ≡ q ∷ cs → all f ds ≡ true → (f q ≡ true) × (all f cs ≡ true)
+all-cons f q cs ds e h =
+    let k : T (f q) × T (all f cs) = and-iff (f q) (all f cs) .0 (passes _ (sym (ap (all f) e) ∙ h)) in
+    (passed (f q) (k .0), passed (all f cs) (k .1))
+
+-- what is summed, and what is left to sum
+pub sum-cons : (f : Clique → ℕ) (q : Clique) (cs ds : List Clique) (n t s : ℕ) → ds ≡ q ∷ cs → t ≡ f q → n + sum (map f ds) ≡ s → n + t + sum (map f cs) ≡ s
+sum-cons f q cs ds n t s e g h = let k : sum (map f ds) ≡ f q + sum (map f cs) = ap (λ (l : List Clique). sum (map f l)) e in omega arith
+
+pub sum-none : (f : Clique → ℕ) (ds : List Clique) (n s : ℕ) → ds ≡ [] → n + sum (map f ds) ≡ s → n ≡ s
+sum-none f ds n s e h = let k : sum (map f ds) ≡ 0 = ap (λ (l : List Clique). sum (map f l)) e in omega arith

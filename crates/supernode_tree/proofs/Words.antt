@@ -1,0 +1,162 @@
+-- Reading words from an offset on: `readMembers`, `readClique` of `drop at ws`.
+use Prim.Native.Nat.{ℕ, suc, _+_, _-_, _≤_, _<_}
+use native.Mathlib.Numerals.{add-one}
+use native.Mathlib.Omega.{arith}
+use mathlib.Core.Bool.{false}
+use mathlib.Core.Path.{_≡_, refl, sym, ap, _∙_}
+use mathlib.Core.List.{List, [], _∷_, _++_}
+use lib.ListN.{length, getD, take, drop, length-drop}
+use lib.Seq.{drop-cons, drop-drop, take-add, length-take-le}
+use lib.Dec.{eqb}
+use borrow.Author.Tests.{le-leb, lt-leb, eq-eqb, ne-eqb}
+use Rattle.layout.specs.Patterns.{Read, read, short, andThen, Head, readHead, withCliques, readMembers, readClique, readCliques, readPatterns, endsRight, Clique, Pattern}
+use Rattle.supernode_tree.specs.Reads.{headOf, patternRead, cliqueOf, cliqueRead}
+use Rattle.supernode_tree.specs.declared.Clique.{Clique as CliqueAt}
+use Rattle.supernode_tree.specs.declared.CliqueRead.{CliqueRead}
+use Rattle.supernode_tree.specs.declared.CliqueRead.the-variants.{Clique as FoundClique}
+use Rattle.supernode_tree.specs.declared.Pattern.{Pattern as PatternAt}
+use Rattle.supernode_tree.specs.declared.PatternRead.{PatternRead}
+use Rattle.supernode_tree.specs.declared.PatternRead.the-variants.{Pattern as FoundPattern}
+
+pub drop-next : (ws : List ℕ) (at next : ℕ) → at + 1 ≡ next → at < length ws → drop at ws ≡ getD ws at 0 ∷ drop next ws
+drop-next ws at next e h = rw (← e, add-one, drop-cons ws at 0)
+
+pub drop-three : (ws : List ℕ) (at : ℕ) → at + 3 ≤ length ws
+    → drop at ws ≡ getD ws at 0 ∷ getD ws (at + 1) 0 ∷ getD ws (at + 2) 0 ∷ drop (at + 3) ws
+drop-three ws at h =
+    drop-next ws at (at + 1) refl (omega arith)
+    ∙ ap (λ (l : List ℕ). getD ws at 0 ∷ l) (drop-next ws (at + 1) (at + 2) (omega arith) (omega arith)
+    ∙ ap (λ (l : List ℕ). getD ws (at + 1) 0 ∷ l) (drop-next ws (at + 2) (at + 3) (omega arith) (omega arith)))
+
+pub members-read : (k at : ℕ) (ws : List ℕ) → at + k ≤ length ws
+    → readMembers k (drop at ws) ≡ read (take k (drop at ws)) (drop (at + k) ws)
+members-read k at ws h = rw (length-drop at ws, le-leb k (length ws - at) (omega arith), drop-drop k at ws)
+
+pub members-short : (k at : ℕ) (ws : List ℕ) → length ws - at < k → readMembers k (drop at ws) ≡ short
+members-short k at ws h = rw (length-drop at ws, lt-leb k (length ws - at) h)
+
+few-words : (ws : List ℕ) → length ws < 3 → readClique ws ≡ short
+few-words [] h = refl
+few-words (p ∷ []) h = refl
+few-words (p ∷ a ∷ []) h = refl
+few-words (p ∷ a ∷ e ∷ ws) h = absurd (omega arith)
+
+pub clique-short : (ws : List ℕ) (at : ℕ) → length ws < at + 3 → readClique (drop at ws) ≡ short
+clique-short ws at h = few-words (drop at ws) (omega (arith, length-drop at ws))
+
+pub clique-short-snode : (ws : List ℕ) (at : ℕ) → at + 3 ≤ length ws → length ws - (at + 3) < getD ws (at + 1) 0
+    → readClique (drop at ws) ≡ short
+clique-short-snode ws at h s = rw (drop-three ws at h, members-short (getD ws (at + 1) 0) (at + 3) ws s)
+
+pub clique-short-separator : (ws : List ℕ) (at : ℕ) → at + 3 + getD ws (at + 1) 0 ≤ length ws
+    → length ws - (at + 3 + getD ws (at + 1) 0) < getD ws (at + 2) 0 → readClique (drop at ws) ≡ short
+clique-short-separator ws at h s =
+    rw (
+      drop-three ws at (omega arith),
+      members-read (getD ws (at + 1) 0) (at + 3) ws h,
+      members-short (getD ws (at + 2) 0) (at + 3 + getD ws (at + 1) 0) ws s,
+    )
+
+pub clique-whole : (ws : List ℕ) (at : ℕ) → at + 3 + getD ws (at + 1) 0 + getD ws (at + 2) 0 ≤ length ws
+    → readClique (drop at ws) ≡ read (record {
+      parent = getD ws at 0;
+      snode = take (getD ws (at + 1) 0) (drop (at + 3) ws);
+      separator = take (getD ws (at + 2) 0) (drop (at + 3 + getD ws (at + 1) 0) ws);
+    }) (drop (at + 3 + getD ws (at + 1) 0 + getD ws (at + 2) 0) ws)
+clique-whole ws at h =
+    rw (
+      drop-three ws at (omega arith),
+      members-read (getD ws (at + 1) 0) (at + 3) ws (omega arith),
+      members-read (getD ws (at + 2) 0) (at + 3 + getD ws (at + 1) 0) ws h,
+    )
+
+-- ---- heads
+
+few-head-words : (ws : List ℕ) → length ws < 3 → readHead ws ≡ short
+few-head-words [] h = refl
+few-head-words (p ∷ []) h = refl
+few-head-words (p ∷ a ∷ []) h = refl
+few-head-words (p ∷ a ∷ e ∷ ws) h = absurd (omega arith)
+
+pub head-short : (ws : List ℕ) (at : ℕ) → length ws < at + 3 → readHead (drop at ws) ≡ short
+head-short ws at h = few-head-words (drop at ws) (omega (arith, length-drop at ws))
+
+pub head-short-ordering : (ws : List ℕ) (at : ℕ) → at + 3 ≤ length ws → length ws - (at + 3) < getD ws (at + 1) 0
+    → readHead (drop at ws) ≡ short
+head-short-ordering ws at h s = rw (drop-three ws at h, members-short (getD ws (at + 1) 0) (at + 3) ws s)
+
+pub head-whole : (ws : List ℕ) (at : ℕ) → at + 3 + getD ws (at + 1) 0 ≤ length ws
+    → readHead (drop at ws) ≡ read (record {
+      origIndex = getD ws at 0;
+      vertexCount = getD ws (at + 1) 0;
+      cliqueCount = getD ws (at + 2) 0;
+      ordering = take (getD ws (at + 1) 0) (drop (at + 3) ws);
+    }) (drop (at + 3 + getD ws (at + 1) 0) ws)
+head-whole ws at h = rw (drop-three ws at (omega arith), members-read (getD ws (at + 1) 0) (at + 3) ws h)
+
+-- ---- one read after another
+
+module _ {A B C : Type 0} where
+  pub then-assoc : (r : Read A) (f : A → List ℕ → Read B) (g : B → List ℕ → Read C)
+      → andThen (andThen r f) g ≡ andThen r (λ a ws. andThen (f a ws) g)
+  then-assoc (read a ws) f g = refl
+  then-assoc short f g = refl
+
+module _ {A B : Type 0} where
+  -- whether words end right does not depend on what is made of the parts read
+  pub ends-made : (r : Read A) (f : A → B) → endsRight (andThen r (λ a ws. read (f a) ws)) ≡ endsRight r
+  ends-made (read a []) f = refl
+  ends-made (read a (w ∷ ws)) f = refl
+  ends-made short f = refl
+
+-- j cliques, then n patterns
+abbrev pub cliquesThen : ℕ → ℕ → List ℕ → Read (List Pattern)
+cliquesThen j n ws = andThen (readCliques j ws) (λ cs left. readPatterns n left)
+
+pub patterns-short : (n : ℕ) (ws : List ℕ) → readHead ws ≡ short → endsRight (readPatterns (suc n) ws) ≡ false
+patterns-short n ws e = rw e
+
+pub patterns-step : (n : ℕ) (ws rest : List ℕ) (h : Head) → readHead ws ≡ read h rest
+    → endsRight (readPatterns (suc n) ws) ≡ endsRight (cliquesThen (h .cliqueCount) n rest)
+patterns-step n ws rest h e = rw e (go (readCliques (h .cliqueCount) rest))
+  where
+    go : (r : Read (List Clique))
+        → endsRight (andThen (andThen r (λ cs left. read (withCliques h cs) left)) (λ p left. andThen (readPatterns n left) (λ ps end. read (p ∷ ps) end)))
+        ≡ endsRight (andThen r (λ cs left. readPatterns n left))
+    go (read cs left) = ends-made (readPatterns n left) (λ ps. withCliques h cs ∷ ps)
+    go short = refl
+
+pub cliques-short : (j n : ℕ) (ws : List ℕ) → readClique ws ≡ short → endsRight (cliquesThen (suc j) n ws) ≡ false
+cliques-short j n ws e = rw e
+
+pub cliques-step : (j n : ℕ) (ws rest : List ℕ) (q : Clique) → readClique ws ≡ read q rest
+    → cliquesThen (suc j) n ws ≡ cliquesThen j n rest
+cliques-step j n ws rest q e = rw e (then-assoc (readCliques j rest) _ _)
+
+-- all is read: the words end where the offset stands
+pub ends-at : {A : Type 0} (a : A) (ws : List ℕ) (at : ℕ) → at ≤ length ws → endsRight (read a (drop at ws)) ≡ eqb at (length ws)
+ends-at a ws at h = go (drop at ws) (length-drop at ws)
+  where
+    go : (l : List ℕ) → length l ≡ length ws - at → endsRight (read a l) ≡ eqb at (length ws)
+    go [] e = sym (eq-eqb at (length ws) (omega arith))
+    go (w ∷ l) e = sym (ne-eqb at (length ws) (λ q. omega arith))
+
+-- the words at a found clique, and after it
+pub clique-found : (ws : List ℕ) (at : ℕ) (r : CliqueRead) (q : CliqueAt) → cliqueRead ws r ≡ readClique (drop at ws) → r ≡ FoundClique q
+    → readClique (drop at ws) ≡ read (cliqueOf ws q) (drop (q .next) ws)
+clique-found ws at r q e f = sym e ∙ ap (cliqueRead ws) f
+
+pub head-found : (ws : List ℕ) (at : ℕ) (r : PatternRead) (p : PatternAt) → patternRead ws r ≡ readHead (drop at ws) → r ≡ FoundPattern p
+    → readHead (drop at ws) ≡ read (headOf ws p) (drop (p .cliques) ws)
+head-found ws at r p e f = sym e ∙ ap (patternRead ws) f
+
+pub length-part : (at k : ℕ) (ws : List ℕ) → at + k ≤ length ws → length (take k (drop at ws)) ≡ k
+length-part at k ws h = length-take-le k (drop at ws) (omega (arith, length-drop at ws))
+
+-- two parts that follow each other
+pub part-part : (ws : List ℕ) (a b c : ℕ) → a ≤ b → b ≤ c → take (b - a) (drop a ws) ++ take (c - b) (drop b ws) ≡ take (c - a) (drop a ws)
+part-part ws a b c h l =
+    let e : c - a ≡ b - a + (c - b) = omega arith in
+    let f : a + (b - a) ≡ b = omega arith in
+    sym (ap (λ (n : ℕ). take n (drop a ws)) e ∙ take-add (b - a) (c - b) (drop a ws)
+    ∙ ap (λ (l : List ℕ). take (b - a) (drop a ws) ++ take (c - b) l) (drop-drop (b - a) a ws ∙ ap (λ (n : ℕ). drop n ws) f))

@@ -1,0 +1,84 @@
+-- What the offsets of a read clique stand for.
+use Prim.Native.Nat.{ℕ, _+_, _-_, _≤_}
+use mathlib.Core.Path.{_≡_}
+use mathlib.Core.Bool.{Bool, true, false}
+use mathlib.Core.List.{List, []}
+use lib.ListN.{length, take, drop}
+use Rattle.layout.specs.Patterns as P
+use Rattle.layout.specs.Patterns.{Read, read, short, Head}
+use Rattle.supernode_tree.specs.declared.Clique.{Clique}
+use Rattle.supernode_tree.specs.declared.CliqueRead.{CliqueRead}
+use Rattle.supernode_tree.specs.declared.CliqueRead.the-variants.{Clique as Found, Short}
+use Rattle.supernode_tree.specs.declared.Members.{Members}
+use Rattle.supernode_tree.specs.declared.Pattern.{Pattern}
+use Rattle.supernode_tree.specs.declared.PatternRead.{PatternRead}
+use Rattle.supernode_tree.specs.declared.PatternRead.the-variants.{Pattern as FoundP, Short as ShortP}
+
+abbrev pub cliqueOf : List ℕ → Clique → P.Clique
+cliqueOf ws c = record {
+  parent = c .parent;
+  snode = take (c .«snode_count») (drop (c .snode) ws);
+  separator = take (c .«separator_count») (drop (c .separator) ws);
+}
+
+abbrev pub cliqueRead : List ℕ → CliqueRead → Read P.Clique
+cliqueRead ws (Found c) = read (cliqueOf ws c) (drop (c .next) ws)
+cliqueRead ws Short = short
+
+-- the parts follow each other from at on, and end within n words
+abbrev pub CliqueInside : ℕ → ℕ → CliqueRead → Type 0
+CliqueInside n at (Found c) =
+    (c .snode ≡ at + 3) × (c .separator ≡ c .snode + c .«snode_count») × (c .next ≡ c .separator + c .«separator_count») × (c .next ≤ n)
+CliqueInside n at Short = Unit {0}
+
+-- ---- a pattern's head: all but its cliques
+
+abbrev pub headOf : List ℕ → Pattern → Head
+headOf ws p = record {
+  origIndex = p .«orig_index»;
+  vertexCount = p .«vertex_count»;
+  cliqueCount = p .«clique_count»;
+  ordering = take (p .«vertex_count») (drop (p .ordering) ws);
+}
+
+abbrev pub patternRead : List ℕ → PatternRead → Read Head
+patternRead ws (FoundP p) = read (headOf ws p) (drop (p .cliques) ws)
+patternRead ws ShortP = short
+
+abbrev pub PatternInside : ℕ → ℕ → PatternRead → Type 0
+PatternInside n at (FoundP p) = (p .ordering ≡ at + 3) × (p .cliques ≡ p .ordering + p .«vertex_count») × (p .cliques ≤ n)
+PatternInside n at ShortP = Unit {0}
+
+-- ---- the pattern at an offset
+
+module _ {A : Type 0} where
+  abbrev pub valueOr : A → Read A → A
+  valueOr d (read a ws) = a
+  valueOr d short = d
+
+-- words that end early read as a pattern that no check lets pass
+abbrev pub patternAt : List ℕ → ℕ → P.Pattern
+patternAt ws at = valueOr P.noPattern (P.readPattern (drop at ws))
+
+-- ---- cliques from an offset on
+
+module _ {A : Type 0} where
+  abbrev pub whole : Read A → Bool
+  whole (read a ws) = true
+  whole short = false
+
+  -- the words after it
+  abbrev pub rest : Read A → List ℕ
+  rest (read a ws) = ws
+  rest short = []
+
+-- k cliques stand whole from the offset on
+abbrev pub Whole : List ℕ → ℕ → ℕ → Type 0
+Whole ws at k = whole (P.readCliques k (drop at ws)) ≡ true
+
+abbrev pub cliquesFrom : List ℕ → ℕ → ℕ → List P.Clique
+cliquesFrom ws at k = valueOr [] (P.readCliques k (drop at ws))
+
+-- the offsets are those of a part of the words
+abbrev pub MembersOf : List ℕ → List ℕ → Members → Type 0
+MembersOf ws us m = (take (m .end - m .start) (drop (m .start) ws) ≡ us) × (m .start ≤ m .end) × (m .end ≤ length ws)

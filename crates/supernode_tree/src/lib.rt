@@ -1,0 +1,336 @@
+// Cliques and patterns read off their words, by offsets: clarabel's `SuperNodeTree` without its vectors.
+ghost use mathlib.Core.Path.{_≡_};
+ghost use Prim.Native.Nat.{_+_, _*_, _≤_, _<_};
+ghost use mathlib.Core.Bool.{true};
+ghost use mathlib.Core.List.{map};
+ghost use lib.ListN.{length, drop, getD};
+ghost use lib.Dec.{leb};
+ghost use Rattle.layout.specs.Lists.{all, sum};
+ghost use Rattle.layout.specs.Triangle.{triangle};
+ghost use Rattle.layout.specs.Patterns.{noClique, members as cliqueMembers, blockSize, readClique, readCliques, readHead, readPattern, readPatterns, endsRight};
+ghost use Rattle.layout.specs.Blocks.{blockRows};
+ghost use Rattle.layout.specs.Checks.{RightPattern};
+ghost use Rattle.supernode_tree.specs.Reads.{patternAt, rest, whole, Whole, cliquesFrom, MembersOf, cliqueRead, CliqueInside, patternRead, PatternInside};
+ghost use Rattle.supernode_tree.specs.Offsets.{OffsetsEvery, OffsetsOf};
+ghost use Rattle.supernode_tree.specs.Sizes.{overlapRows};
+
+// A clique of a pattern's words, by offsets into them.
+pub struct Clique {
+    pub parent: u32,
+    pub snode: usize,
+    pub snode_count: usize,
+    pub separator: usize,
+    pub separator_count: usize,
+    pub next: usize,
+}
+
+pub enum CliqueRead {
+    Clique(Clique),
+    Short,
+}
+
+impl Clique {
+    pub const NO_PARENT: u32 = 4294967295;
+
+    pub fn read(words: &[u32], at: usize) -> CliqueRead
+        ensures { λ r. ⌜ cliqueRead (now (words .entry)) r ≡ readClique (drop at (now (words .entry))) ⌝ }
+        ensures { λ r. ⌜ CliqueInside (length (now (words .entry))) at r ⌝ }
+    {
+        let n = words.len();
+        if n < 3 {
+            return CliqueRead::Short;
+        }
+        if n - 3 < at {
+            return CliqueRead::Short;
+        }
+        let parent = words[at];
+        let snode_count = words[at + 1] as usize;
+        let separator_count = words[at + 2] as usize;
+        let snode = at + 3;
+        if n - snode < snode_count {
+            return CliqueRead::Short;
+        }
+        let separator = snode + snode_count;
+        if n - separator < separator_count {
+            return CliqueRead::Short;
+        }
+        CliqueRead::Clique(Clique {
+            parent: parent,
+            snode: snode,
+            snode_count: snode_count,
+            separator: separator,
+            separator_count: separator_count,
+            next: separator + separator_count,
+        })
+    }
+
+    // The side of its block.
+    pub fn get_nblk(self) -> usize
+        requires { ⌜ self .«snode_count» + self .«separator_count» < 18446744073709551616 ⌝ }
+        ensures { λ r. ⌜ r ≡ self .«snode_count» + self .«separator_count» ⌝ }
+    {
+        self.snode_count + self.separator_count
+    }
+}
+
+// A pattern of words, by offsets into them: its ordering has vertex_count numbers, its first clique stands at cliques.
+pub struct Pattern {
+    pub orig_index: u32,
+    pub vertex_count: usize,
+    pub clique_count: u32,
+    pub ordering: usize,
+    pub cliques: usize,
+}
+
+pub enum PatternRead {
+    Pattern(Pattern),
+    Short,
+}
+
+impl Pattern {
+    pub fn read(words: &[u32], at: usize) -> PatternRead
+        ensures { λ r. ⌜ patternRead (now (words .entry)) r ≡ readHead (drop at (now (words .entry))) ⌝ }
+        ensures { λ r. ⌜ PatternInside (length (now (words .entry))) at r ⌝ }
+    {
+        let n = words.len();
+        if n < 3 {
+            return PatternRead::Short;
+        }
+        if n - 3 < at {
+            return PatternRead::Short;
+        }
+        let orig_index = words[at];
+        let vertex_count = words[at + 1] as usize;
+        let clique_count = words[at + 2];
+        let ordering = at + 3;
+        if n - ordering < vertex_count {
+            return PatternRead::Short;
+        }
+        PatternRead::Pattern(Pattern {
+            orig_index: orig_index,
+            vertex_count: vertex_count,
+            clique_count: clique_count,
+            ordering: ordering,
+            cliques: ordering + vertex_count,
+        })
+    }
+}
+
+// The words hold count patterns, and end with the last.
+pub fn patterns_end(count: u32, words: &[u32]) -> bool
+    ensures { λ r. ⌜ r ≡ endsRight (readPatterns count (now (words .entry))) ⌝ }
+{
+    let mut ends = false;
+    let mut at = 0;
+    let mut left = count;
+    'patterns: loop {
+        if left == 0 {
+            ends = at == words.len();
+            break;
+        }
+        let PatternRead::Pattern(p) = Pattern::read(words, at) else {
+            break;
+        };
+        at = p.cliques;
+        let mut more = p.clique_count;
+        while 0 < more {
+            let CliqueRead::Clique(q) = Clique::read(words, at) else {
+                break 'patterns;
+            };
+            at = q.next;
+            more -= 1;
+        }
+        left -= 1;
+    }
+    ends
+}
+
+// ---- walks
+
+// count cliques stand whole from an offset on.
+pub fn cliques_whole(words: &[u32], first: usize, count: u32) -> bool
+    ensures { λ r. ⌜ r ≡ whole (readCliques count (drop first (now (words .entry)))) ⌝ }
+{
+    let mut at = first;
+    let mut left = count;
+    while 0 < left {
+        let CliqueRead::Clique(q) = Clique::read(words, at) else {
+            return false;
+        };
+        at = q.next;
+        left -= 1;
+    }
+    true
+}
+
+// Where the words after count cliques start.
+pub fn cliques_next(words: &[u32], first: usize, count: u32) -> usize
+    requires { ⌜ Whole (now words) first count ⌝ }
+    ensures { λ r. ⌜ rest (readCliques count (drop first (now (words .entry)))) ≡ drop r (now (words .entry)) ⌝ }
+{
+    let mut at = first;
+    let mut left = count;
+    while 0 < left {
+        let CliqueRead::Clique(q) = Clique::read(words, at) else {
+            return 0;
+        };
+        at = q.next;
+        left -= 1;
+    }
+    at
+}
+
+// Where the words after a pattern start.
+pub fn pattern_next(words: &[u32], at: usize) -> usize
+    requires { ⌜ whole (readPattern (drop at (now words))) ≡ true ⌝ }
+    ensures { λ r. ⌜ rest (readPattern (drop at (now (words .entry)))) ≡ drop r (now (words .entry)) ⌝ }
+{
+    let PatternRead::Pattern(p) = Pattern::read(words, at) else {
+        return 0;
+    };
+    cliques_next(words, p.cliques, p.clique_count)
+}
+
+// The members of a clique of the words, by offsets: none where there is no such clique.
+pub struct Members {
+    pub start: usize,
+    pub end: usize,
+}
+
+pub fn members_of(words: &[u32], first: usize, count: u32, c: u32) -> Members
+    requires { ⌜ Whole (now words) first count ⌝ }
+    ensures { λ r. ⌜ MembersOf (now (words .entry)) (cliqueMembers (getD (cliquesFrom (now (words .entry)) first count) c noClique)) r ⌝ }
+{
+    let mut at = first;
+    let mut left = count;
+    let mut skip = c;
+    while 0 < left {
+        let CliqueRead::Clique(q) = Clique::read(words, at) else {
+            return Members { start: 0, end: 0 };
+        };
+        if skip == 0 {
+            return Members {
+                start: q.snode,
+                end: q.next,
+            };
+        }
+        at = q.next;
+        skip -= 1;
+        left -= 1;
+    }
+    Members { start: 0, end: 0 }
+}
+
+// ---- offsets, so that cliques can be had in any order
+
+// Where each step-th of count cliques stands.
+pub fn offsets_every(words: &[u32], first: usize, count: u32, step: u32, out: &mut [usize])
+    requires { ⌜ Whole (now words) first count ⌝ }
+    requires { ⌜ (0 < step) × (count ≤ length (now out) * step) ⌝ }
+    ensures { λ _. ⌜ OffsetsEvery step (now (words .entry)) first count (now (out .exit)) ⌝ }
+{
+    let mut at = first;
+    let mut left = count;
+    let mut i = 0;
+    while step < left {
+        out[i] = at;
+        at = cliques_next(words, at, step);
+        left -= step;
+        i += 1;
+    }
+    if left == 0 {
+        return;
+    }
+    out[i] = at;
+}
+
+// Where each of count cliques stands.
+pub fn clique_offsets(words: &[u32], first: usize, count: u32, out: &mut [usize])
+    requires { ⌜ Whole (now words) first count ⌝ }
+    requires { ⌜ count ≤ length (now out) ⌝ }
+    ensures { λ _. ⌜ OffsetsOf (now (words .entry)) first count (now (out .exit)) ⌝ }
+{
+    offsets_every(words, first, count, 1, out);
+}
+
+// The members of clique c, found from the last offset before it.
+pub fn members_by(
+    words: &[u32],
+    first: usize,
+    count: u32,
+    step: u32,
+    offsets: &[usize],
+    c: u32,
+) -> Members
+    requires { ⌜ Whole (now words) first count ⌝ }
+    requires { ⌜ (0 < step) × (count ≤ length (now offsets) * step) ⌝ }
+    requires { ⌜ OffsetsEvery step (now words) first count (now offsets) ⌝ }
+    ensures { λ r. ⌜ MembersOf (now (words .entry)) (cliqueMembers (getD (cliquesFrom (now (words .entry)) first count) c noClique)) r ⌝ }
+{
+    if count <= c {
+        return Members { start: 0, end: 0 };
+    }
+    let i = c / step;
+    let passed = i * step;
+    members_of(words, offsets[i as usize], count - passed, c - passed)
+}
+
+// ---- block sizes
+
+fn triangular_number(k: usize) -> u64
+    requires { ⌜ k ≤ 256 ⌝ }
+    ensures { λ r. ⌜ r ≡ triangle k ⌝ }
+{
+    (k * (k + 1) / 2) as u64
+}
+
+// How many rows the blocks have, and how many of them are overlaps.
+pub struct Decomposed {
+    pub dim: u64,
+    pub overlaps: u64,
+}
+
+// Of count cliques with blocks of at most 256.
+fn dim_and_overlaps(words: &[u32], first: usize, count: u32) -> Decomposed
+    requires { ⌜ Whole (now words) first count ⌝ }
+    requires { ⌜ all (λ c. leb (blockSize c) 256) (cliquesFrom (now words) first count) ≡ true ⌝ }
+    ensures { λ r. ⌜ r .dim ≡ sum (map (λ c. triangle (blockSize c)) (cliquesFrom (now (words .entry)) first count)) ⌝ }
+    ensures { λ r. ⌜ r .overlaps ≡ sum (map (λ c. triangle (length (c .separator))) (cliquesFrom (now (words .entry)) first count)) ⌝ }
+{
+    let mut dim = 0;
+    let mut overlaps = 0;
+    let mut at = first;
+    let mut left = count;
+    while 0 < left {
+        let CliqueRead::Clique(q) = Clique::read(words, at) else {
+            return Decomposed {
+                dim: 0,
+                overlaps: 0,
+            };
+        };
+        dim += triangular_number(q.get_nblk());
+        overlaps += triangular_number(q.separator_count);
+        at = q.next;
+        left -= 1;
+    }
+    Decomposed {
+        dim: dim,
+        overlaps: overlaps,
+    }
+}
+
+// Of a pattern that passed the checks.
+pub fn get_decomposed_dim_and_overlaps(words: &[u32], at: usize) -> Decomposed
+    requires { ⌜ RightPattern (patternAt (now words) at) ⌝ }
+    requires { ⌜ patternAt (now words) at .vertexCount ≤ 256 ⌝ }
+    ensures { λ r. ⌜ r .dim ≡ blockRows (patternAt (now (words .entry)) at) ⌝ }
+    ensures { λ r. ⌜ r .overlaps ≡ overlapRows (patternAt (now (words .entry)) at) ⌝ }
+{
+    let PatternRead::Pattern(p) = Pattern::read(words, at) else {
+        return Decomposed {
+            dim: 0,
+            overlaps: 0,
+        };
+    };
+    dim_and_overlaps(words, p.cliques, p.clique_count)
+}

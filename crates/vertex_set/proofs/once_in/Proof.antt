@@ -1,0 +1,52 @@
+use mathlib.Core.Path.{sym, _∙_}
+use borrow.Author.Tests.{not-false}
+use Rattle.vertex_set.proofs.Unmarked.{once-empty}
+use native.Mathlib.Omega.{arith}
+use borrow.Author.Needs.{needs}
+use Rattle.vertex_set.proofs.once_in.Statement.{statement}
+use Rattle.vertex_set.proofs.once_in.Tie as tie
+
+returns : tie.Need-returns
+returns c = let s = c .before .before .before .before in sym (once-empty (s .args .ms .now) (s .args .us .now) (omega arith))
+
+div-if2 : tie.Need-div-if2
+div-if2 c = search needs
+
+once-in-walk-requires : tie.Need-once-in-walk-requires
+once-in-walk-requires c κs = search needs
+
+returns-2 : tie.Need-returns-2
+returns-2 c = search needs
+
+all-below-requires : tie.Need-all-below-requires
+all-below-requires c κs = search needs
+
+once-in-walk-requires-2 : tie.Need-once-in-walk-requires-2
+once-in-walk-requires-2 c κs = search needs
+
+returns-3 : tie.Need-returns-3
+returns-3 c = search needs
+
+once-in-by-requires : tie.Need-once-in-by-requires
+once-in-by-requires c κs = (sym (c .before .before .all-below .ensures) ∙ not-false _ (c .before .if3 .left), omega arith)
+
+same-length : tie.Need-same-length
+same-length c = search needs
+
+returns-4 : tie.Need-returns-4
+returns-4 c = search needs
+
+pub once-in-spec : {M : Type 1} → statement M
+once-in-spec =
+    tie.close
+    (tie.spec
+    returns
+    div-if2
+    once-in-walk-requires
+    returns-2
+    all-below-requires
+    once-in-walk-requires-2
+    returns-3
+    once-in-by-requires
+    same-length
+    returns-4)

@@ -1,0 +1,152 @@
+// Members of words as sets: clarabel's `VertexSet`.
+ghost use mathlib.Core.Path.{_≡_};
+ghost use Prim.Native.Nat.{_<_};
+ghost use mathlib.Core.Bool.{true};
+ghost use lib.ListN.{length};
+ghost use lib.Dec.{ltb};
+ghost use Rattle.layout.specs.Lists.{all, distinct, keep, has};
+ghost use Rattle.utils.specs.Windows.{within, Marked};
+ghost use Rattle.vertex_set.specs.OnceIn.{onceIn, Unmarks};
+
+// ---- by walks
+
+// No number stands twice.
+pub fn is_distinct(a: &[u32]) -> bool
+    ensures { λ r. ⌜ r ≡ distinct (now (a .entry)) ⌝ }
+{
+    let mut i = 0;
+    while i < a.len() {
+        let x = a[i];
+        i += 1;
+        let mut j = i;
+        while j < a.len() {
+            if x == a[j] {
+                return false;
+            }
+            j += 1;
+        }
+    }
+    true
+}
+
+// Each member of a is in b.
+pub fn held(a: &[u32], b: &[u32]) -> bool
+    ensures { λ r. ⌜ r ≡ all (λ u. has u (now (b .entry))) (now (a .entry)) ⌝ }
+{
+    let mut ok = true;
+    let mut i = 0;
+    'walk: while i < a.len() {
+        let x = a[i];
+        let mut j = 0;
+        loop {
+            if b.len() <= j {
+                ok = false;
+                break 'walk;
+            }
+            if x == b[j] {
+                break;
+            }
+            j += 1;
+        }
+        i += 1;
+    }
+    ok
+}
+
+// No number of us stands twice, and each is in ms: by walks over both.
+fn once_in_walk(us: &[u32], ms: &[u32]) -> bool
+    ensures { λ r. ⌜ r ≡ onceIn (now (ms .entry)) (now (us .entry)) ⌝ }
+{
+    if !is_distinct(us) {
+        return false;
+    }
+    held(us, ms)
+}
+
+// ---- by marks
+
+// Marks the words' numbers that are in the window from low on, and no other.
+fn mark_only(words: &[u32], low: usize, marks: &mut [bool])
+    ensures { λ _. ⌜ Marked low (now (marks .exit)) (now (words .entry)) ⌝ }
+{
+    utils::clear(&mut *marks);
+    let mut i = 0;
+    while i < words.len() {
+        let x = words[i] as usize;
+        i += 1;
+        if x < low {
+            continue;
+        }
+        let v = x - low;
+        if marks.len() <= v {
+            continue;
+        }
+        marks[v] = true;
+    }
+}
+
+// Each of the words' numbers in the window is marked, and loses its mark, so that it is met once.
+fn unmark(words: &[u32], low: usize, marks: &mut [bool]) -> bool
+    ensures { λ r. ⌜ Unmarks low (now (marks .entry)) (now (words .entry)) r ⌝ }
+{
+    let mut i = 0;
+    while i < words.len() {
+        let x = words[i] as usize;
+        i += 1;
+        if x < low {
+            continue;
+        }
+        let v = x - low;
+        if marks.len() <= v {
+            continue;
+        }
+        if !marks[v] {
+            return false;
+        }
+        marks[v] = false;
+    }
+    true
+}
+
+// Of the numbers in the window.
+fn once_in_within(us: &[u32], ms: &[u32], low: usize, marks: &mut [bool]) -> bool
+    ensures { λ r. ⌜ r ≡ onceIn (now (ms .entry)) (keep (within low (length (now (marks .entry)))) (now (us .entry))) ⌝ }
+{
+    mark_only(ms, low, &mut *marks);
+    unmark(us, low, marks)
+}
+
+// Of numbers below n, window by window.
+fn once_in_by(us: &[u32], ms: &[u32], n: usize, marks: &mut [bool]) -> bool
+    requires { ⌜ all (λ x. ltb x n) (now us) ≡ true ⌝ }
+    requires { ⌜ 0 < length (now marks) ⌝ }
+    ensures { λ r. ⌜ r ≡ onceIn (now (ms .entry)) (now (us .entry)) ⌝ }
+{
+    let mut low = 0;
+    loop {
+        if !once_in_within(us, ms, low, &mut *marks) {
+            return false;
+        }
+        if n - low <= marks.len() {
+            return true;
+        }
+        low += marks.len();
+    }
+}
+
+// By walks where they cost no more than the marks do, and where a number is not below n; else by marks.
+pub fn once_in(us: &[u32], ms: &[u32], n: usize, marks: &mut [bool]) -> bool
+    requires { ⌜ 0 < length (now marks) ⌝ }
+    ensures { λ r. ⌜ r ≡ onceIn (now (ms .entry)) (now (us .entry)) ⌝ }
+{
+    if us.len() == 0 {
+        return true;
+    }
+    if ms.len() <= marks.len() / us.len() {
+        return once_in_walk(us, ms);
+    }
+    if !utils::all_below(us, n) {
+        return once_in_walk(us, ms);
+    }
+    once_in_by(us, ms, n, marks)
+}
