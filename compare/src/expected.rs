@@ -269,7 +269,7 @@ fn checks6and7(patterns: &[Pattern]) -> Result<(), u32> {
 }
 
 // checks 1 to 7 of a whole problem
-fn first_seven(p: &Problem) -> Result<Layout, u32> {
+pub fn first_seven(p: &Problem) -> Result<Layout, u32> {
     if !bounded(p.n, p.m, &p.cones) || p.a.values.len() > 262_144 || p.p.values.len() > 262_144 {
         return Err(1);
     }

@@ -28,7 +28,7 @@ compare/run --exhaustive           every clique tree on up to 4 vertices, every 
 compare/run --vectors FILE         stored cases (JSON, one a line)
 compare/run --differences          clarabel on the inputs of docs/DIFFERENCES.md
 compare/run --speed                times, with ratios where the door is linked
-compare/run --store FILE --cases N --seed S    writes stored answers
+compare/run --store FOLDER --cases N --seed S    writes stored answers of each family, for crate replay
 The door is linked where target/staticlib/libdoor.a or $DOOR_LIB is there.";
 
 /// The draws of one case, which can so be made again alone.
@@ -252,10 +252,9 @@ fn compare() -> i32 {
             return 0;
         }
         "store" => {
-            let path = file.unwrap();
-            let mut out = std::io::BufWriter::new(std::fs::File::create(&path).expect("a file to write"));
-            store::write(&mut out, o.cases, o.seed).expect("writing");
-            println!("{} cases stored in {path}", o.cases);
+            let folder = file.unwrap();
+            store::write(folder.as_ref(), o.cases, o.seed).expect("writing");
+            println!("{} cases of each family stored in {folder}", o.cases);
             return 0;
         }
         "vectors" => {

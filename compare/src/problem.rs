@@ -72,24 +72,6 @@ pub struct Cut {
     pub map: Vec<u32>,
 }
 
-impl Cut {
-    pub fn lengths(&self) -> [usize; 11] {
-        [
-            self.p.starts.len(),
-            self.p.rows.len(),
-            self.p.values.len(),
-            self.q.len(),
-            self.a.starts.len(),
-            self.a.rows.len(),
-            self.a.values.len(),
-            self.b.len(),
-            self.cones.len(),
-            self.alphas.len(),
-            self.map.len(),
-        ]
-    }
-}
-
 #[derive(Clone, Debug, Default)]
 pub struct Solution {
     pub x: Vec<f64>,
