@@ -1,0 +1,8 @@
+pub mod Laws
+pub mod Sifting
+pub mod Writing
+pub mod Columns
+pub mod Cliques
+pub mod Orders
+pub mod Patterns
+pub mod Offsets

@@ -1,0 +1,94 @@
+-- A right pattern's cliques as sorting asks for them, and its blocks by the ordering alone.
+use Prim.Native.Nat.{ℕ, zero, suc, _+_, _≤_, _<_}
+use native.Mathlib.Omega.{arith}
+use mathlib.Core.Path.{_≡_, refl, ap, sym, subst, _∙_}
+use mathlib.Core.Logic.{inl, inr}
+use mathlib.Core.List.{List, [], _∷_, _++_, map, map-map, reverse}
+use lib.ListN.{length, getD, length-append, length-map}
+use lib.Dec.{T}
+use Rattle.layout.specs.Lists.{has, keep, below, join, sum}
+use Rattle.layout.specs.Triangle.{triangle}
+use Rattle.layout.specs.Patterns.{Pattern, Clique, cliqueAt, cliqueCount, members, noClique}
+use Rattle.layout.specs.Blocks.{Pair, pair, Row, originalRow, pairRow, sorted, block, rowOf, patternRows, blockRows, cut}
+use Rattle.layout.specs.Checks.{snodes, RightPattern}
+use Rattle.layout.specs.CliqueTree.{InSnode}
+use Rattle.layout.proofs.Members.{has-getD, has-append}
+use Rattle.layout.proofs.Distinct.{permutation-has}
+use Rattle.layout.proofs.Tree.{cliques-right}
+use Rattle.layout.proofs.Joins.{reverse-below}
+use Rattle.layout.proofs.Keeps.{append-nil, map-append}
+use Rattle.layout.proofs.Originals.{Vertices, originals-distinct}
+use Rattle.layout.proofs.Cliques.{clique-vertices, clique-distinct}
+use Rattle.layout.proofs.Rows.{row-original, rows-count}
+use Rattle.layout.proofs.Sizes.{standard-count}
+use Rattle.blocks.specs.Vertices.{Below, Sortable, sortedOf}
+use Rattle.blocks.specs.Codes.{standardPatternRows}
+
+-- ---- joined lists
+
+module _ {A B C : Type 0} where
+  pub map-join : (g : B → C) (f : A → List B) (xs : List A) → map g (join f xs) ≡ join (λ x. map g (f x)) xs
+  map-join g f [] = refl
+  map-join g f (x ∷ xs) = map-append g (f x) (join f xs) ∙ ap (λ (r : List C). map g (f x) ++ r) (map-join g f xs)
+
+-- lists that agree below k, joined from last to first
+pub down-same : {B : Type 0} (f g : ℕ → List B) (k : ℕ) → ((c : ℕ) → c < k → f c ≡ g c) → join f (reverse (below k)) ≡ join g (reverse (below k))
+down-same f g zero h = refl
+down-same {B} f g (suc k) h =
+    ap (join f) (reverse-below k)
+    ∙ rw (h k (omega arith)) (ap (λ (r : List B). g k ++ r) (down-same f g k (λ c l. h c (omega arith))))
+    ∙ ap (join g) (sym (reverse-below k))
+
+-- no list is empty, so the joined list is as long as there are lists
+join-long : (f : Clique → List ℕ) (cs : List Clique) → ((c : ℕ) → c < length cs → ¬ (length (f (getD cs c noClique)) ≡ 0)) → length cs ≤ length (join f cs)
+join-long f [] h = omega arith
+join-long f (q ∷ cs) h =
+    omega (arith, h 0 (omega arith), length-append (f q) (join f cs), join-long f cs (λ c l. h (suc c) (omega arith)))
+
+module _ (p : Pattern) (ok : RightPattern p) where
+  -- no more cliques than vertices
+  pub cliques-few : cliqueCount p ≤ p .vertexCount
+  cliques-few =
+      let right = cliques-right p (ok .cliques) in
+      omega (arith, join-long (λ c. c .snode) (p .cliques) (right .nonempty), right .vertices)
+
+  pub ordering-below : Below (length (p .ordering)) (p .ordering)
+  ordering-below k l = permutation-has (p .ordering) (ok .ordered .permutation) (getD (p .ordering) k 0) .0 (has-getD (p .ordering) k 0 l)
+
+  pub clique-sortable : p .vertexCount ≤ 256 → (c : ℕ) → c < cliqueCount p → Sortable (p .ordering) (cliqueAt p c .snode) (cliqueAt p c .separator)
+  clique-sortable few c l =
+      let q = cliqueAt p c in
+      let vertices : Vertices p (members q) = clique-vertices p ok c l in
+      let count = ok .ordered .vertices in
+      record {
+        few = omega arith;
+        ordered = ordering-below;
+        snodeBelow = λ k m. omega (arith, vertices (getD (q .snode) k 0) (has-append (getD (q .snode) k 0) (q .snode) (q .separator) .1 (inl (has-getD (q .snode) k 0 m))));
+        separatorBelow = λ k m. omega (arith, vertices (getD (q .separator) k 0) (has-append (getD (q .separator) k 0) (q .snode) (q .separator) .1 (inr (has-getD (q .separator) k 0 m))));
+        once = originals-distinct p (ok .ordered) (members q) vertices (clique-distinct p ok c l);
+      }
+
+  -- the vertices are as many as the ordering has numbers
+  pub sorted-by : (us : List ℕ) → sortedOf (p .ordering) us ≡ sorted p us
+  sorted-by us = ap (λ (n : ℕ). keep (λ w. has w (map (λ u. getD (p .ordering) u 0) us)) (below n)) (ok .ordered .vertices)
+
+  -- ---- how many rows
+
+  pub standard-rows-count : (base : ℕ) → length (standardPatternRows p base) ≡ blockRows p
+  standard-rows-count base =
+      ap length (sym (append-nil (standardPatternRows p base))) ∙ standard-count base (cut 0 base 0 p ∷ []) (refl, ok, tt) ∙ omega arith
+
+  -- a compact row's original row is its pair's
+  pub original-rows : (base first : ℕ)
+      → map originalRow (patternRows p base first) ≡ join (λ c. map (pairRow base) (block p c)) (reverse (below (cliqueCount p)))
+  original-rows base first =
+      map-join originalRow (λ c. map (rowOf p base first c) (block p c)) (reverse (below (cliqueCount p)))
+      ∙ down-same (λ c. map originalRow (map (rowOf p base first c) (block p c))) (λ c. map (pairRow base) (block p c)) (cliqueCount p)
+      (λ c l. original-block c (block p c))
+    where
+      original-block : (c : ℕ) (xs : List Pair) → map originalRow (map (rowOf p base first c) xs) ≡ map (pairRow base) xs
+      original-block c [] = refl
+      original-block c (pair i j ∷ xs) = rw (row-original p base first c i j, original-block c xs)
+
+  pub original-rows-count : (base first : ℕ) → length (map originalRow (patternRows p base first)) ≡ blockRows p
+  original-rows-count base first = length-map (patternRows p base first) originalRow ∙ rows-count p ok base first

@@ -1,0 +1,14 @@
+-- A block's columns over sorted vertices.
+use Prim.Native.Nat.{ℕ, suc, _+_, _<_, _≤_}
+use mathlib.Core.List.{List, map}
+use lib.ListN.{length, getD}
+use Rattle.layout.specs.Lists.{below}
+use Rattle.layout.specs.Triangle.{triangle}
+use Rattle.layout.specs.Blocks.{Pair, pair}
+
+abbrev pub columnPairs : List ℕ → ℕ → List Pair
+columnPairs vs j = map (λ i. pair (getD vs i 0) (getD vs j 0)) (below (suc j))
+
+-- every entry of the block lies below row 65,536
+abbrev pub Inside : ℕ → List ℕ → Type 0
+Inside base vs = (k : ℕ) → k < length vs → base + triangle (suc (getD vs k 0)) ≤ 65536

@@ -1,0 +1,5 @@
+pub mod Vertices
+pub mod Sifting
+pub mod Columns
+pub mod Cliques
+pub mod Codes

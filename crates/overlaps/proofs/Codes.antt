@@ -1,0 +1,57 @@
+-- The codes of one clique and of all, by offsets.
+use Prim.Native.Nat.{ℕ, suc, _+_, _≤_, _<_}
+use native.Mathlib.Omega.{arith}
+use mathlib.Core.Path.{_≡_, ap, sym, fun-ext, _∙_}
+use mathlib.Core.List.{List, _++_, map, reverse}
+use lib.ListN.{length, getD, drop, length-map}
+use lib.Dec.{T}
+use borrow.Author.Tests.{eq-eqb, ne-eqb}
+use Rattle.layout.specs.Lists.{rises, below, join}
+use Rattle.layout.specs.Triangle.{triangle}
+use Rattle.layout.specs.Blocks.{Pair, pairs}
+use Rattle.layout.proofs.Members.{length-upFrom, getD-below}
+use Rattle.layout.proofs.Pairs.{length-pairs}
+use Rattle.blocks.specs.Cliques.{cliqueHere, verticesHere, rowsHere}
+use Rattle.blocks.proofs.Cliques.{vertices-rise}
+use Rattle.blocks.proofs.Orders.{down-more, down-room}
+use Rattle.overlaps.specs.Places.{Places, tieCode, placeCode}
+use Rattle.overlaps.specs.Tables.{tiedHere, codesHere}
+use Rattle.overlaps.proofs.Places.{code-places}
+
+module _ (base start : ℕ) (ws ordering : List ℕ) (parent at : ℕ) where
+  pub length-tied : length (tiedHere base start ws ordering parent at) ≡ triangle (length (verticesHere ws ordering at))
+  unfolding tiedHere
+  length-tied =
+      length-map (pairs (verticesHere ws ordering at)) (tieCode (verticesHere ws ordering parent) base start) ∙ length-pairs (verticesHere ws ordering at)
+
+  -- the codes by a table of the parent's places
+  pub tied-places : (places : List ℕ) → Places (verticesHere ws ordering parent) places
+      → map (placeCode places base start) (pairs (verticesHere ws ordering at)) ≡ tiedHere base start ws ordering parent at
+  unfolding tiedHere
+  tied-places places h =
+      ap (λ (f : Pair → ℕ). map f (pairs (verticesHere ws ordering at)))
+      (fun-ext (code-places (verticesHere ws ordering parent) places (vertices-rise ws ordering parent) h base start))
+
+module _ (base : ℕ) (ws ordering os starts : List ℕ) (c : ℕ) where
+  -- the last clique
+  pub codes-last : c + 1 ≡ length os → codesHere base ws ordering os starts c ≡ rowsHere base ws ordering (getD os c 0)
+  unfolding codesHere
+  codes-last e = rw (eq-eqb (suc c) (length os) (omega arith))
+
+  -- any other, with its parent
+  pub codes-tied : (parent : ℕ) → parent ≡ cliqueHere ws (getD os c 0) .parent → (c + 1 ≡ length os → ⊥)
+      → codesHere base ws ordering os starts c ≡ tiedHere base (getD starts parent 0) ws ordering (getD os parent 0) (getD os c 0)
+  unfolding codesHere
+  codes-tied parent e n = rw (e, ne-eqb (suc c) (length os) (λ q. n (omega arith)))
+
+-- ---- numbers from last to first: those from n on are done
+
+module _ (f : ℕ → List ℕ) (k n : ℕ) (l : n < k) where
+  pub numbers-more : join f (reverse (drop n (below k))) ≡ join f (reverse (drop (n + 1) (below k))) ++ f n
+  numbers-more =
+      down-more f 0 (below k) n (omega (arith, length-upFrom 0 k))
+      ∙ ap (λ (m : ℕ). join f (reverse (drop (n + 1) (below k))) ++ f m) (getD-below k n 0 l)
+
+  pub numbers-room : length (join f (reverse (drop (n + 1) (below k)))) + length (f n) ≤ length (join f (reverse (below k)))
+  numbers-room =
+      omega (arith, down-room f 0 (below k) n (omega (arith, length-upFrom 0 k)), ap (λ (m : ℕ). length (f m)) (getD-below k n 0 l))

@@ -1,0 +1,44 @@
+-- A pattern's cliques by their offsets, with the first row of each block.
+use Prim.Native.Nat.{ℕ, suc, _+_, _≤_, _<_}
+use mathlib.Core.Path.{_≡_}
+use mathlib.Core.Bool.{true, cond}
+use mathlib.Core.List.{List, map}
+use lib.ListN.{length, getD, drop}
+use lib.Dec.{eqb}
+use Rattle.layout.specs.Lists.{sum}
+use Rattle.layout.specs.Triangle.{triangle}
+use Rattle.layout.specs.Patterns.{readClique, blockSize}
+use Rattle.layout.specs.Blocks.{pairs}
+use Rattle.supernode_tree.specs.Reads.{whole}
+use Rattle.blocks.specs.Cliques.{cliqueHere, verticesHere, rowsHere, Standing}
+use Rattle.overlaps.specs.Places.{tieCode}
+
+-- a clique stands whole at each offset
+abbrev pub AllFound : List ℕ → List ℕ → Type 0
+AllFound ws os = (c : ℕ) → c < length os → whole (readClique (drop (getD os c 0) ws)) ≡ true
+
+-- how many rows the block of the clique at an offset has
+abbrev pub sizeHere : List ℕ → ℕ → ℕ
+sizeHere ws at = triangle (blockSize (cliqueHere ws at))
+
+-- a block starts after those of the later cliques
+abbrev pub FirstRows : List ℕ → List ℕ → ℕ → List ℕ → Type 0
+FirstRows ws os first starts = (c : ℕ) → c < length os → getD starts c 0 ≡ first + sum (map (sizeHere ws) (drop (suc c) os))
+
+-- the codes of the clique at an offset, whose parent's clique stands at another
+unfoldable pub tiedHere : ℕ → ℕ → List ℕ → List ℕ → ℕ → ℕ → List ℕ
+tiedHere base start ws ordering parent at = map (tieCode (verticesHere ws ordering parent) base start) (pairs (verticesHere ws ordering at))
+
+-- the codes of clique c: the last one has no parent
+unfoldable pub codesHere : ℕ → List ℕ → List ℕ → List ℕ → List ℕ → ℕ → List ℕ
+codesHere base ws ordering os starts c =
+    let at = getD os c 0 in
+    let parent = cliqueHere ws at .parent in
+    cond (eqb (suc c) (length os)) (rowsHere base ws ordering at) (tiedHere base (getD starts parent 0) ws ordering (getD os parent 0) at)
+
+-- every clique stands at its offset, all but the last have a parent, and no block starts above row 262,144
+pub record Tied (ws ordering os starts : List ℕ) : Type 0 where
+  pub standing : Standing ws ordering os
+  pub parents : (c : ℕ) → suc c < length os → cliqueHere ws (getD os c 0) .parent < length os
+  pub starting : length os ≤ length starts
+  pub low : (c : ℕ) → c < length os → getD starts c 0 ≤ 262144

@@ -1,0 +1,15 @@
+use Rattle.parts.proofs.Laws.{starts}
+use native.Mathlib.Omega.{arith}
+use Rattle.parts.proofs.Place.start.Statement.{statement}
+use Rattle.parts.proofs.Place.start.Tie as tie
+use Rattle.parts.proofs.Place.start.Reads as reads
+use Rattle.parts.proofs.Place.start.Lts as lts
+
+-- src/lib.rt:37:5
+returns : tie.Need-returns
+returns c =
+    let q = starts (c .args .m) (c .args .cones .now) (c .args .count) (c .args .words .now) (c .pre) (omega arith) in
+    (q .0, q .1)
+
+pub start-spec : {M : Type 1} → statement M
+start-spec = tie.close (tie.spec returns)

@@ -1,0 +1,116 @@
+-- What a part writes to each table.
+use Prim.Native.Nat.{ℕ, _+_, _-_, _≤_}
+use native.Mathlib.Omega.{arith}
+use mathlib.Core.Path.{_≡_, refl, ap, sym, _∙_}
+use mathlib.Core.List.{List, [], _∷_, _++_, map}
+use lib.ListN.{length, take, drop}
+use lib.Seq.{length-take-le}
+use Rattle.layout.specs.Lists.{upFrom, written}
+use Rattle.layout.specs.Cones.{Cone, rowCount}
+use Rattle.layout.specs.Patterns.{Pattern}
+use Rattle.layout.specs.Blocks.{Part, cut, originalRow, patternRows}
+use Rattle.layout.specs.Compact.{coneWords, wholeCone, entryWords, compactPart, mapPart, mapWords}
+use Rattle.layout.specs.Standard.{standardPart}
+use Rattle.codes.specs.Codes.{cutCode}
+use Rattle.blocks.specs.Codes.{standardPatternRows}
+use Rattle.layout.proofs.Starts.{length-written}
+use Rattle.blocks.proofs.Writing.{written-next}
+use Rattle.tables.specs.Tables.{wholeCodes, cutCodes, partCodes, codesFrom}
+use Rattle.tables.proofs.Laws.{part-done}
+use Rattle.tables.specs.declared.Table.{Table}
+use Rattle.tables.specs.declared.Table.the-variants.{HRows, JoinRows, CutRows, StandardCones, CompactCones, ConeMap}
+
+-- a list by another name: its length, and that it was written
+pub renamed : (codes xs : List ℕ) → codes ≡ xs → (r : ℕ) (old new : List ℕ) → r ≡ length xs → new ≡ written xs old
+    → (r ≡ length codes) × (new ≡ written codes old)
+renamed codes xs e r old new n w = (n ∙ sym (ap length e), w ∙ ap (λ (ys : List ℕ). written ys old) (sym e))
+
+module _ (table : Table) (i : ℕ) (c : Cone) (row : ℕ) where
+  pub whole-h : table ≡ HRows → wholeCodes table i c row ≡ upFrom row (rowCount c)
+  unfolding wholeCodes
+  whole-h e = ap (λ (t : Table). wholeCodes t i c row) e
+
+  pub whole-join : table ≡ JoinRows → wholeCodes table i c row ≡ upFrom (65536 + row) (rowCount c)
+  unfolding wholeCodes
+  whole-join e = ap (λ (t : Table). wholeCodes t i c row) e
+
+  pub whole-cut : table ≡ CutRows → wholeCodes table i c row ≡ upFrom row (rowCount c)
+  unfolding wholeCodes
+  whole-cut e = ap (λ (t : Table). wholeCodes t i c row) e
+
+  pub whole-standard : table ≡ StandardCones → wholeCodes table i c row ≡ coneWords c
+  unfolding wholeCodes
+  whole-standard e = ap (λ (t : Table). wholeCodes t i c row) e
+
+  pub whole-compact : table ≡ CompactCones → wholeCodes table i c row ≡ coneWords c
+  unfolding wholeCodes
+  whole-compact e = ap (λ (t : Table). wholeCodes t i c row) e
+
+  pub whole-map : table ≡ ConeMap → wholeCodes table i c row ≡ entryWords (wholeCone i)
+  unfolding wholeCodes
+  whole-map e = ap (λ (t : Table). wholeCodes t i c row) e
+
+module _ (table : Table) (t i row k : ℕ) (p : Pattern) where
+  pub cut-h : table ≡ HRows → cutCodes table t i row k p ≡ standardPatternRows p row
+  unfolding cutCodes
+  cut-h e = ap (λ (x : Table). cutCodes x t i row k p) e
+
+  pub cut-join : table ≡ JoinRows → cutCodes table t i row k p ≡ map originalRow (patternRows p row t)
+  unfolding cutCodes
+  cut-join e = ap (λ (x : Table). cutCodes x t i row k p) e
+
+  pub cut-cut : table ≡ CutRows → cutCodes table t i row k p ≡ map cutCode (patternRows p row t)
+  unfolding cutCodes
+  cut-cut e = ap (λ (x : Table). cutCodes x t i row k p) e
+
+  pub cut-standard : table ≡ StandardCones → cutCodes table t i row k p ≡ standardPart (cut i row k p)
+  unfolding cutCodes
+  cut-standard e = ap (λ (x : Table). cutCodes x t i row k p) e
+
+  pub cut-compact : table ≡ CompactCones → cutCodes table t i row k p ≡ compactPart (cut i row k p)
+  unfolding cutCodes
+  cut-compact e = ap (λ (x : Table). cutCodes x t i row k p) e
+
+  pub cut-map : table ≡ ConeMap → cutCodes table t i row k p ≡ mapWords (mapPart (cut i row k p))
+  unfolding cutCodes
+  cut-map e = ap (λ (x : Table). cutCodes x t i row k p) e
+
+-- ---- one part more of a table
+
+pub codes-part : (table : Table) (t : ℕ) (x : Part) (ps : List Part)
+    → codesFrom table t (x ∷ ps) ≡ partCodes table t x ++ codesFrom table (t + length (partCodes table t x)) ps
+unfolding codesFrom
+codes-part table t x ps = refl
+
+pub codes-none : (table : Table) (t : ℕ) → codesFrom table t [] ≡ []
+unfolding codesFrom
+codes-none table t = refl
+
+module _ (table : Table) (full : List ℕ) (t : ℕ) (h : t ≤ length full) (x : Part) (before later : List Part)
+    (left : drop t full ≡ codesFrom table t before) (e : before ≡ x ∷ later) where
+  -- what is left of the table, after the part, and that the part is in it
+  pub part-fits : (take (t + length (partCodes table t x)) full ≡ take t full ++ partCodes table t x)
+      × (drop (t + length (partCodes table t x)) full ≡ codesFrom table (t + length (partCodes table t x)) later)
+      × (t + length (partCodes table t x) ≤ length full)
+  part-fits =
+      part-done full (partCodes table t x) (codesFrom table (t + length (partCodes table t x)) later) t h
+      (left ∙ ap (codesFrom table t) e ∙ codes-part table t x later)
+
+  -- a callee wrote the part to the buffer from t on, which was lent
+  module _ (old out new : List ℕ) (room : length full ≤ length old) (same : length out ≡ length old) (done : out ≡ written (take t full) old)
+      (r : ℕ) (n : r ≡ length (partCodes table t x)) (w : new ≡ written (partCodes table t x) (take (length out - t) (drop t out))) where
+    pub wrote-part : let next = take t out ++ (new ++ drop (length out - t) (drop t out)) in
+        (t + r ≤ length full) × (length next ≡ length old) × (next ≡ written (take (t + r) full) old)
+        × (drop (t + r) full ≡ codesFrom table (t + r) later)
+    wrote-part =
+        let k : ℕ = t + r in
+        let q : t + length (partCodes table t x) ≡ k = omega arith in
+        let put : take t out ++ (new ++ drop (length out - t) (drop t out)) ≡ written (take k full) old =
+        written-next (take t full) (partCodes table t x) old out new t (length out - t) (sym (length-take-le t full h)) done
+        (omega (arith, part-fits .2)) (omega (arith, part-fits .2)) w
+        ∙ ap (λ (ys : List ℕ). written ys old) (sym (part-fits .0) ∙ ap (λ (j : ℕ). take j full) q) in (
+          omega (arith, part-fits .2),
+          ap length put ∙ length-written (take k full) old (omega (arith, part-fits .2, length-take-le k full (omega (arith, part-fits .2)))),
+          put,
+          ap (λ (j : ℕ). drop j full) (sym q) ∙ part-fits .1 ∙ ap (λ (j : ℕ). codesFrom table j later) q,
+        )

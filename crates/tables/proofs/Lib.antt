@@ -1,0 +1,4 @@
+pub mod Laws
+pub mod Cones
+pub mod Codes
+pub mod Tables

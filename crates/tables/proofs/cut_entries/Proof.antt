@@ -1,0 +1,42 @@
+use Prim.Native.Nat.{ℕ, _-_, _*_}
+use mathlib.Core.Path.{ap, _∙_}
+use mathlib.Core.List.{map, reverse}
+use Rattle.layout.specs.Lists.{below, written}
+use Rattle.layout.specs.Compact.{blockOf, mapWords}
+use borrow.Author.Needs.{needs}
+use Rattle.tables.proofs.cut_entries.Statement.{statement}
+use Rattle.tables.proofs.cut_entries.Tie as tie
+use Rattle.tables.proofs.cut_entries.Reads as reads
+use Rattle.tables.proofs.cut_entries.Lts as lts
+use Rattle.parts.proofs.clique_count.Reads as clique-count-reads
+use Rattle.tables.proofs.map_down.Reads as map-down-reads
+
+-- src/lib.rt:219:9
+clique-count-requires : tie.Need-clique-count-requires
+clique-count-requires c κs = search needs
+
+-- src/lib.rt:220:14
+cast-map-down : tie.Need-cast-map-down
+cast-map-down c = search needs
+
+-- src/lib.rt:220:5
+map-down-requires : tie.Need-map-down-requires
+map-down-requires c κs = search needs
+
+-- src/lib.rt:213:1
+same-length : tie.Need-same-length
+same-length c = search needs
+
+-- src/lib.rt:213:1
+returns : tie.Need-returns
+returns c =
+    let w = c .before .before .map-down .ensures in
+    let e = c .before .before .before .before .clique-count .ensures in
+    let a = c .before .before .before .before .before .before .before .args in (
+      w .0 ∙ ap (λ (n : ℕ). n * 3) e,
+      w .1 ∙ ap (λ (n : ℕ). written (mapWords (map (blockOf (a .i) (a .k)) (reverse (below n)))) (a .out .now)) e,
+    )
+
+pub cut-entries-spec : {M : Type 1} → statement M
+cut-entries-spec =
+    tie.close (tie.spec clique-count-requires cast-map-down map-down-requires same-length returns)

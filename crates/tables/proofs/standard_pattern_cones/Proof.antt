@@ -1,0 +1,93 @@
+use Prim.Native.Nat.{ℕ, _≤_, _-_, _*_}
+use mathlib.Core.Path.{_≡_, ap, sym, _∙_}
+use mathlib.Core.List.{List, map}
+use lib.ListN.{length, take}
+use lib.ListN.{length-map, length-replicate}
+use lib.Seq.{length-take-le}
+use Rattle.layout.specs.Lists.{join, written}
+use Rattle.layout.specs.Patterns.{blockSize}
+use Rattle.layout.specs.Compact.{psdWords}
+use Rattle.layout.proofs.Buffers.{take-written}
+use Rattle.supernode_tree.specs.Reads.{patternAt}
+use Rattle.blocks.proofs.Patterns.{cliques-few}
+use Rattle.tables.proofs.Cones.{sizes-up}
+use native.Mathlib.Omega.{arith}
+use borrow.Author.Needs.{needs}
+use Rattle.tables.proofs.standard_pattern_cones.Statement.{statement}
+use Rattle.tables.proofs.standard_pattern_cones.Tie as tie
+use Rattle.tables.proofs.standard_pattern_cones.Reads as reads
+use Rattle.tables.proofs.standard_pattern_cones.Lts as lts
+use Rattle.tables.proofs.pattern_sizes.Reads as pattern-sizes-reads
+use Rattle.tables.proofs.psd_up.Reads as psd-up-reads
+
+-- the sizes are few
+few : (o : tie.After-pattern-sizes) → o .pattern-sizes .result ≤ 256
+few o =
+    let s = o .before .before .before .before in
+    omega (arith, o .pattern-sizes .ensures .0, cliques-few (patternAt (s .args .words .now) (s .args .at)) (s .pre .0 .0), s .pre .0 .1)
+
+room : (o : tie.After-pattern-sizes) → length (o .pattern-sizes .last .1 .1 .0) ≡ 256
+room o = o .pattern-sizes .kept .1 .1 .0 ∙ length-replicate {A = ℕ} 256 0
+
+-- and stand at the front of their table
+taken : (o : tie.After-pattern-sizes)
+    → let s = o .before .before .before .before in
+    take (o .pattern-sizes .result) (o .pattern-sizes .last .1 .1 .0) ≡ map blockSize (patternAt (s .args .words .now) (s .args .at) .cliques)
+taken o =
+    let s = o .before .before .before .before in
+    let cs = patternAt (s .args .words .now) (s .args .at) .cliques in
+    ap (λ (n : ℕ). take n (o .pattern-sizes .last .1 .1 .0)) (o .pattern-sizes .ensures .0 ∙ sym (length-map cs blockSize))
+    ∙ ap (take (length (map blockSize cs))) (o .pattern-sizes .ensures .1) ∙ take-written (map blockSize cs) _
+
+-- src/lib.rt:169:38
+slice-aggregate-pattern-sizes : tie.Need-slice-aggregate-pattern-sizes
+slice-aggregate-pattern-sizes c = search needs
+
+-- src/lib.rt:169:9
+pattern-sizes-requires : tie.Need-pattern-sizes-requires
+pattern-sizes-requires c κs = search needs
+
+-- src/lib.rt:170:12
+array-share-prefix-sizes : tie.Need-array-share-prefix-sizes
+array-share-prefix-sizes c = omega (arith, few (c .before))
+
+-- src/lib.rt:170:12
+slice-aggregate-psd-up : tie.Need-slice-aggregate-psd-up
+slice-aggregate-psd-up c =
+    let o = c .before .before in
+    sym (length-take-le (o .pattern-sizes .result) (o .pattern-sizes .last .1 .1 .0) (omega (arith, few o, room o)))
+
+-- src/lib.rt:170:5
+psd-up-requires : tie.Need-psd-up-requires
+psd-up-requires c κs =
+    let o = c .before .before .before in
+    let s = o .before .before .before .before in
+    let cs = patternAt (s .args .words .now) (s .args .at) .cliques in
+    omega (arith, ap length (taken o), length-map cs blockSize, s .pre .1)
+
+-- src/lib.rt:162:1
+same-length : tie.Need-same-length
+same-length c = search needs
+
+-- src/lib.rt:162:1
+returns : tie.Need-returns
+returns c =
+    let o = c .before .before .before .before .before .before in
+    let s = o .before .before .before .before in
+    let p = patternAt (s .args .words .now) (s .args .at) in
+    let w = c .before .before .psd-up .ensures in (
+      w .0 ∙ ap (λ (xs : List ℕ). length xs * 3) (taken o) ∙ ap (λ (n : ℕ). n * 3) (length-map (p .cliques) blockSize),
+      w .1 ∙ ap (λ (xs : List ℕ). written (join psdWords xs) (s .args .out .now)) (taken o) ∙ ap (λ (xs : List ℕ). written xs (s .args .out .now)) (sizes-up p 0 0 0),
+    )
+
+pub standard-pattern-cones-spec : {M : Type 1} → statement M
+standard-pattern-cones-spec =
+    tie.close
+    (tie.spec
+    slice-aggregate-pattern-sizes
+    pattern-sizes-requires
+    array-share-prefix-sizes
+    slice-aggregate-psd-up
+    psd-up-requires
+    same-length
+    returns)

@@ -1,0 +1,33 @@
+use Prim.Native.Nat.{_-_}
+use mathlib.Core.Path.{refl, _∙_}
+use mathlib.Core.List.{[]}
+use Rattle.tables.proofs.Laws.{three-more}
+use native.Mathlib.Omega.{arith}
+use borrow.Author.Needs.{needs}
+use Rattle.tables.proofs.whole_entry.Statement.{statement}
+use Rattle.tables.proofs.whole_entry.Tie as tie
+use Rattle.tables.proofs.whole_entry.Reads as reads
+use Rattle.tables.proofs.whole_entry.Lts as lts
+use Rattle.tables.proofs.put.Reads as put-reads
+
+-- src/lib.rt:73:17
+cast-put : tie.Need-cast-put
+cast-put c = search needs
+
+-- src/lib.rt:73:5
+put-requires : tie.Need-put-requires
+put-requires c κs = search needs
+
+-- src/lib.rt:68:1
+same-length : tie.Need-same-length
+same-length c = search needs
+
+-- src/lib.rt:68:1
+returns : tie.Need-returns
+returns c =
+    let p = c .before .before in
+    let a = p .before .before .before .args in
+    (refl, p .put .ensures ∙ three-more [] (a .out .now) (a .i) 4294967295 0 0 refl (omega arith))
+
+pub whole-entry-spec : {M : Type 1} → statement M
+whole-entry-spec = tie.close (tie.spec cast-put put-requires same-length returns)

@@ -1,0 +1,295 @@
+use Prim.Native.Nat.{ℕ, _≤_, _<_, _-_, _+_}
+use mathlib.Core.Path.{_≡_, refl, ap, sym, _∙_}
+use mathlib.Core.List.{List, [], _∷_}
+use lib.ListN.{length, getD, take, drop, length-drop}
+use mathlib.Core.Path.{subst}
+use lib.ListN.{length-take}
+use Rattle.layout.specs.Lists.{written}
+use Rattle.layout.specs.Cones.{records}
+use Rattle.layout.specs.Patterns.{patterns}
+use Rattle.layout.specs.Blocks.{Part, whole, cut, parts}
+use Rattle.layout.specs.Checks.{noCone}
+use Rattle.layout.proofs.Laid.{sound-laid}
+use Rattle.supernode_tree.specs.Reads.{patternAt}
+use Rattle.blocks.proofs.Writing.{write-done}
+use Rattle.parts.specs.Ahead.{ahead, Stands, meets, Knows}
+use Rattle.parts.specs.declared.Met.the-variants.{Whole, Cut}
+use Rattle.tables.specs.Tables.{tableOf, partCodes, codesFrom}
+use Rattle.tables.proofs.Codes.{codes-none, part-fits, wrote-part}
+use Rattle.tables.proofs.Tables.{table-is, few-part}
+use native.Mathlib.Omega.{arith}
+use borrow.Author.Needs.{needs}
+use Rattle.tables.proofs.write_table.Statement.{statement}
+use Rattle.tables.proofs.write_table.Tie as tie
+use Rattle.tables.proofs.write_table.Reads as reads
+use Rattle.tables.proofs.write_table.Lts as lts
+use Rattle.parts.proofs.Place.next.Reads as next-reads
+use Rattle.parts.proofs.Place.start.Reads as start-reads
+use Rattle.tables.proofs.write_cut.Reads as write-cut-reads
+use Rattle.tables.proofs.write_whole.Reads as write-whole-reads
+
+abbrev Inv-loop : tie.InvT-loop
+Inv-loop table m cones count words out₀ place₀ t₀ out place t =
+    let full = codesFrom table 0 (parts (records cones) (patterns count words)) in
+    (t ≤ length full) × (length out ≡ length out₀) × (out ≡ written (take t full) out₀)
+    × (drop t full ≡ codesFrom table t (ahead cones words place)) × Stands m cones words place
+
+abbrev μ-loop : tie.MeasureT-loop
+μ-loop table m cones count words out₀ place₀ t₀ out place t = length (ahead cones words place)
+
+-- the table, and the parts left
+abbrev fullOf : (s : tie.Start Inv-loop μ-loop) → List ℕ
+fullOf s = codesFrom (s .args .table) 0 (parts (records (s .args .cones .now)) (patterns (s .args .count) (s .args .words .now)))
+
+abbrev aheadOf : (l : tie.At-loop Inv-loop μ-loop) → List Part
+aheadOf l = let a = l .before .before .before .before .before .args in ahead (a .cones .now) (a .words .now) (l .loop .place)
+
+-- it is the layout's, and there is room for it
+same : (s : tie.Start Inv-loop μ-loop)
+    → fullOf s ≡ tableOf (s .args .table) (parts (records (s .args .cones .now)) (patterns (s .args .count) (s .args .words .now)))
+same s = table-is (s .args .table) (parts (records (s .args .cones .now)) (patterns (s .args .count) (s .args .words .now))) (sound-laid (s .pre .0) .0)
+
+room : (s : tie.Start Inv-loop μ-loop) → length (fullOf s) ≤ length (s .args .out .now)
+room s = omega (arith, ap length (same s), s .pre .1 .1)
+
+small : (l : tie.At-loop Inv-loop μ-loop) → length (fullOf (l .before .before .before .before .before)) < 18446744073709551616
+small l = omega (arith, room (l .before .before .before .before .before))
+
+-- a whole cone was met
+abbrev wholeOf : (c : tie.After-known-told Inv-loop μ-loop) → Part
+wholeOf c =
+    let l = c .before .before .before .before in
+    let q = l .loop .place in
+    whole (q .cone) (getD (records (l .before .before .before .before .before .args .cones .now)) (q .cone) noCone) (q .row)
+
+met-whole : (c : tie.After-known-told Inv-loop μ-loop)
+    → let l = c .before .before .before .before in
+    let a = l .before .before .before .before .before .args in
+    let g = c .before .met .given in
+    (aheadOf l ≡ wholeOf c ∷ ahead (a .cones .now) (a .words .now) (g .0 .1 .0))
+    × Knows (a .m) (a .cones .now) (a .words .now) (l .loop .place) (Whole (g .0 .0) (g .0 .1 .0))
+met-whole c =
+    let r = c .before .before .before in
+    let l = r .before in
+    let a = l .before .before .before .before .before .args in
+    let g = c .before .met .given in (
+      r .next .ensures .0 ∙ ap (meets (a .cones .now) (a .words .now) (l .loop .place)) (g .1),
+      subst (Knows (a .m) (a .cones .now) (a .words .now) (l .loop .place)) (g .1) (r .next .ensures .1),
+    )
+
+fits-whole : (c : tie.After-known-told Inv-loop μ-loop)
+    → let l = c .before .before .before .before in
+    l .loop .t + length (partCodes (l .before .before .before .before .before .args .table) (l .loop .t) (wholeOf c)) ≤ length (fullOf (l .before .before .before .before .before))
+fits-whole c =
+    let l = c .before .before .before .before in
+    let s = l .before .before .before .before .before in
+    part-fits (s .args .table) (fullOf s) (l .loop .t) (l .loop .inv .0) (wholeOf c) (aheadOf l) _ (l .loop .inv .3) (met-whole c .0) .2
+
+-- a cut cone was met
+abbrev cutOf : (c : tie.After-known-told2 Inv-loop μ-loop) → Part
+cutOf c =
+    let l = c .before .before .before .before in
+    let q = l .loop .place in
+    cut (q .cone) (q .row) (q .pattern) (patternAt (l .before .before .before .before .before .args .words .now) (c .before .met2 .given .0 .0))
+
+met-cut : (c : tie.After-known-told2 Inv-loop μ-loop)
+    → let l = c .before .before .before .before in
+    let a = l .before .before .before .before .before .args in
+    let g = c .before .met2 .given in
+    (aheadOf l ≡ cutOf c ∷ ahead (a .cones .now) (a .words .now) (g .0 .1 .0))
+    × Knows (a .m) (a .cones .now) (a .words .now) (l .loop .place) (Cut (g .0 .0) (g .0 .1 .0))
+met-cut c =
+    let r = c .before .before .before in
+    let l = r .before in
+    let a = l .before .before .before .before .before .args in
+    let g = c .before .met2 .given in (
+      r .next .ensures .0 ∙ ap (meets (a .cones .now) (a .words .now) (l .loop .place)) (g .1),
+      subst (Knows (a .m) (a .cones .now) (a .words .now) (l .loop .place)) (g .1) (r .next .ensures .1),
+    )
+
+fits-cut : (c : tie.After-known-told2 Inv-loop μ-loop)
+    → let l = c .before .before .before .before in
+    l .loop .t + length (partCodes (l .before .before .before .before .before .args .table) (l .loop .t) (cutOf c)) ≤ length (fullOf (l .before .before .before .before .before))
+fits-cut c =
+    let l = c .before .before .before .before in
+    let s = l .before .before .before .before .before in
+    part-fits (s .args .table) (fullOf s) (l .loop .t) (l .loop .inv .0) (cutOf c) (aheadOf l) _ (l .loop .inv .3) (met-cut c .0) .2
+
+-- src/lib.rt:269:9
+start-requires : tie.Need-start-requires Inv-loop μ-loop
+start-requires c κs = c .before .before .before .pre .0
+
+-- src/lib.rt:271:5
+loop-holds : tie.Need-loop-holds Inv-loop μ-loop
+loop-holds c =
+    let s = c .before .before .before .before in
+    (omega arith, refl, refl, ap (codesFrom (s .args .table) 0) (sym (c .start .ensures .0)), c .start .ensures .1)
+
+-- src/lib.rt:272:13
+next-requires : tie.Need-next-requires Inv-loop μ-loop
+next-requires c κs = c .loop .inv .4
+
+-- src/lib.rt:274:24
+enum-known-met : tie.Need-enum-known-met Inv-loop μ-loop
+enum-known-met c = search needs
+
+-- src/lib.rt:275:77
+mul-write-whole : tie.Need-mul-write-whole Inv-loop μ-loop
+mul-write-whole c = omega (arith, fits-whole c, room (c .before .before .before .before .before .before .before .before .before))
+
+-- src/lib.rt:275:77
+sub-write-whole : tie.Need-sub-write-whole Inv-loop μ-loop
+sub-write-whole c = omega (arith, fits-whole c, room (c .before .before .before .before .before .before .before .before .before))
+
+-- src/lib.rt:275:77
+part-write-whole-start : tie.Need-part-write-whole-start Inv-loop μ-loop
+part-write-whole-start c = omega (arith, fits-whole c, room (c .before .before .before .before .before .before .before .before .before))
+
+-- src/lib.rt:275:77
+part-write-whole-end : tie.Need-part-write-whole-end Inv-loop μ-loop
+part-write-whole-end c = omega (arith, fits-whole c, room (c .before .before .before .before .before .before .before .before .before))
+
+-- src/lib.rt:275:22
+write-whole-requires : tie.Need-write-whole-requires Inv-loop μ-loop
+write-whole-requires c κs =
+    let k = c .before in
+    let l = k .before .before .before .before in
+    let s = l .before .before .before .before .before in
+    let h = met-whole k .1 in
+    ((h .0, omega (arith, h .1, l .loop .inv .4 .few), h .2, h .3), simp (length-take, length-drop) (omega (arith, fits-whole k, room s)))
+
+-- src/lib.rt:275:17
+add-t : tie.Need-add-t Inv-loop μ-loop
+add-t c =
+    let k = c .before .before .before .before in
+    omega (arith, fits-whole k, c .before .before .write-whole .ensures .0, small (k .before .before .before .before))
+
+-- src/lib.rt:271:5
+loop-less : tie.Need-loop-less Inv-loop μ-loop
+loop-less c =
+    let k = c .before .before .before .before in
+    omega (arith, ap length (met-whole k .0))
+
+-- src/lib.rt:271:5
+loop-again : tie.Need-loop-again Inv-loop μ-loop
+loop-again c =
+    let k = c .before .before .before .before in
+    let l = k .before .before .before .before in
+    let s = l .before .before .before .before .before in
+    let w = c .before .before .write-whole in
+    let e = wrote-part (s .args .table) (fullOf s) (l .loop .t) (l .loop .inv .0) (wholeOf k) (aheadOf l) _ (l .loop .inv .3) (met-whole k .0)
+    (s .args .out .now) (l .loop .out) (w .last .1 .1 .1 .1 .1 .0) (room s) (l .loop .inv .1) (l .loop .inv .2) (w .result) (w .ensures .0) (w .ensures .1) in
+    (e .0, e .1, e .2, e .3, met-whole k .1 .5)
+
+-- src/lib.rt:278:22
+enum-known-met-2 : tie.Need-enum-known-met-2 Inv-loop μ-loop
+enum-known-met-2 c = search needs
+
+-- src/lib.rt:279:91
+mul-write-cut : tie.Need-mul-write-cut Inv-loop μ-loop
+mul-write-cut c = omega (arith, fits-cut c, room (c .before .before .before .before .before .before .before .before .before))
+
+-- src/lib.rt:279:91
+sub-write-cut : tie.Need-sub-write-cut Inv-loop μ-loop
+sub-write-cut c = omega (arith, fits-cut c, room (c .before .before .before .before .before .before .before .before .before))
+
+-- src/lib.rt:279:91
+part-write-cut-start : tie.Need-part-write-cut-start Inv-loop μ-loop
+part-write-cut-start c = omega (arith, fits-cut c, room (c .before .before .before .before .before .before .before .before .before))
+
+-- src/lib.rt:279:91
+part-write-cut-end : tie.Need-part-write-cut-end Inv-loop μ-loop
+part-write-cut-end c = omega (arith, fits-cut c, room (c .before .before .before .before .before .before .before .before .before))
+
+-- src/lib.rt:279:22
+write-cut-requires : tie.Need-write-cut-requires Inv-loop μ-loop
+write-cut-requires c κs =
+    let k = c .before in
+    let l = k .before .before .before .before in
+    let s = l .before .before .before .before .before in
+    let q = l .loop .place in
+    let ps = parts (records (s .args .cones .now)) (patterns (s .args .count) (s .args .words .now)) in
+    let h = met-cut k .1 in (
+      (h .1, h .2, omega (arith, h .3, l .loop .inv .4 .few), h .4),
+      (
+        few-part (s .args .table) ps (sound-laid (s .pre .0) .0) (s .pre .1 .0) (l .loop .t) (q .cone) (q .row) (q .pattern) (patternAt (s .args .words .now) (k .before .met2 .given .0 .0)) (h .1) (fits-cut k),
+        simp (length-take, length-drop) (omega (arith, fits-cut k, room s)),
+      ),
+    )
+
+-- src/lib.rt:279:17
+add-t-2 : tie.Need-add-t-2 Inv-loop μ-loop
+add-t-2 c =
+    let k = c .before .before .before .before in
+    omega (arith, fits-cut k, c .before .before .write-cut .ensures .0, small (k .before .before .before .before))
+
+-- src/lib.rt:271:5
+loop-less-2 : tie.Need-loop-less-2 Inv-loop μ-loop
+loop-less-2 c =
+    let k = c .before .before .before .before in
+    omega (arith, ap length (met-cut k .0))
+
+-- src/lib.rt:271:5
+loop-again-2 : tie.Need-loop-again-2 Inv-loop μ-loop
+loop-again-2 c =
+    let k = c .before .before .before .before in
+    let l = k .before .before .before .before in
+    let s = l .before .before .before .before .before in
+    let w = c .before .before .write-cut in
+    let e = wrote-part (s .args .table) (fullOf s) (l .loop .t) (l .loop .inv .0) (cutOf k) (aheadOf l) _ (l .loop .inv .3) (met-cut k .0)
+    (s .args .out .now) (l .loop .out) (w .last .1 .1 .1 .1 .1 .1 .1 .0) (room s) (l .loop .inv .1) (l .loop .inv .2) (w .result) (w .ensures .0) (w .ensures .1) in
+    (e .0, e .1, e .2, e .3, met-cut k .1 .6)
+
+-- src/lib.rt:283:17
+enum-told : tie.Need-enum-told Inv-loop μ-loop
+enum-told c = search needs
+
+-- src/lib.rt:283:17
+same-length : tie.Need-same-length Inv-loop μ-loop
+same-length c = c .before .before .before .loop .inv .1
+
+-- src/lib.rt:283:17
+returns : tie.Need-returns Inv-loop μ-loop
+returns c =
+    let r = c .before .before in
+    let l = r .before in
+    let s = l .before .before .before .before .before in
+    let a = s .args in
+    let none : aheadOf l ≡ [] = r .next .ensures .0 ∙ ap (meets (a .cones .now) (a .words .now) (l .loop .place)) (c .enum-told .given .1) in
+    let left : drop (l .loop .t) (fullOf s) ≡ [] = l .loop .inv .3 ∙ ap (codesFrom (a .table) (l .loop .t)) none ∙ codes-none (a .table) (l .loop .t) in
+    let all : length (fullOf s) ≤ l .loop .t = omega (arith, ap length left, length-drop (l .loop .t) (fullOf s)) in
+    let t : l .loop .t ≡ length (fullOf s) = omega arith in (
+      t ∙ ap length (same s),
+      l .loop .inv .2 ∙ write-done (fullOf s) (a .out .now) (l .loop .t) all ∙ ap (λ (xs : List ℕ). written xs (a .out .now)) (same s),
+    )
+
+pub write-table-spec : {M : Type 1} → statement M
+write-table-spec =
+    tie.close
+    (tie.spec
+    Inv-loop
+    μ-loop
+    start-requires
+    loop-holds
+    next-requires
+    enum-known-met
+    mul-write-whole
+    sub-write-whole
+    part-write-whole-start
+    part-write-whole-end
+    write-whole-requires
+    add-t
+    loop-less
+    loop-again
+    enum-known-met-2
+    mul-write-cut
+    sub-write-cut
+    part-write-cut-start
+    part-write-cut-end
+    write-cut-requires
+    add-t-2
+    loop-less-2
+    loop-again-2
+    enum-told
+    same-length
+    returns)

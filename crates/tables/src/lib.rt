@@ -1,0 +1,294 @@
+// The tables that follow from the cones and the patterns alone: rows of H, rows of the compact route, cones, the cone map.
+ghost use mathlib.Core.Path.{_≡_};
+ghost use mathlib.Core.Bool.{true};
+ghost use mathlib.Core.List.{map, reverse};
+ghost use Prim.Native.Nat.{_+_, _*_, _≤_, _<_};
+ghost use lib.ListN.{length, getD, set};
+ghost use Rattle.layout.specs.Lists.{all, below, join, upFrom, written};
+ghost use Rattle.layout.specs.Triangle.{triangle};
+ghost use Rattle.layout.specs.Cones.{records, rowCount};
+ghost use Rattle.layout.specs.Patterns.{blockSize, cliqueCount, patterns};
+ghost use Rattle.layout.specs.Blocks.{cut, parts, blockRows, blockRowCount};
+ghost use Rattle.layout.specs.Checks.{Sound, RightPattern, noCone};
+ghost use Rattle.layout.specs.Compact.{blockOf, wholeCone, coneWords, entryWords, mapWords, psdWords, compactPart, mapPart};
+ghost use Rattle.layout.specs.Standard.{standardPart};
+ghost use Rattle.supernode_tree.specs.Reads.{patternAt, Whole, cliquesFrom};
+ghost use Rattle.supernode_tree.proofs.Sizes.{atMost};
+ghost use Rattle.tables.specs.Tables.{tableOf, wholeCodes, cutCodes, Few};
+use parts::Met;
+use parts::Place;
+use parts::clique_count;
+use supernode_tree::Clique;
+use supernode_tree::CliqueRead;
+use supernode_tree::Pattern;
+use supernode_tree::PatternRead;
+use supportedcone::SupportedCone;
+
+// The mark for none where the cone map has a pattern's number.
+const NO_PATTERN: u32 = 4294967295;
+
+// The rows of H; the compact route's rows, coded for its joining and for its cut; the cones of either route; the cone map.
+pub enum Table {
+    HRows,
+    JoinRows,
+    CutRows,
+    StandardCones,
+    CompactCones,
+    ConeMap,
+}
+
+// ---- a whole cone
+
+// The numbers from first on; how many.
+fn count_up(out: &mut [u32], first: u32, count: u32) -> usize
+    requires { ⌜ (count ≤ length (now out)) × (first + count < 4294967296) ⌝ }
+    ensures { λ r. ⌜ r ≡ count ⌝ }
+    ensures { λ _. ⌜ now (out .exit) ≡ written (upFrom first count) (now (out .entry)) ⌝ }
+{
+    let mut i = 0;
+    while i < count {
+        out[i as usize] = first + i;
+        i += 1;
+    }
+    i as usize
+}
+
+// Three words at t.
+fn put(out: &mut [u32], t: usize, a: u32, b: u32, c: u32)
+    requires { ⌜ t + 3 ≤ length (now out) ⌝ }
+    ensures { λ _. ⌜ now (out .exit) ≡ set (set (set (now (out .entry)) t a) (t + 1) b) (t + 2) c ⌝ }
+{
+    out[t] = a;
+    out[t + 1] = b;
+    out[t + 2] = c;
+}
+
+// Record i; how many words.
+fn copy_record(cones: &[u32], i: usize, out: &mut [u32]) -> usize
+    requires { ⌜ (i * 3 + 3 ≤ length (now cones)) × (i < 1024) × (3 ≤ length (now out)) ⌝ }
+    ensures { λ r. ⌜ r ≡ 3 ⌝ }
+    ensures { λ _. ⌜ now (out .exit) ≡ written (coneWords (getD (records (now (cones .entry))) i noCone)) (now (out .entry)) ⌝ }
+{
+    let at = i * 3;
+    put(out, 0, cones[at], cones[at + 1], cones[at + 2]);
+    3
+}
+
+// The map entry of a whole cone; how many words.
+fn whole_entry(i: usize, out: &mut [u32]) -> usize
+    requires { ⌜ (i < 1024) × (3 ≤ length (now out)) ⌝ }
+    ensures { λ r. ⌜ r ≡ 3 ⌝ }
+    ensures { λ _. ⌜ now (out .exit) ≡ written (entryWords (wholeCone i)) (now (out .entry)) ⌝ }
+{
+    put(out, 0, i as u32, NO_PATTERN, 0);
+    3
+}
+
+// What a whole cone writes: number i, from its first row on; how many words.
+fn write_whole(table: Table, i: usize, row: u32, rows: u32, cones: &[u32], out: &mut [u32]) -> usize
+    requires { ⌜ (rows ≡ rowCount (getD (records (now cones)) i noCone)) × (row + rows ≤ 65536) × (i < 1024) × (i * 3 + 3 ≤ length (now cones)) ⌝ }
+    requires { ⌜ length (wholeCodes table i (getD (records (now cones)) i noCone) row) ≤ length (now out) ⌝ }
+    ensures { λ r. ⌜ r ≡ length (wholeCodes table i (getD (records (now (cones .entry))) i noCone) row) ⌝ }
+    ensures { λ _. ⌜ now (out .exit) ≡ written (wholeCodes table i (getD (records (now (cones .entry))) i noCone) row) (now (out .entry)) ⌝ }
+{
+    match table {
+        Table::HRows => count_up(out, row, rows),
+        Table::JoinRows => count_up(out, 65536 + row, rows),
+        Table::CutRows => count_up(out, row, rows),
+        Table::StandardCones => copy_record(cones, i, out),
+        Table::CompactCones => copy_record(cones, i, out),
+        Table::ConeMap => whole_entry(i, out),
+    }
+}
+
+// ---- a cut cone
+
+// The block sizes of count cliques.
+fn block_sizes(words: &[u32], first: usize, count: u32, out: &mut [u32])
+    requires { ⌜ Whole (now words) first count × (count ≤ length (now out)) ⌝ }
+    requires { ⌜ all (atMost 256) (cliquesFrom (now words) first count) ≡ true ⌝ }
+    ensures { λ _. ⌜ now (out .exit) ≡ written (map blockSize (cliquesFrom (now (words .entry)) first count)) (now (out .entry)) ⌝ }
+{
+    let mut at = first;
+    let mut c = 0;
+    let mut left = count;
+    while 0 < left {
+        let CliqueRead::Clique(q) = Clique::read(words, at) else {
+            break;
+        };
+        out[c] = q.get_nblk() as u32;
+        at = q.next;
+        c += 1;
+        left -= 1;
+    }
+}
+
+// The block sizes of the pattern at an offset; how many.
+fn pattern_sizes(words: &[u32], at: usize, out: &mut [u32]) -> usize
+    requires { ⌜ RightPattern (patternAt (now words) at) ⌝ }
+    requires { ⌜ (patternAt (now words) at .vertexCount ≤ 256) × (256 ≤ length (now out)) ⌝ }
+    ensures { λ r. ⌜ r ≡ cliqueCount (patternAt (now (words .entry)) at) ⌝ }
+    ensures { λ _. ⌜ now (out .exit) ≡ written (map blockSize (patternAt (now (words .entry)) at .cliques)) (now (out .entry)) ⌝ }
+{
+    let PatternRead::Pattern(p) = Pattern::read(words, at) else {
+        return 0;
+    };
+    block_sizes(words, p.cliques, p.clique_count, out);
+    p.clique_count as usize
+}
+
+// A PSD cone for each size, from the first to the last; how many words.
+fn psd_up(sizes: &[u32], out: &mut [u32]) -> usize
+    requires { ⌜ length (now sizes) * 3 ≤ length (now out) ⌝ }
+    ensures { λ r. ⌜ r ≡ length (now (sizes .entry)) * 3 ⌝ }
+    ensures { λ _. ⌜ now (out .exit) ≡ written (join psdWords (now (sizes .entry))) (now (out .entry)) ⌝ }
+{
+    let mut t = 0;
+    let mut c = 0;
+    while c < sizes.len() {
+        put(&mut *out, t, SupportedCone::PSD_TRIANGLE, sizes[c], 0);
+        t += 3;
+        c += 1;
+    }
+    t
+}
+
+// The same from the last to the first.
+fn psd_down(sizes: &[u32], out: &mut [u32]) -> usize
+    requires { ⌜ length (now sizes) * 3 ≤ length (now out) ⌝ }
+    ensures { λ r. ⌜ r ≡ length (now (sizes .entry)) * 3 ⌝ }
+    ensures { λ _. ⌜ now (out .exit) ≡ written (join psdWords (reverse (now (sizes .entry)))) (now (out .entry)) ⌝ }
+{
+    let mut t = 0;
+    let mut c = sizes.len();
+    while 0 < c {
+        c -= 1;
+        put(&mut *out, t, SupportedCone::PSD_TRIANGLE, sizes[c], 0);
+        t += 3;
+    }
+    t
+}
+
+// The standard route's cones of the pattern at an offset; how many words.
+fn standard_pattern_cones(words: &[u32], at: usize, out: &mut [u32]) -> usize
+    requires { ⌜ RightPattern (patternAt (now words) at) × (patternAt (now words) at .vertexCount ≤ 256) ⌝ }
+    requires { ⌜ cliqueCount (patternAt (now words) at) * 3 ≤ length (now out) ⌝ }
+    ensures { λ r. ⌜ r ≡ cliqueCount (patternAt (now (words .entry)) at) * 3 ⌝ }
+    ensures { λ _. ⌜ now (out .exit) ≡ written (standardPart (cut 0 0 0 (patternAt (now (words .entry)) at))) (now (out .entry)) ⌝ }
+{
+    let mut sizes = [0u32; 256];
+    let k = pattern_sizes(words, at, &mut sizes);
+    psd_up(&sizes[..k], out)
+}
+
+// The compact route's.
+fn compact_pattern_cones(words: &[u32], at: usize, out: &mut [u32]) -> usize
+    requires { ⌜ RightPattern (patternAt (now words) at) × (patternAt (now words) at .vertexCount ≤ 256) ⌝ }
+    requires { ⌜ cliqueCount (patternAt (now words) at) * 3 ≤ length (now out) ⌝ }
+    ensures { λ r. ⌜ r ≡ cliqueCount (patternAt (now (words .entry)) at) * 3 ⌝ }
+    ensures { λ _. ⌜ now (out .exit) ≡ written (compactPart (cut 0 0 0 (patternAt (now (words .entry)) at))) (now (out .entry)) ⌝ }
+{
+    let mut sizes = [0u32; 256];
+    let k = pattern_sizes(words, at, &mut sizes);
+    psd_down(&sizes[..k], out)
+}
+
+// The map entries of count cliques of one pattern, from the last to the first; how many words.
+fn map_down(cone: u32, pattern: u32, count: u32, out: &mut [u32]) -> usize
+    requires { ⌜ count * 3 ≤ length (now out) ⌝ }
+    ensures { λ r. ⌜ r ≡ count * 3 ⌝ }
+    ensures { λ _. ⌜ now (out .exit) ≡ written (mapWords (map (blockOf cone pattern) (reverse (below count)))) (now (out .entry)) ⌝ }
+{
+    let mut t = 0;
+    let mut c = count;
+    while 0 < c {
+        c -= 1;
+        put(&mut *out, t, cone, pattern, c);
+        t += 3;
+    }
+    t
+}
+
+// The map entries of cone i, which pattern k at an offset cuts; how many words.
+fn cut_entries(words: &[u32], at: usize, i: usize, k: u32, out: &mut [u32]) -> usize
+    requires { ⌜ RightPattern (patternAt (now words) at) × (i < 1024) ⌝ }
+    requires { ⌜ cliqueCount (patternAt (now words) at) * 3 ≤ length (now out) ⌝ }
+    ensures { λ r. ⌜ r ≡ cliqueCount (patternAt (now (words .entry)) at) * 3 ⌝ }
+    ensures { λ _. ⌜ now (out .exit) ≡ written (mapWords (mapPart (cut i 0 k (patternAt (now (words .entry)) at)))) (now (out .entry)) ⌝ }
+{
+    let count = clique_count(words, at);
+    map_down(i as u32, k, count, out)
+}
+
+// What cone i writes where pattern k at an offset cuts it, from its first row on; t words are written before. How many words.
+fn write_cut(
+    table: Table,
+    i: usize,
+    row: u32,
+    k: u32,
+    words: &[u32],
+    at: usize,
+    t: usize,
+    out: &mut [u32],
+) -> usize
+    requires { ⌜ RightPattern (patternAt (now words) at) × (patternAt (now words) at .vertexCount ≤ 256) × (row + triangle (patternAt (now words) at .vertexCount) ≤ 65536) × (i < 1024) ⌝ }
+    requires { ⌜ Few table (t + blockRows (patternAt (now words) at)) ⌝ }
+    requires { ⌜ length (cutCodes table t i row k (patternAt (now words) at)) ≤ length (now out) ⌝ }
+    ensures { λ r. ⌜ r ≡ length (cutCodes table t i row k (patternAt (now (words .entry)) at)) ⌝ }
+    ensures { λ _. ⌜ now (out .exit) ≡ written (cutCodes table t i row k (patternAt (now (words .entry)) at)) (now (out .entry)) ⌝ }
+{
+    match table {
+        Table::HRows => blocks::standard_pattern_rows(words, at, row, out),
+        Table::JoinRows => blocks::compact_pattern_originals(words, at, row, out),
+        Table::CutRows => overlaps::compact_pattern_rows(words, at, row, t as u32, out),
+        Table::StandardCones => standard_pattern_cones(words, at, out),
+        Table::CompactCones => compact_pattern_cones(words, at, out),
+        Table::ConeMap => cut_entries(words, at, i, k, out),
+    }
+}
+
+// ---- the tables
+
+// Writes a table of the cones, each whole or cut by its pattern; how many words.
+pub fn write_table(
+    table: Table,
+    m: u32,
+    cones: &[u32],
+    count: u32,
+    words: &[u32],
+    out: &mut [u32],
+) -> usize
+    requires { ⌜ Sound m (now cones) count (now words) ⌝ }
+    requires { ⌜ Few table (blockRowCount (parts (records (now cones)) (patterns count (now words)))) ⌝ }
+    requires { ⌜ length (tableOf table (parts (records (now cones)) (patterns count (now words)))) ≤ length (now out) ⌝ }
+    ensures { λ r. ⌜ r ≡ length (tableOf table (parts (records (now (cones .entry))) (patterns count (now (words .entry))))) ⌝ }
+    ensures { λ _. ⌜ now (out .exit) ≡ written (tableOf table (parts (records (now (cones .entry))) (patterns count (now (words .entry))))) (now (out .entry)) ⌝ }
+{
+    let mut place = Place::start(m, cones, count, words);
+    let mut t = 0;
+    loop {
+        let met = place.next(m, cones, words);
+        match met {
+            Met::Whole(rows, next) => {
+                t += write_whole(table, place.cone, place.row, rows, cones, &mut out[t..]);
+                place = next;
+            }
+            Met::Cut(at, next) => {
+                t += write_cut(
+                    table,
+                    place.cone,
+                    place.row,
+                    place.pattern,
+                    words,
+                    at,
+                    t,
+                    &mut out[t..],
+                );
+                place = next;
+            }
+            Met::Done => {
+                return t;
+            }
+        }
+    }
+}
