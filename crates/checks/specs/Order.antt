@@ -1,0 +1,57 @@
+-- Checks 1 to 7 in the groups that the code makes them in, and what they say of a problem that passes them.
+use Prim.Native.Nat.{ℕ, _≤_}
+use mathlib.Core.Path.{_≡_}
+use mathlib.Core.Bool.{Bool, true, cond, _&&_}
+use mathlib.Core.List.{List, [], _∷_}
+use lib.ListN.{length}
+use lib.Dec.{T, leb, eqb}
+use lib.Ieee.{Float}
+use Rattle.layout.specs.Lists.{all}
+use Rattle.layout.specs.Problem.{Problem, Csc}
+use Rattle.layout.specs.Patterns.{patterns}
+use Rattle.layout.specs.Checks.{conesBounded, startsRight, rowsRight, conesRead, alphasAsMany, patternsRead, treeRight, cliquesRight, firstFailing, Sound}
+use Rattle.layout.specs.Answers.{joinBounded}
+
+-- 1
+abbrev pub bounds : ℕ → ℕ → ℕ → ℕ → List ℕ → Bool
+bounds n m aEntries pEntries cones = leb n 65536 && leb m 65536 && leb aEntries 262144 && leb pEntries 262144 && conesBounded cones
+
+-- 2 and 3
+abbrev pub matricesRefusal : ℕ → ℕ → Csc → Csc → ℕ
+matricesRefusal n m P A =
+    firstFailing 2 ((startsRight n A && startsRight n P) ∷ (rowsRight m n A && rowsRight n n P) ∷ [])
+
+-- 4
+abbrev pub recordsRefusal : ℕ → ℕ → List Float → List Float → List ℕ → List Float → ℕ
+recordsRefusal n m q b cones alphas =
+    firstFailing 4 ((conesRead m cones && alphasAsMany cones alphas && eqb (length q) n && eqb (length b) m) ∷ [])
+
+-- 5, 6 and 7
+abbrev pub patternsRefusal : List ℕ → ℕ → List ℕ → ℕ
+patternsRefusal cones count words =
+    let ps = patterns count words in
+    firstFailing 5 (patternsRead cones count words ∷ all treeRight ps ∷ all cliquesRight ps ∷ [])
+
+-- those of a joining, which lacks the inputs of 2 and 3 and, of 4, all but the records and m
+abbrev pub joinedTests : ℕ → ℕ → List ℕ → ℕ → List ℕ → List Bool
+joinedTests n m cones count words =
+    let ps = patterns count words in
+    joinBounded n m cones ∷ true ∷ true ∷ conesRead m cones
+    ∷ patternsRead cones count words ∷ all treeRight ps ∷ all cliquesRight ps ∷ []
+
+abbrev pub joinedRefusal : ℕ → ℕ → List ℕ → ℕ → List ℕ → ℕ
+joinedRefusal n m cones count words = firstFailing 1 (joinedTests n m cones count words)
+
+-- What checks 1 to 7 say of a problem.
+pub record Checked (p : Problem) : Type 0 where
+  pub fewColumns : p .n ≤ 65536
+  pub fewEntriesA : length (p .A .values) ≤ 262144
+  pub fewEntriesP : length (p .P .values) ≤ 262144
+  pub startsA : T (startsRight (p .n) (p .A))
+  pub startsP : T (startsRight (p .n) (p .P))
+  pub rowsA : T (rowsRight (p .m) (p .n) (p .A))
+  pub rowsP : T (rowsRight (p .n) (p .n) (p .P))
+  pub alphas : T (alphasAsMany (p .cones) (p .alphas))
+  pub lengthQ : length (p .q) ≡ p .n
+  pub lengthB : length (p .b) ≡ p .m
+  pub sound : Sound (p .m) (p .cones) (p .patternCount) (p .patternWords)

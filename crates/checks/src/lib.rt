@@ -1,0 +1,150 @@
+// Checks 1 to 7 in document 01's order: of a whole problem, and of what a joining is given.
+ghost use mathlib.Core.Path.{_≡_};
+ghost use mathlib.Core.Bool.{true};
+ghost use Rattle.layout.specs.Problem.{problem};
+ghost use Rattle.layout.specs.Checks.{conesBounded};
+ghost use Rattle.layout.specs.Answers.{joinBounded, problemRefusal};
+ghost use Rattle.csc.specs.Matrix.{matrix};
+ghost use Rattle.checks.specs.Order.{bounds, matricesRefusal, recordsRefusal, patternsRefusal, joinedRefusal};
+
+// Check 1 of a joining: n, m and the cones.
+pub fn join_bounded(n: u32, m: u32, cones: &[u32]) -> bool
+    ensures { λ r. ⌜ r ≡ joinBounded n m (now (cones .entry)) ⌝ }
+{
+    if 65536 < n {
+        return false;
+    }
+    if 65536 < m {
+        return false;
+    }
+    supportedcone::cones_bounded(cones)
+}
+
+// Check 1 of a problem.
+pub fn bounded(n: u32, m: u32, a_entries: usize, p_entries: usize, cones: &[u32]) -> bool
+    ensures { λ r. ⌜ r ≡ bounds n m «a_entries» «p_entries» (now (cones .entry)) ⌝ }
+{
+    if 65536 < n {
+        return false;
+    }
+    if 65536 < m {
+        return false;
+    }
+    if 262144 < a_entries {
+        return false;
+    }
+    if 262144 < p_entries {
+        return false;
+    }
+    supportedcone::cones_bounded(cones)
+}
+
+// Checks 2 and 3.
+pub fn check_matrices(
+    n: u32,
+    m: u32,
+    p_starts: &[u32],
+    p_rows: &[u32],
+    p_values: &[f64],
+    a_starts: &[u32],
+    a_rows: &[u32],
+    a_values: &[f64],
+) -> u32
+    ensures { λ r. ⌜ r ≡ matricesRefusal n m (matrix (now («p_starts» .entry)) (now («p_rows» .entry)) (now («p_values» .entry))) (matrix (now («a_starts» .entry)) (now («a_rows» .entry)) (now («a_values» .entry))) ⌝ }
+{
+    if !csc::starts_right(n, a_starts, a_rows, a_values) {
+        return 2;
+    }
+    if !csc::starts_right(n, p_starts, p_rows, p_values) {
+        return 2;
+    }
+    if !csc::rows_right(m, n, a_starts, a_rows, a_values) {
+        return 3;
+    }
+    if !csc::rows_right(n, n, p_starts, p_rows, p_values) {
+        return 3;
+    }
+    0
+}
+
+// Check 4: records and rows, α, and the lengths of q and b.
+pub fn check_records(n: u32, m: u32, q: &[f64], b: &[f64], cones: &[u32], alphas: &[f64]) -> u32
+    requires { ⌜ conesBounded (now cones) ≡ true ⌝ }
+    ensures { λ r. ⌜ r ≡ recordsRefusal n m (now (q .entry)) (now (b .entry)) (now (cones .entry)) (now (alphas .entry)) ⌝ }
+{
+    if supportedcone::check_cones(m, cones) != 0 {
+        return 4;
+    }
+    if !supportedcone::alphas_as_many(cones, alphas) {
+        return 4;
+    }
+    if q.len() != n as usize {
+        return 4;
+    }
+    if b.len() != m as usize {
+        return 4;
+    }
+    0
+}
+
+// Checks 5, 6 and 7.
+pub fn check_patterns(cones: &[u32], count: u32, words: &[u32]) -> u32
+    ensures { λ r. ⌜ r ≡ patternsRefusal (now (cones .entry)) count (now (words .entry)) ⌝ }
+{
+    if !sparsity_pattern::check_patterns(cones, count, words) {
+        return 5;
+    }
+    if !clique_tree::trees_right(count, words) {
+        return 6;
+    }
+    if !clique_tree::all_cliques_right(count, words) {
+        return 7;
+    }
+    0
+}
+
+// Checks 1 to 7: the number of the first that fails, or 0.
+pub fn check_problem(
+    n: u32,
+    m: u32,
+    p_starts: &[u32],
+    p_rows: &[u32],
+    p_values: &[f64],
+    q: &[f64],
+    a_starts: &[u32],
+    a_rows: &[u32],
+    a_values: &[f64],
+    b: &[f64],
+    cones: &[u32],
+    alphas: &[f64],
+    count: u32,
+    words: &[u32],
+) -> u32
+    ensures { λ r. ⌜ r ≡ problemRefusal (problem n m (now («p_starts» .entry)) (now («p_rows» .entry)) (now («p_values» .entry)) (now (q .entry)) (now («a_starts» .entry)) (now («a_rows» .entry)) (now («a_values» .entry)) (now (b .entry)) (now (cones .entry)) (now (alphas .entry)) count (now (words .entry))) ⌝ }
+{
+    if !bounded(n, m, a_values.len(), p_values.len(), cones) {
+        return 1;
+    }
+    let matrices = check_matrices(n, m, p_starts, p_rows, p_values, a_starts, a_rows, a_values);
+    if matrices != 0 {
+        return matrices;
+    }
+    let records = check_records(n, m, q, b, cones, alphas);
+    if records != 0 {
+        return records;
+    }
+    check_patterns(cones, count, words)
+}
+
+// The same for what a joining is given: checks 1, 4, 5, 6 and 7.
+pub fn check_joined(n: u32, m: u32, cones: &[u32], count: u32, words: &[u32]) -> u32
+    ensures { λ r. ⌜ r ≡ joinedRefusal n m (now (cones .entry)) count (now (words .entry)) ⌝ }
+{
+    if !join_bounded(n, m, cones) {
+        return 1;
+    }
+    if supportedcone::check_cones(m, cones) != 0 {
+        return 4;
+    }
+    check_patterns(cones, count, words)
+}

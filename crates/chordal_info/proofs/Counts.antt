@@ -1,0 +1,79 @@
+-- The counts of a problem's blocks: no more overlaps than rows, and no more cones than rows beside the original ones.
+use Prim.Native.Nat.{ℕ, zero, suc, _+_, _≤_, _<_}
+use native.Mathlib.Omega.{arith}
+use mathlib.Core.Path.{_≡_, refl, sym, ap, subst}
+use mathlib.Core.Bool.{Bool, true, false, cond, _&&_}
+use mathlib.Core.List.{List, [], _∷_, map}
+use lib.ListN.{length, getD}
+use lib.Dec.{T, leb, lit<}
+use Rattle.layout.specs.Lists.{all, sum}
+use Rattle.layout.specs.Triangle.{triangle}
+use Rattle.layout.specs.Problem.{Problem, Route, standard, compact}
+use Rattle.layout.specs.Cones.{Cone, records, rowCount}
+use Rattle.layout.specs.Patterns.{Pattern, Clique, cliqueCount, blockSize, noClique, patterns}
+use Rattle.layout.specs.Blocks.{Part, whole, cut, isCut, partsFrom, parts, blockRows, partRows, partOverlaps, blockRowCount, overlapCount}
+use Rattle.layout.specs.Checks.{Sound, RightPattern, sizesBounded, conesBounded, check10, layout, checks, refusal}
+use Rattle.layout.proofs.Tests.{and-iff, leb-iff}
+use Rattle.layout.proofs.Triangles.{triangle-mono}
+use Rattle.layout.proofs.Tree.{cliques-right}
+use Rattle.layout.proofs.Laid.{Laid, sound-laid}
+use Rattle.layout.proofs.Accepted.{passed, accepted-sound}
+use Rattle.layout.proofs.Sizes.{partCones, coneCount}
+use Rattle.chordal_info.specs.Sizes.{rowsFit, Fitting}
+use Rattle.chordal_info.proofs.Sizes.{rows-fit}
+
+-- ---- overlaps
+
+clique-overlaps : (cs : List Clique) → sum (map (λ c. triangle (length (c .separator))) cs) ≤ sum (map (λ c. triangle (blockSize c)) cs)
+clique-overlaps [] = omega arith
+clique-overlaps (c ∷ cs) = omega (arith, clique-overlaps cs, triangle-mono (length (c .separator)) (blockSize c) (omega arith))
+
+part-overlaps : (x : Part) → partOverlaps x ≤ partRows x
+part-overlaps (whole i c row) = omega arith
+part-overlaps (cut i row k p) = clique-overlaps (p .cliques)
+
+pub overlaps-few : (ps : List Part) → overlapCount ps ≤ blockRowCount ps
+overlaps-few [] = omega arith
+overlaps-few (x ∷ ps) = omega (arith, part-overlaps x, overlaps-few ps)
+
+-- ---- cones
+
+-- a block has a row
+clique-rows : (cs : List Clique) → ((c : ℕ) → c < length cs → ¬ (length (getD cs c noClique .snode) ≡ 0))
+    → length cs ≤ sum (map (λ c. triangle (blockSize c)) cs)
+clique-rows [] h = omega arith
+clique-rows (c ∷ cs) h =
+    omega (arith, h 0 (omega arith), triangle-mono 1 (blockSize c) (omega (arith, h 0 (omega arith))), clique-rows cs (λ d l. h (suc d) (omega arith)))
+
+cones-few : (row : ℕ) (ps : List Part) → Laid row ps → coneCount ps ≤ length ps + blockRowCount ps
+cones-few row [] h = omega arith
+cones-few row (whole i c r ∷ ps) h = omega (arith, cones-few (row + rowCount c) ps (h .1))
+cones-few row (cut i r k p ∷ ps) h =
+    omega (arith, clique-rows (p .cliques) (cliques-right p (h .1 .cliques) .nonempty), cones-few (row + triangle (p .vertexCount)) ps (h .2))
+
+-- a part for each cone
+parts-count : (i row k : ℕ) (cs : List Cone) (ps : List Pattern) → length (partsFrom i row k cs ps) ≡ length cs
+parts-count i row k [] ps = refl
+parts-count i row k (c ∷ cs) ps = ap suc (parts-count (suc i) (row + rowCount c) _ cs _)
+
+pub sound-cones : {m : ℕ} {cones : List ℕ} {count : ℕ} {words : List ℕ} → Sound m cones count words
+    → let ps = parts (records cones) (patterns count words) in coneCount ps ≤ 1024 + blockRowCount ps
+sound-cones {m} {cones} {count} {words} h =
+    let ps = parts (records cones) (patterns count words) in
+    omega (
+      arith,
+      cones-few 0 ps (sound-laid h .0),
+      parts-count 0 0 0 (records cones) (patterns count words),
+      leb-iff (length (records cones)) 1024 .0 (and-iff (leb (length (records cones)) 1024) (all sizesBounded (records cones)) .0 (h .bounded) .0),
+    )
+
+-- ---- the counts of a problem that the route accepts fit
+
+pub accepted-fitting : (route : Route) (p : Problem) → refusal route p ≡ 0
+    → let ps = layout p in
+    Fitting route (p .n) (p .m) (length (p .A .values)) (blockRowCount ps) (overlapCount ps) (coneCount ps)
+accepted-fitting route p ok =
+    let ps = layout p in
+    let counts : Bool = leb (p .n) 65536 && leb (p .m) 65536 && leb (length (p .A .values)) 262144 && leb (length (p .P .values)) 262144 in
+    let bounds = simp (and-iff, leb-iff) at (and-iff counts (conesBounded (p .cones)) .0 (passed 0 0 (checks route p) ok (lit< tt)) .0) in
+    (bounds .0 .0 .0, bounds .0 .1, subst T (sym (rows-fit route (p .m) ps)) (passed 0 9 (checks route p) ok (lit< tt)), overlaps-few ps, sound-cones (accepted-sound route p ok))

@@ -1,0 +1,95 @@
+-- Checks 8 to 10 in order, by a route's number.
+use Prim.Native.Nat.{ℕ, zero, suc, _+_}
+use native.Mathlib.Omega.{arith}
+use mathlib.Core.Path.{_≡_, refl, ap, _∙_}
+use mathlib.Core.Bool.{Bool, true, false, cond}
+use mathlib.Core.List.{List, [], _∷_, _++_}
+use borrow.Author.Tests.{ne-eqb}
+use lib.ListN.{length, take, drop}
+use lib.Ieee.{Float}
+use Rattle.layout.specs.Problem.{Problem, Route, standard, compact}
+use Rattle.layout.specs.Lists.{all}
+use Rattle.layout.specs.Patterns.{patterns}
+use Rattle.layout.specs.Blocks.{Part}
+use Rattle.layout.specs.Checks.{conesRead, patternsRead, treeRight, cliquesRight, layout, check8, check9, check10, firstFailing, checks, refusal}
+use Rattle.layout.specs.Answers.{routeOf, orElse, problemRefusal, joinBounded, joinedParts, joinChecks}
+use Rattle.chordal_info.specs.Covered.{entriesRight}
+use Rattle.chordal_info.specs.Sizes.{rowsFit}
+use Rattle.chordal_info.specs.Routes.{entriesCheck, routeChecks, joinRouteChecks, joinCountChecks, Counted}
+use Rattle.chordal_info.proofs.Sizes.{rows-fit}
+
+-- ---- the first that fails, whatever checks 9 and 10 are
+
+abbrev inOrder : ℕ → ℕ → Bool → Bool → ℕ
+inOrder r n entries rows = firstFailing 8 (check8 (routeOf r) n ∷ entries ∷ rows ∷ [])
+
+pub standard-rows : (r n : ℕ) (entries rows : Bool) → r ≡ 0 → entries ≡ true → inOrder r n entries rows ≡ cond rows 0 10
+standard-rows r n entries rows e f = rw (e, f)
+
+pub no-columns : (r n : ℕ) (entries rows : Bool) → (r ≡ 0 → ⊥) → n ≡ 0 → inOrder r n entries rows ≡ 8
+no-columns zero n entries rows h e = absurd (h refl)
+no-columns (suc r) n entries rows h e = rw e
+
+pub entries-fail : (r n : ℕ) (entries rows : Bool) → (r ≡ 0 → ⊥) → (n ≡ 0 → ⊥) → entries ≡ false → inOrder r n entries rows ≡ 9
+entries-fail zero n entries rows h k e = absurd (h refl)
+entries-fail (suc r) n entries rows h k e = rw (ne-eqb n 0 k, e)
+
+pub compact-rows : (r n : ℕ) (entries rows : Bool) → (r ≡ 0 → ⊥) → (n ≡ 0 → ⊥) → entries ≡ true → inOrder r n entries rows ≡ cond rows 0 10
+compact-rows zero n entries rows h k e = absurd (h refl)
+compact-rows (suc r) n entries rows h k e = rw (ne-eqb n 0 k, e)
+
+-- ---- check 9 by the route's number
+
+module _ (r m : ℕ) (rows : List ℕ) (b : List Float) (ps : List Part) where
+  pub entries-standard : r ≡ 0 → entriesCheck (routeOf r) m rows b ps ≡ true
+  entries-standard e = ap (λ (k : ℕ). entriesCheck (routeOf k) m rows b ps) e
+
+pub entries-compact : (r m : ℕ) (rows : List ℕ) (b : List Float) (ps : List Part) → (r ≡ 0 → ⊥)
+    → entriesCheck (routeOf r) m rows b ps ≡ entriesRight m rows b ps
+entries-compact zero m rows b ps h = absurd (h refl)
+entries-compact (suc r) m rows b ps h = refl
+
+-- ---- check 10 from the counts
+
+module _ (route : Route) (m : ℕ) (ps : List Part) (rows overlaps : ℕ) (h : Counted ps rows overlaps) where
+  counted-fit : rowsFit route m rows overlaps ≡ check10 route m ps
+  counted-fit = rw (h .0, h .1) (rows-fit route m ps)
+
+  pub counted-rows : let tenth : Bool → ℕ = λ t. cond t 0 10 in tenth (rowsFit route m rows overlaps) ≡ tenth (check10 route m ps)
+  counted-rows = let tenth : Bool → ℕ = λ t. cond t 0 10 in ap tenth counted-fit
+
+  pub counted-join : (n : ℕ) → firstFailing 8 (joinCountChecks route n m rows overlaps) ≡ firstFailing 8 (joinRouteChecks route n m ps)
+  counted-join n = ap (λ (t : Bool). firstFailing 8 (check8 route n ∷ true ∷ t ∷ [])) counted-fit
+
+-- ---- a whole problem's refusal: checks 1 to 7, then those of the route
+
+checks-then : (k : ℕ) (xs ys : List Bool)
+    → firstFailing (suc k) (xs ++ ys) ≡ orElse (firstFailing (suc k) xs) (firstFailing (suc k + length xs) ys)
+checks-then k [] ys = ap (λ (i : ℕ). firstFailing i ys) (omega arith)
+checks-then k (true ∷ xs) ys =
+    checks-then (suc k) xs ys ∙ ap (λ (i : ℕ). orElse (firstFailing (suc (suc k)) xs) (firstFailing i ys)) (omega arith)
+checks-then k (false ∷ xs) ys = refl
+
+entries-check : (route : Route) (p : Problem) → check9 route p ≡ entriesCheck route (p .m) (p .A .rows) (p .b) (layout p)
+entries-check standard p = refl
+entries-check compact p = refl
+
+pub refusal-split : (route : Route) (p : Problem)
+    → refusal route p ≡ orElse (problemRefusal p) (firstFailing 8 (routeChecks route (p .n) (p .m) (p .A .rows) (p .b) (layout p)))
+refusal-split route p =
+    checks-then 0 (take 7 (checks standard p)) (drop 7 (checks route p))
+    ∙ ap (λ (t : Bool). orElse (problemRefusal p) (firstFailing 8 (check8 route (p .n) ∷ t ∷ check10 route (p .m) (layout p) ∷ []))) (entries-check route p)
+
+-- a joining's refusal by a check: 1 and 4 to 7, then those of the route
+pub join-split : (route : Route) (n m : ℕ) (cones : List ℕ) (count : ℕ) (words : List ℕ)
+    → let ps = patterns count words in
+    joinChecks route n m cones count words
+    ≡ orElse
+    (firstFailing 1
+    (joinBounded n m cones ∷ true ∷ true ∷ conesRead m cones ∷ patternsRead cones count words ∷ all treeRight ps ∷ all cliquesRight ps ∷ []))
+    (firstFailing 8 (joinRouteChecks route n m (joinedParts cones count words)))
+join-split route n m cones count words =
+    let ps = patterns count words in
+    checks-then 0
+    (joinBounded n m cones ∷ true ∷ true ∷ conesRead m cones ∷ patternsRead cones count words ∷ all treeRight ps ∷ all cliquesRight ps ∷ [])
+    (joinRouteChecks route n m (joinedParts cones count words))

@@ -1,0 +1,89 @@
+use Prim.Native.Nat.{ℕ, _+_, _-_, _≤_, _<_}
+use mathlib.Core.Path.{_≡_, refl, sym, ap, _∙_}
+use mathlib.Core.List.{List, reverse}
+use lib.ListN.{length, take}
+use Rattle.layout.specs.Lists.{join}
+use Rattle.blocks.specs.Cliques.{rowsHere}
+use Rattle.chordal_info.specs.Covered.{marked}
+use Rattle.chordal_info.proofs.Rows.{down-start, down-step, down-done}
+use native.Mathlib.Omega.{arith}
+use borrow.Author.Needs.{needs}
+use Rattle.chordal_info.proofs.mark_cliques.Statement.{statement}
+use Rattle.chordal_info.proofs.mark_cliques.Tie as tie
+use Rattle.chordal_info.proofs.mark_cliques.Reads as reads
+use Rattle.chordal_info.proofs.mark_cliques.Lts as lts
+use Rattle.chordal_info.proofs.mark_clique.Reads as mark-clique-reads
+
+abbrev Inv-loop : tie.InvT-loop
+Inv-loop words ordering offsets base rows₀ covered₀ c₀ rows covered c =
+    let f = rowsHere base words ordering in
+    (c ≤ length offsets) × (length rows ≡ length rows₀) × (length covered ≡ length covered₀)
+    × (marked (join f (reverse (take c offsets))) covered ≡ marked (join f (reverse offsets)) covered₀)
+
+abbrev μ-loop : tie.MeasureT-loop
+μ-loop words ordering offsets base rows₀ covered₀ c₀ rows covered c = c
+
+loop-holds : tie.Need-loop-holds Inv-loop μ-loop
+loop-holds c =
+    let a = c .before .before .before .before .before .args in
+    (omega arith, refl, refl, down-start (rowsHere (a .base) (a .words .now) (a .ordering .now)) (a .offsets .now) (a .covered .now))
+
+sub-c : tie.Need-sub-c Inv-loop μ-loop
+sub-c c = search needs
+
+mul-mark-clique : tie.Need-mul-mark-clique Inv-loop μ-loop
+mul-mark-clique c = search needs
+
+shared-slice-read-mark-clique : tie.Need-shared-slice-read-mark-clique Inv-loop μ-loop
+shared-slice-read-mark-clique c = search needs
+
+mark-clique-requires : tie.Need-mark-clique-requires Inv-loop μ-loop
+mark-clique-requires c κs =
+    let l = c .before .before .before .before in
+    let s = l .before .before .before .before .before .before in
+    (s .pre .0 (l .loop .c - 1) (omega arith), omega (arith, s .pre .1, l .loop .inv .1, l .loop .inv .2))
+
+loop-less : tie.Need-loop-less Inv-loop μ-loop
+loop-less c = search needs
+
+loop-again : tie.Need-loop-again Inv-loop μ-loop
+loop-again c =
+    let m = c .before .before .before .before in
+    let l = m .before .before .before .before .before in
+    let a = l .before .before .before .before .before .before .args in (
+      omega arith,
+      m .mark-clique .kept .1 .1 .1 .1 .0 ∙ l .loop .inv .1,
+      m .mark-clique .kept .1 .1 .1 .1 .1 .0 ∙ l .loop .inv .2,
+      ap (marked (join (rowsHere (a .base) (a .words .now) (a .ordering .now)) (reverse (take (l .loop .c - 1) (a .offsets .now))))) (m .mark-clique .ensures)
+          ∙ sym (down-step (rowsHere (a .base) (a .words .now) (a .ordering .now)) (a .offsets .now) (l .loop .c) (l .loop .covered) (omega arith) (omega arith))
+          ∙ l .loop .inv .3,
+    )
+
+same-length : tie.Need-same-length Inv-loop μ-loop
+same-length c = c .before .loop .inv .1
+
+same-length-2 : tie.Need-same-length-2 Inv-loop μ-loop
+same-length-2 c = c .before .loop .inv .2
+
+returns : tie.Need-returns Inv-loop μ-loop
+returns c =
+    let l = c .before in
+    let a = l .before .before .before .before .before .before .args in
+    sym (down-done (rowsHere (a .base) (a .words .now) (a .ordering .now)) (a .offsets .now) (l .loop .c) (l .loop .covered) (omega arith)) ∙ l .loop .inv .3
+
+pub mark-cliques-spec : {M : Type 1} → statement M
+mark-cliques-spec =
+    tie.close
+    (tie.spec
+    Inv-loop
+    μ-loop
+    loop-holds
+    sub-c
+    mul-mark-clique
+    shared-slice-read-mark-clique
+    mark-clique-requires
+    loop-less
+    loop-again
+    same-length
+    same-length-2
+    returns)

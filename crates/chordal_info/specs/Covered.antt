@@ -1,0 +1,45 @@
+-- Check 9 over a table by original row: a mark for each row that stands on an augmented row.
+use Prim.Native.Nat.{ℕ, _+_, _<_, _≤_}
+use mathlib.Core.Bool.{Bool, true, false, _&&_, _||_}
+use mathlib.Core.Path.{_≡_}
+use mathlib.Core.List.{List, [], _∷_, _++_, map}
+use lib.ListN.{length, getD, set}
+use lib.Ieee.{Float, nan, eq}
+use Rattle.layout.specs.Lists.{has, all, below}
+use Rattle.layout.specs.Problem.{zero64}
+use Rattle.layout.specs.Triangle.{triangle}
+use Rattle.layout.specs.Patterns.{Pattern}
+use Rattle.layout.specs.Blocks.{Part, originalRow, patternRows}
+use Rattle.layout.specs.Checks.{coveredRows, valuesOn}
+
+-- each number of the list is below n
+abbrev pub Below : ℕ → List ℕ → Type 0
+Below n xs = (k : ℕ) → k < length xs → getD xs k 0 < n
+
+-- a table with the rows marked
+unfoldable pub marked : List ℕ → List Bool → List Bool
+marked [] marks = marks
+marked (o ∷ os) marks = marked os (set marks o true)
+
+-- what marking the blocks of a pattern does, wherever its augmented rows start
+abbrev pub MarksPattern : Pattern → ℕ → List Bool → List Bool → Type 0
+MarksPattern p base old new = (first : ℕ) → new ≡ marked (map originalRow (patternRows p base first)) old
+
+-- the rows of a cone of side n from row base on are below 65,536 and the table's length, and a buffer holds as many
+abbrev pub BlockFits : ℕ → ℕ → ℕ → ℕ → Type 0
+BlockFits base n room table = (base + triangle n ≤ 65536) × (base + triangle n ≤ table) × (triangle n ≤ room)
+
+-- a table of m rows, and a buffer for the rows of any PSD cone among them
+abbrev pub TablesFit : ℕ → ℕ → ℕ → Type 0
+TablesFit m room table = (m ≤ table) × ((n : ℕ) → n ≤ 256 → triangle n ≤ m → triangle n ≤ room)
+
+-- the rows are marked, and so is each row whose value is unequal to zero
+abbrev pub rowsMarked : List Bool → List ℕ → Bool
+rowsMarked marks rows = all (λ r. getD marks r false) rows
+
+abbrev pub valuesMarked : List Bool → List Float → Bool
+valuesMarked marks b = all (λ r. eq (getD b r nan) zero64 || getD marks r false) (below (length b))
+
+-- check 9 on the compact route, from the rows of A's entries, b and the parts
+abbrev pub entriesRight : ℕ → List ℕ → List Float → List Part → Bool
+entriesRight m rows b ps = let os = coveredRows ps in all (λ r. has r os) rows && valuesOn os m b

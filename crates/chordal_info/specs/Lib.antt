@@ -1,0 +1,3 @@
+pub mod Covered
+pub mod Sizes
+pub mod Routes

@@ -1,0 +1,140 @@
+// Same layout: whether two problems agree in n, m, cone records and pattern words.
+ghost use mathlib.Core.Path.{_≡_};
+ghost use mathlib.Core.Bool.{_&&_, cond};
+ghost use lib.ListN.{length};
+ghost use lib.Dec.{eqb};
+ghost use Rattle.layout.specs.Lists.{sameNumbers};
+ghost use Rattle.layout.specs.Problem.{problem};
+ghost use Rattle.layout.specs.Answers.{output, sameLayoutRefusal, sameLayoutWords};
+
+// The same numbers in the same order.
+pub fn same_numbers(xs: &[u32], ys: &[u32]) -> bool
+    ensures { λ r. ⌜ r ≡ sameNumbers (now (xs .entry)) (now (ys .entry)) ⌝ }
+{
+    if xs.len() != ys.len() {
+        return false;
+    }
+    let mut i = 0;
+    while i < xs.len() {
+        if xs[i] != ys[i] {
+            return false;
+        }
+        i += 1;
+    }
+    true
+}
+
+// The pattern counts need not be compared: equal words that both pass check 5 hold equally many patterns.
+pub fn layouts_agree(
+    n: u32,
+    m: u32,
+    cones: &[u32],
+    words: &[u32],
+    n2: u32,
+    m2: u32,
+    cones2: &[u32],
+    words2: &[u32],
+) -> bool
+    ensures { λ r. ⌜ r ≡ (eqb n n2 && eqb m m2 && sameNumbers (now (cones .entry)) (now (cones2 .entry)) && sameNumbers (now (words .entry)) (now (words2 .entry))) ⌝ }
+{
+    if n != n2 {
+        return false;
+    }
+    if m != m2 {
+        return false;
+    }
+    if !same_numbers(cones, cones2) {
+        return false;
+    }
+    same_numbers(words, words2)
+}
+
+// An answer as a number.
+pub fn word_of(yes: bool) -> u32
+    ensures { λ r. ⌜ r ≡ cond yes 1 0 ⌝ }
+{
+    if yes {
+        return 1;
+    }
+    0
+}
+
+// Writes 1 or 0. Checks 1 to 7 are made on the first problem wholly before the second, then 11.
+pub fn same_layout(
+    n: u32,
+    m: u32,
+    p_starts: &[u32],
+    p_rows: &[u32],
+    p_values: &[f64],
+    q: &[f64],
+    a_starts: &[u32],
+    a_rows: &[u32],
+    a_values: &[f64],
+    b: &[f64],
+    cones: &[u32],
+    alphas: &[f64],
+    count: u32,
+    words: &[u32],
+    n2: u32,
+    m2: u32,
+    p_starts2: &[u32],
+    p_rows2: &[u32],
+    p_values2: &[f64],
+    q2: &[f64],
+    a_starts2: &[u32],
+    a_rows2: &[u32],
+    a_values2: &[f64],
+    b2: &[f64],
+    cones2: &[u32],
+    alphas2: &[f64],
+    count2: u32,
+    words2: &[u32],
+    out: &mut [u32],
+) -> u32
+    ensures { λ r. ⌜ r ≡ sameLayoutRefusal (problem n m (now («p_starts» .entry)) (now («p_rows» .entry)) (now («p_values» .entry)) (now (q .entry)) (now («a_starts» .entry)) (now («a_rows» .entry)) (now («a_values» .entry)) (now (b .entry)) (now (cones .entry)) (now (alphas .entry)) count (now (words .entry))) (problem n2 m2 (now («p_starts2» .entry)) (now («p_rows2» .entry)) (now («p_values2» .entry)) (now (q2 .entry)) (now («a_starts2» .entry)) (now («a_rows2» .entry)) (now («a_values2» .entry)) (now (b2 .entry)) (now (cones2 .entry)) (now (alphas2 .entry)) count2 (now (words2 .entry))) (length (now (out .entry))) ⌝ }
+    ensures { λ _. ⌜ now (out .exit) ≡ output (sameLayoutRefusal (problem n m (now («p_starts» .entry)) (now («p_rows» .entry)) (now («p_values» .entry)) (now (q .entry)) (now («a_starts» .entry)) (now («a_rows» .entry)) (now («a_values» .entry)) (now (b .entry)) (now (cones .entry)) (now (alphas .entry)) count (now (words .entry))) (problem n2 m2 (now («p_starts2» .entry)) (now («p_rows2» .entry)) (now («p_values2» .entry)) (now (q2 .entry)) (now («a_starts2» .entry)) (now («a_rows2» .entry)) (now («a_values2» .entry)) (now (b2 .entry)) (now (cones2 .entry)) (now (alphas2 .entry)) count2 (now (words2 .entry))) (length (now (out .entry)))) (sameLayoutWords (problem n m (now («p_starts» .entry)) (now («p_rows» .entry)) (now («p_values» .entry)) (now (q .entry)) (now («a_starts» .entry)) (now («a_rows» .entry)) (now («a_values» .entry)) (now (b .entry)) (now (cones .entry)) (now (alphas .entry)) count (now (words .entry))) (problem n2 m2 (now («p_starts2» .entry)) (now («p_rows2» .entry)) (now («p_values2» .entry)) (now (q2 .entry)) (now («a_starts2» .entry)) (now («a_rows2» .entry)) (now («a_values2» .entry)) (now (b2 .entry)) (now (cones2 .entry)) (now (alphas2 .entry)) count2 (now (words2 .entry)))) (now (out .entry)) ⌝ }
+{
+    let first = checks::check_problem(
+        n,
+        m,
+        p_starts,
+        p_rows,
+        p_values,
+        q,
+        a_starts,
+        a_rows,
+        a_values,
+        b,
+        cones,
+        alphas,
+        count,
+        words,
+    );
+    if first != 0 {
+        return first;
+    }
+    let second = checks::check_problem(
+        n2,
+        m2,
+        p_starts2,
+        p_rows2,
+        p_values2,
+        q2,
+        a_starts2,
+        a_rows2,
+        a_values2,
+        b2,
+        cones2,
+        alphas2,
+        count2,
+        words2,
+    );
+    if second != 0 {
+        return second;
+    }
+    if out.len() < 1 {
+        return 11;
+    }
+    out[0] = word_of(layouts_agree(n, m, cones, words, n2, m2, cones2, words2));
+    0
+}
