@@ -17,9 +17,14 @@ ghost use Rattle.blocks.specs.Cliques.{cliqueHere, verticesHere, Stands};
 ghost use Rattle.codes.specs.Codes.{cutCode};
 ghost use Rattle.overlaps.specs.Places.{Places, Climbing, placeCode, tieCode};
 ghost use Rattle.overlaps.specs.Tables.{AllFound, sizeHere, FirstRows, Tied, tiedHere, codesHere};
-
-use blocks::{clique_rows, clique_vertices, row_column};
-use supernode_tree::{clique_offsets, Clique, CliqueRead, Pattern, PatternRead};
+use blocks::clique_rows;
+use blocks::clique_vertices;
+use blocks::row_column;
+use supernode_tree::Clique;
+use supernode_tree::CliqueRead;
+use supernode_tree::Pattern;
+use supernode_tree::PatternRead;
+use supernode_tree::clique_offsets;
 
 // ---- where each block starts
 
@@ -92,14 +97,7 @@ fn tied_row(own: u32, tied: u32, place: u32) -> u32
 }
 
 // The codes of column j, whose vertex has a place in the parent's block, which starts at row start.
-fn tied_column(
-    out: &mut [u32],
-    vertices: &[u32],
-    places: &[u32],
-    j: usize,
-    base: u32,
-    start: u32,
-)
+fn tied_column(out: &mut [u32], vertices: &[u32], places: &[u32], j: usize, base: u32, start: u32)
     requires { ⌜ (j < length (now vertices)) × (j < length (now out)) × T (rises (now vertices)) × Below (length (now places)) (now vertices) ⌝ }
     requires { ⌜ (base + triangle (suc (getD (now vertices) j 0)) ≤ 65536) × (start ≤ 262144) × Climbing (now places) ⌝ }
     requires { ⌜ 0 < getD (now places) (getD (now vertices) j 0) 0 ⌝ }
@@ -118,14 +116,7 @@ fn tied_column(
 }
 
 // The codes of column j.
-fn code_column(
-    out: &mut [u32],
-    vertices: &[u32],
-    places: &[u32],
-    j: usize,
-    base: u32,
-    start: u32,
-)
+fn code_column(out: &mut [u32], vertices: &[u32], places: &[u32], j: usize, base: u32, start: u32)
     requires { ⌜ (j < length (now vertices)) × (j < length (now out)) × T (rises (now vertices)) × Below (length (now places)) (now vertices) ⌝ }
     requires { ⌜ (base + triangle (suc (getD (now vertices) j 0)) ≤ 65536) × (start ≤ 262144) × Climbing (now places) ⌝ }
     ensures { λ _. ⌜ now (out .exit) ≡ written (map (placeCode (now (places .entry)) base start) (columnPairs (now (vertices .entry)) j)) (now (out .entry)) ⌝ }
@@ -139,13 +130,7 @@ fn code_column(
 }
 
 // The codes of a block, column by column; how many.
-fn code_block(
-    out: &mut [u32],
-    vertices: &[u32],
-    places: &[u32],
-    base: u32,
-    start: u32,
-) -> usize
+fn code_block(out: &mut [u32], vertices: &[u32], places: &[u32], base: u32, start: u32) -> usize
     requires { ⌜ T (rises (now vertices)) × Below (length (now places)) (now vertices) × Inside base (now vertices) ⌝ }
     requires { ⌜ (start ≤ 262144) × Climbing (now places) × (triangle (length (now vertices)) ≤ length (now out)) ⌝ }
     ensures { λ r. ⌜ r ≡ triangle (length (now (vertices .entry))) ⌝ }
@@ -216,7 +201,15 @@ fn code_rows(
         return clique_rows(words, ordering, at, base, out);
     }
     let parent = clique_parent(words, at);
-    tied_rows(words, ordering, at, offsets[parent], base, starts[parent], out)
+    tied_rows(
+        words,
+        ordering,
+        at,
+        offsets[parent],
+        base,
+        starts[parent],
+        out,
+    )
 }
 
 // The codes of the cliques, from last to first; how many.

@@ -95,9 +95,10 @@ tied-rows-requires : tie.Need-tied-rows-requires
 tied-rows-requires c κs =
     let k = c .before .before .before in
     let s = k .before .before .before .before .before .before .before .before in
-    let t = s .pre .0 .0 in
-    ((t .standing (s .args .c) (s .pre .0 .1), t .standing (k .clique-parent .result) (inside k)),
-    ((s .pre .1 .0, t .low (k .clique-parent .result) (inside k)), omega (arith, ap length (tied k), s .pre .1 .1)))
+    let t = s .pre .0 .0 in (
+      (t .standing (s .args .c) (s .pre .0 .1), t .standing (k .clique-parent .result) (inside k)),
+      ((s .pre .1 .0, t .low (k .clique-parent .result) (inside k)), omega (arith, ap length (tied k), s .pre .1 .1)),
+    )
 
 -- src/lib.rt:199:1
 same-length-2 : tie.Need-same-length-2

@@ -131,9 +131,10 @@ first-rows-requires : tie.Need-first-rows-requires
 first-rows-requires c κs =
     let o = c .before .before .before .before in
     let s = o .before .before .before .before .before .before .before .before in
-    let p = patternAt (s .args .words .now) (s .args .at) in
-    ((all-found p (s .pre .0) (s .args .words .now) (offsets o) (many o) (standing o), omega (arith, many o, count (o .before .before), few (o .before .before), length-replicate {A = ℕ} 256 0)),
-    omega (arith, sizes-sum p (s .pre .0) (s .args .words .now) (offsets o) (many o) (standing o), s .pre .1 .1 .0))
+    let p = patternAt (s .args .words .now) (s .args .at) in (
+      (all-found p (s .pre .0) (s .args .words .now) (offsets o) (many o) (standing o), omega (arith, many o, count (o .before .before), few (o .before .before), length-replicate {A = ℕ} 256 0)),
+      omega (arith, sizes-sum p (s .pre .0) (s .args .words .now) (offsets o) (many o) (standing o), s .pre .1 .1 .0),
+    )
 
 -- src/lib.rt:270:23
 mul-codes-down : tie.Need-mul-codes-down
@@ -170,10 +171,13 @@ codes-down-requires c κs =
     let o = f .before .before .before .before .before in
     let s = o .before .before .before .before .before .before .before .before in
     let p = patternAt (s .args .words .now) (s .args .at) in
-    rw (ordering-here (o .before .before))
-    (cliques-tied p (s .pre .0) (s .args .words .now) (offsets o) (many o) (standing o) (s .args .first) (starts f) (room f) (f .first-rows .ensures) (s .pre .1 .0 .0) (s .pre .1 .1 .0),
-    (omega (arith, ap triangle (s .pre .0 .ordered .vertices), s .pre .1 .0 .1),
-    omega (arith, ap length (codes f), cut-rows-count p (s .pre .0) (s .args .base) (s .args .first), s .pre .1 .1 .1)))
+    rw (ordering-here (o .before .before)) (
+      cliques-tied p (s .pre .0) (s .args .words .now) (offsets o) (many o) (standing o) (s .args .first) (starts f) (room f) (f .first-rows .ensures) (s .pre .1 .0 .0) (s .pre .1 .1 .0),
+      (
+        omega (arith, ap triangle (s .pre .0 .ordered .vertices), s .pre .1 .0 .1),
+        omega (arith, ap length (codes f), cut-rows-count p (s .pre .0) (s .args .base) (s .args .first), s .pre .1 .1 .1),
+      ),
+    )
 
 -- src/lib.rt:247:1
 same-length : tie.Need-same-length
@@ -187,11 +191,12 @@ returns-2 c =
     let o = f .before .before .before .before .before in
     let s = o .before .before .before .before .before .before .before .before in
     let p = patternAt (s .args .words .now) (s .args .at) in
-    let g : List ℕ → List ℕ = λ ordering. join (codesHere (s .args .base) (s .args .words .now) ordering (offsets o) (starts f)) (reverse (below (length (offsets o)))) in
-    (w .codes-down .ensures .0 ∙ ap (λ (ordering : List ℕ). length (g ordering)) (ordering-here (o .before .before))
-    ∙ ap length (codes f) ∙ cut-rows-count p (s .pre .0) (s .args .base) (s .args .first),
-    w .codes-down .ensures .1 ∙ ap (λ (ordering : List ℕ). written (g ordering) (s .args .out .now)) (ordering-here (o .before .before))
-    ∙ ap (λ (xs : List ℕ). written xs (s .args .out .now)) (codes f))
+    let g : List ℕ → List ℕ = λ ordering. join (codesHere (s .args .base) (s .args .words .now) ordering (offsets o) (starts f)) (reverse (below (length (offsets o)))) in (
+      w .codes-down .ensures .0 ∙ ap (λ (ordering : List ℕ). length (g ordering)) (ordering-here (o .before .before))
+          ∙ ap length (codes f) ∙ cut-rows-count p (s .pre .0) (s .args .base) (s .args .first),
+      w .codes-down .ensures .1 ∙ ap (λ (ordering : List ℕ). written (g ordering) (s .args .out .now)) (ordering-here (o .before .before))
+          ∙ ap (λ (xs : List ℕ). written xs (s .args .out .now)) (codes f),
+    )
 
 pub compact-pattern-rows-spec : {M : Type 1} → statement M
 compact-pattern-rows-spec =

@@ -1,4 +1,3 @@
-
 use Prim.Native.Nat.{ℕ, _≤_, _<_, _-_, _+_, _*_, _/_}
 use native.Mathlib.Nat.{mul-le-mul}
 use mathlib.Core.Path.{_≡_, refl, ap, sym, _∙_}
