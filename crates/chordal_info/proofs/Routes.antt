@@ -1,18 +1,14 @@
 -- Checks 8 to 10 in order, by a route's number.
-use Prim.Native.Nat.{ℕ, zero, suc, _+_}
-use native.Mathlib.Omega.{arith}
-use mathlib.Core.Path.{_≡_, refl, ap, _∙_}
+use Prim.Native.Nat.{ℕ, zero, suc}
+use mathlib.Core.Path.{_≡_, refl, ap}
 use mathlib.Core.Bool.{Bool, true, false, cond}
-use mathlib.Core.List.{List, [], _∷_, _++_}
+use mathlib.Core.List.{List, [], _∷_}
 use borrow.Author.Tests.{ne-eqb}
-use lib.ListN.{length, take, drop}
 use lib.Ieee.{Float}
 use Rattle.layout.specs.Problem.{Problem, Route, standard, compact}
-use Rattle.layout.specs.Lists.{all}
-use Rattle.layout.specs.Patterns.{patterns}
 use Rattle.layout.specs.Blocks.{Part}
-use Rattle.layout.specs.Checks.{conesRead, patternsRead, treeRight, cliquesRight, layout, check8, check9, check10, firstFailing, checks, refusal}
-use Rattle.layout.specs.Answers.{routeOf, orElse, problemRefusal, joinBounded, joinedParts, joinChecks}
+use Rattle.layout.specs.Checks.{layout, check8, check9, check10, firstFailing}
+use Rattle.layout.specs.Answers.{routeOf}
 use Rattle.chordal_info.specs.Covered.{entriesRight}
 use Rattle.chordal_info.specs.Sizes.{rowsFit}
 use Rattle.chordal_info.specs.Routes.{entriesCheck, routeChecks, joinRouteChecks, joinCountChecks, Counted}
@@ -61,35 +57,7 @@ module _ (route : Route) (m : ℕ) (ps : List Part) (rows overlaps : ℕ) (h : C
   pub counted-join : (n : ℕ) → firstFailing 8 (joinCountChecks route n m rows overlaps) ≡ firstFailing 8 (joinRouteChecks route n m ps)
   counted-join n = ap (λ (t : Bool). firstFailing 8 (check8 route n ∷ true ∷ t ∷ [])) counted-fit
 
--- ---- a whole problem's refusal: checks 1 to 7, then those of the route
-
-checks-then : (k : ℕ) (xs ys : List Bool)
-    → firstFailing (suc k) (xs ++ ys) ≡ orElse (firstFailing (suc k) xs) (firstFailing (suc k + length xs) ys)
-checks-then k [] ys = ap (λ (i : ℕ). firstFailing i ys) (omega arith)
-checks-then k (true ∷ xs) ys =
-    checks-then (suc k) xs ys ∙ ap (λ (i : ℕ). orElse (firstFailing (suc (suc k)) xs) (firstFailing i ys)) (omega arith)
-checks-then k (false ∷ xs) ys = refl
-
-entries-check : (route : Route) (p : Problem) → check9 route p ≡ entriesCheck route (p .m) (p .A .rows) (p .b) (layout p)
+-- check 9 of a problem, from what it reads of it
+pub entries-check : (route : Route) (p : Problem) → check9 route p ≡ entriesCheck route (p .m) (p .A .rows) (p .b) (layout p)
 entries-check standard p = refl
 entries-check compact p = refl
-
-pub refusal-split : (route : Route) (p : Problem)
-    → refusal route p ≡ orElse (problemRefusal p) (firstFailing 8 (routeChecks route (p .n) (p .m) (p .A .rows) (p .b) (layout p)))
-refusal-split route p =
-    checks-then 0 (take 7 (checks standard p)) (drop 7 (checks route p))
-    ∙ ap (λ (t : Bool). orElse (problemRefusal p) (firstFailing 8 (check8 route (p .n) ∷ t ∷ check10 route (p .m) (layout p) ∷ []))) (entries-check route p)
-
--- a joining's refusal by a check: 1 and 4 to 7, then those of the route
-pub join-split : (route : Route) (n m : ℕ) (cones : List ℕ) (count : ℕ) (words : List ℕ)
-    → let ps = patterns count words in
-    joinChecks route n m cones count words
-    ≡ orElse
-    (firstFailing 1
-    (joinBounded n m cones ∷ true ∷ true ∷ conesRead m cones ∷ patternsRead cones count words ∷ all treeRight ps ∷ all cliquesRight ps ∷ []))
-    (firstFailing 8 (joinRouteChecks route n m (joinedParts cones count words)))
-join-split route n m cones count words =
-    let ps = patterns count words in
-    checks-then 0
-    (joinBounded n m cones ∷ true ∷ true ∷ conesRead m cones ∷ patternsRead cones count words ∷ all treeRight ps ∷ all cliquesRight ps ∷ [])
-    (joinRouteChecks route n m (joinedParts cones count words))
