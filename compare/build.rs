@@ -1,5 +1,11 @@
-// Links libdoor.a where there is one: DOOR_LIB names it, else the repository's target/staticlib/libdoor.a.
-use std::path::PathBuf;
+// Links libdoor.a where there is one that has all calls: DOOR_LIB names it, else the repository's target/staticlib/libdoor.a.
+use std::path::{Path, PathBuf};
+
+fn has_all_calls(archive: &Path) -> bool {
+    let bytes = std::fs::read(archive).unwrap_or_default();
+    let has = |name: &[u8]| bytes.windows(name.len()).any(|part| part == name);
+    has(b"chordal_cut") && has(b"chordal_join")
+}
 
 fn main() {
     println!("cargo:rustc-check-cfg=cfg(door)");
@@ -15,12 +21,12 @@ fn main() {
         here.join("../target/staticlib/libdoor.a")
     });
     println!("cargo:rerun-if-changed={}", found.display());
-    if found.is_file() {
+    if has_all_calls(&found) {
         let found = found.canonicalize().unwrap();
         println!("cargo:rustc-link-search=native={}", found.parent().unwrap().display());
         println!("cargo:rustc-link-arg={}", found.display());
         println!("cargo:rustc-cfg=door");
     } else if let Some(path) = named {
-        panic!("DOOR_LIB names no file: {}", path.display());
+        panic!("DOOR_LIB names no door with all calls: {}", path.display());
     }
 }

@@ -1,8 +1,8 @@
 -- The sorted vertices of the clique at an offset, and its rows.
-use Prim.Native.Nat.{ℕ, suc, _+_, _≤_, _<_}
+use Prim.Native.Nat.{ℕ, suc, _+_, _≤_}
 use native.Mathlib.Omega.{arith}
-use mathlib.Core.Path.{_≡_, ap, _∙_}
-use mathlib.Core.List.{List, map}
+use mathlib.Core.Path.{_≡_, _∙_}
+use mathlib.Core.List.{List}
 use lib.ListN.{length, getD, length-map}
 use lib.Dec.{T}
 use Rattle.layout.specs.Lists.{has, below, rises}

@@ -1,16 +1,15 @@
 -- The pattern at an offset of the words: its cliques by their offsets.
 use Prim.Native.Nat.{ℕ, zero, suc, _+_, _-_, _≤_, _<_}
 use native.Mathlib.Omega.{arith}
-use mathlib.Core.Path.{_≡_, refl, ap, ap₂, sym, subst, _∙_}
+use mathlib.Core.Path.{_≡_, refl, ap, sym, subst, _∙_}
 use mathlib.Core.Bool.{Bool, true, false}
 use mathlib.Core.List.{List, [], _∷_, _++_, map, reverse, reverse-cons}
-use lib.ListN.{length, getD, take, drop, length-take}
+use lib.ListN.{length, getD, take, drop}
 use lib.Seq.{getD-take, length-take-le}
 use lib.Dec.{T}
 use Rattle.layout.specs.Lists.{has, below, join}
-use Rattle.layout.specs.Triangle.{triangle}
-use Rattle.layout.specs.Patterns.{Pattern, Clique, cliqueAt, cliqueCount, members, noClique, noPattern, Read, read, short, Head, readHead, readMany, andThen, readClique, readCliques, withCliques}
-use Rattle.layout.specs.Blocks.{Pair, pairs, pairRow, block, patternRows, originalRow}
+use Rattle.layout.specs.Patterns.{Pattern, Clique, cliqueAt, cliqueCount, members, noClique, noPattern, Read, read, short, readHead, readMany, andThen, readClique, readCliques, withCliques}
+use Rattle.layout.specs.Blocks.{pairs, pairRow, block, patternRows, originalRow}
 use Rattle.layout.specs.Checks.{RightPattern, treeRight}
 use Rattle.layout.proofs.Members.{has-below}
 use Rattle.layout.proofs.Joins.{map-same}
@@ -18,7 +17,7 @@ use Rattle.layout.proofs.Starts.{part-at}
 use Rattle.layout.proofs.Keeps.{map-append}
 use Rattle.layout.proofs.Cliques.{cliqueVertices}
 use Rattle.layout.proofs.Reading.{Reads, reads-any, reads-then}
-use Rattle.supernode_tree.specs.Reads.{whole, valueOr, rest, Whole, cliquesFrom, patternAt, patternRead, PatternInside, headOf}
+use Rattle.supernode_tree.specs.Reads.{whole, valueOr, Whole, cliquesFrom, patternAt, patternRead, PatternInside, headOf}
 use Rattle.supernode_tree.specs.Offsets.{OffsetsOf}
 use Rattle.supernode_tree.specs.declared.Pattern.{Pattern as PatternHead}
 use Rattle.supernode_tree.specs.declared.PatternRead.{PatternRead}
@@ -143,10 +142,11 @@ module _ (ws : List ℕ) (at : ℕ) (r : PatternRead) (ok : RightPattern (patter
         go (read cs left) m w = m
         go short m w = absurd (subst T (sym w) tt)
 
+    pub cliques-count : cliqueCount (patternAt ws at) ≡ k
+    cliques-count = ap (λ (p : Pattern). cliqueCount p) pattern-here ∙ count-here
+
     pub count-few : patternAt ws at .vertexCount ≤ 256 → k ≤ 256
-    count-few few =
-        let n : cliqueCount (patternAt ws at) ≡ k = ap (λ (p : Pattern). cliqueCount p) pattern-here ∙ count-here in
-        omega (arith, cliques-few (patternAt ws at) ok)
+    count-few few = omega (arith, cliques-count, cliques-few (patternAt ws at) ok)
 
     -- the part of the words that is the ordering
     pub ordering-part : PatternInside (length ws) at (Found q) → take (q .cliques - q .ordering) (drop (q .ordering) ws) ≡ patternAt ws at .ordering
@@ -157,6 +157,3 @@ module _ (ws : List ℕ) (at : ℕ) (r : PatternRead) (ok : RightPattern (patter
     pub stand-here : (os : List ℕ) → OffsetsOf ws (q .cliques) k os → StandAt ws (patternAt ws at .cliques) os
     stand-here os st = subst (λ (p : Pattern). StandAt ws (p .cliques) os) (sym pattern-here)
         (λ c l. let e = st c (omega (arith, count-here)) in (ap whole e, ap (valueOr noClique) e))
-
-    pub cliques-count : cliqueCount (patternAt ws at) ≡ k
-    cliques-count = ap (λ (p : Pattern). cliqueCount p) pattern-here ∙ count-here

@@ -1,17 +1,14 @@
 -- A right pattern's cliques as sorting asks for them, and its blocks by the ordering alone.
 use Prim.Native.Nat.{ℕ, zero, suc, _+_, _≤_, _<_}
 use native.Mathlib.Omega.{arith}
-use mathlib.Core.Path.{_≡_, refl, ap, sym, subst, _∙_}
+use mathlib.Core.Path.{_≡_, refl, ap, sym, _∙_}
 use mathlib.Core.Logic.{inl, inr}
-use mathlib.Core.List.{List, [], _∷_, _++_, map, map-map, reverse}
+use mathlib.Core.List.{List, [], _∷_, _++_, map, reverse}
 use lib.ListN.{length, getD, length-append, length-map}
-use lib.Dec.{T}
-use Rattle.layout.specs.Lists.{has, keep, below, join, sum}
-use Rattle.layout.specs.Triangle.{triangle}
+use Rattle.layout.specs.Lists.{has, keep, below, join}
 use Rattle.layout.specs.Patterns.{Pattern, Clique, cliqueAt, cliqueCount, members, noClique}
-use Rattle.layout.specs.Blocks.{Pair, pair, Row, originalRow, pairRow, sorted, block, rowOf, patternRows, blockRows, cut}
-use Rattle.layout.specs.Checks.{snodes, RightPattern}
-use Rattle.layout.specs.CliqueTree.{InSnode}
+use Rattle.layout.specs.Blocks.{Pair, pair, originalRow, pairRow, sorted, block, rowOf, patternRows, blockRows, cut}
+use Rattle.layout.specs.Checks.{RightPattern}
 use Rattle.layout.proofs.Members.{has-getD, has-append}
 use Rattle.layout.proofs.Distinct.{permutation-has}
 use Rattle.layout.proofs.Tree.{cliques-right}

@@ -1,25 +1,25 @@
 -- The counts of a problem's blocks: no more overlaps than rows, and no more cones than rows beside the original ones.
-use Prim.Native.Nat.{ℕ, zero, suc, _+_, _≤_, _<_}
+use Prim.Native.Nat.{ℕ, suc, _+_, _≤_, _<_}
 use native.Mathlib.Omega.{arith}
 use mathlib.Core.Path.{_≡_, refl, sym, ap, subst}
-use mathlib.Core.Bool.{Bool, true, false, cond, _&&_}
+use mathlib.Core.Bool.{Bool, _&&_}
 use mathlib.Core.List.{List, [], _∷_, map}
 use lib.ListN.{length, getD}
 use lib.Dec.{T, leb, lit<}
 use Rattle.layout.specs.Lists.{all, sum}
 use Rattle.layout.specs.Triangle.{triangle}
-use Rattle.layout.specs.Problem.{Problem, Route, standard, compact}
+use Rattle.layout.specs.Problem.{Problem, Route}
 use Rattle.layout.specs.Cones.{Cone, records, rowCount}
-use Rattle.layout.specs.Patterns.{Pattern, Clique, cliqueCount, blockSize, noClique, patterns}
-use Rattle.layout.specs.Blocks.{Part, whole, cut, isCut, partsFrom, parts, blockRows, partRows, partOverlaps, blockRowCount, overlapCount}
-use Rattle.layout.specs.Checks.{Sound, RightPattern, sizesBounded, conesBounded, check10, layout, checks, refusal}
+use Rattle.layout.specs.Patterns.{Pattern, Clique, blockSize, noClique, patterns}
+use Rattle.layout.specs.Blocks.{Part, whole, cut, partsFrom, parts, partRows, partOverlaps, blockRowCount, overlapCount}
+use Rattle.layout.specs.Checks.{Sound, sizesBounded, conesBounded, layout, checks, refusal}
 use Rattle.layout.proofs.Tests.{and-iff, leb-iff}
 use Rattle.layout.proofs.Triangles.{triangle-mono}
 use Rattle.layout.proofs.Tree.{cliques-right}
 use Rattle.layout.proofs.Laid.{Laid, sound-laid}
 use Rattle.layout.proofs.Accepted.{passed, accepted-sound}
-use Rattle.layout.proofs.Sizes.{partCones, coneCount}
-use Rattle.chordal_info.specs.Sizes.{rowsFit, Fitting}
+use Rattle.layout.proofs.Sizes.{coneCount}
+use Rattle.chordal_info.specs.Sizes.{Fitting}
 use Rattle.chordal_info.proofs.Sizes.{rows-fit}
 
 -- ---- overlaps

@@ -1,15 +1,13 @@
 -- The original rows of the augmented rows, part by part.
-use Prim.Native.Nat.{ℕ, suc, _+_}
-use native.Mathlib.Omega.{arith}
+use Prim.Native.Nat.{ℕ, _+_}
 use mathlib.Core.Path.{_≡_, refl, sym, ap, ap₂, _∙_}
 use mathlib.Core.Bool.{Bool}
 use mathlib.Core.List.{List, [], _∷_, _++_, map}
-use lib.ListN.{length}
 use Rattle.layout.specs.Lists.{upFrom, join}
 use Rattle.layout.specs.Triangle.{triangle}
 use Rattle.layout.specs.Cones.{records, rowCount}
 use Rattle.layout.specs.Patterns.{patterns}
-use Rattle.layout.specs.Blocks.{Part, whole, cut, Row, kept, originalRow, patternRows, blockRows, rowsFrom, parts}
+use Rattle.layout.specs.Blocks.{Part, whole, cut, kept, originalRow, patternRows, blockRows, rowsFrom, parts}
 use Rattle.layout.specs.Checks.{Sound, coveredRows}
 use Rattle.layout.proofs.Keeps.{map-append}
 use Rattle.layout.proofs.Laid.{Laid, sound-laid}

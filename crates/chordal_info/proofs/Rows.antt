@@ -1,15 +1,14 @@
 -- The original rows of blocks: a clique's fit the table and the buffer, a pattern's are marked from the last clique to the first.
 use Prim.Native.Nat.{ℕ, suc, _+_, _-_, _≤_, _<_}
 use native.Mathlib.Omega.{arith}
-use mathlib.Core.Path.{_≡_, refl, sym, ap, _∙_}
+use mathlib.Core.Path.{_≡_, ap, _∙_}
 use mathlib.Core.Bool.{Bool}
-use mathlib.Core.List.{List, [], _∷_, _++_, map, reverse, reverse-append}
+use mathlib.Core.List.{List, [], _∷_, map, reverse, reverse-append}
 use lib.ListN.{length, getD, take, length-map}
 use lib.Seq.{take-suc, take-all}
-use lib.Dec.{T}
-use Rattle.layout.specs.Lists.{has, join}
+use Rattle.layout.specs.Lists.{join}
 use Rattle.layout.specs.Triangle.{triangle, pairIndex}
-use Rattle.layout.specs.Blocks.{Pair, pair, pairs, pairRow}
+use Rattle.layout.specs.Blocks.{pair, pairs, pairRow}
 use Rattle.layout.proofs.Members.{getD-map, has-at}
 use Rattle.layout.proofs.Triangles.{triangle-mono, triangle-column, pairIndex-le}
 use Rattle.layout.proofs.Pairs.{pair-entry}

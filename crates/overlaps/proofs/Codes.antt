@@ -1,12 +1,11 @@
 -- The codes of one clique and of all, by offsets.
 use Prim.Native.Nat.{ℕ, suc, _+_, _≤_, _<_}
 use native.Mathlib.Omega.{arith}
-use mathlib.Core.Path.{_≡_, ap, sym, fun-ext, _∙_}
+use mathlib.Core.Path.{_≡_, ap, fun-ext, _∙_}
 use mathlib.Core.List.{List, _++_, map, reverse}
 use lib.ListN.{length, getD, drop, length-map}
-use lib.Dec.{T}
 use borrow.Author.Tests.{eq-eqb, ne-eqb}
-use Rattle.layout.specs.Lists.{rises, below, join}
+use Rattle.layout.specs.Lists.{below, join}
 use Rattle.layout.specs.Triangle.{triangle}
 use Rattle.layout.specs.Blocks.{Pair, pairs}
 use Rattle.layout.proofs.Members.{length-upFrom, getD-below}

@@ -2,16 +2,16 @@
 use Prim.Native.Nat.{ℕ, suc, _+_, _-_, _≤_, _<_}
 use native.Mathlib.Decide.{ℕ-discrete}
 use native.Mathlib.Omega.{arith}
-use mathlib.Core.Path.{_≡_, refl, ap, ap₂, sym, subst, subst₂, _∙_}
+use mathlib.Core.Path.{_≡_, refl, ap, ap₂, sym, subst, _∙_}
 use mathlib.Core.Logic.{inl, inr}
-use mathlib.Core.Bool.{Bool, true, false, cond, _&&_}
+use mathlib.Core.Bool.{Bool, true, false, cond}
 use mathlib.Core.List.{List, [], _∷_, map, map-map, reverse}
 use lib.ListN.{length, getD, drop, length-map}
 use lib.Dec.{T}
 use Rattle.layout.specs.Lists.{has, below, join, sum, upFrom}
 use Rattle.layout.specs.Triangle.{triangle, pairIndex}
 use Rattle.layout.specs.Patterns.{Pattern, Clique, cliqueAt, cliqueCount, members, blockSize, noClique}
-use Rattle.layout.specs.Blocks.{Pair, pair, pairs, Row, owned, overlap, originals, block, rowOf, parentRow, inSeparator, firstRow, placeIn, pairRow, patternRows, blockRows}
+use Rattle.layout.specs.Blocks.{Pair, pair, pairs, owned, overlap, originals, block, rowOf, parentRow, inSeparator, firstRow, pairRow, patternRows, blockRows}
 use Rattle.layout.specs.Checks.{RightPattern}
 use Rattle.layout.specs.CliqueTree.{parentOf}
 use Rattle.layout.proofs.Tests.{and-iff, cond-failed}
@@ -23,7 +23,6 @@ use Rattle.layout.proofs.Cliques.{cliqueVertices, clique-vertices, pair-in-pare
 use Rattle.layout.proofs.Rows.{rows-count}
 use Rattle.blocks.specs.Columns.{columnPairs}
 use Rattle.codes.specs.Codes.{cutCode}
-use Rattle.blocks.specs.Cliques.{cliqueHere, verticesHere, rowsHere}
 use Rattle.blocks.proofs.Patterns.{map-join, down-same}
 use Rattle.blocks.proofs.Offsets.{StandAt, here, stands, vertices-clique, rows-block}
 use Rattle.overlaps.specs.Places.{tieCode}

@@ -14,7 +14,7 @@ use borrow.Author.Tests.{eq-eqb, ne-eqb}
 use Rattle.layout.specs.Lists.{has, rises, below}
 use Rattle.layout.specs.Triangle.{pairIndex}
 use Rattle.layout.specs.Blocks.{Pair, pair, pairRow, placeIn}
-use Rattle.layout.proofs.Tests.{tested, and-iff, cond-passed, cond-failed}
+use Rattle.layout.proofs.Tests.{tested, and-iff, cond-failed}
 use Rattle.layout.proofs.Members.{has-at, has-getD, has-below}
 use Rattle.layout.proofs.Joins.{map-same}
 use Rattle.layout.proofs.Rising.{rises-at, place-at}

@@ -35,7 +35,7 @@ pub record Stands (m : ℕ) (cones words : List ℕ) (c : Place) : Type 0 where
   pub named : T (all (namesItsCone (records cones)) (patternsAhead words c))
   pub numbered : c .pattern + c .left < 4294967296
 
--- what is ahead of c, by what the walk met there: i the cone's number, k its pattern's
+-- what is ahead of c, by what the walk met there
 abbrev pub meets : List ℕ → List ℕ → Place → Met → List Part
 meets cones words c (Whole rows next) = whole (c .cone) (getD (records cones) (c .cone) noCone) (c .row) ∷ ahead cones words next
 meets cones words c (Cut at next) = cut (c .cone) (c .row) (c .pattern) (patternAt words at) ∷ ahead cones words next

@@ -52,7 +52,7 @@ wholeCodes StandardCones i c row = standardPart (whole i c row)
 wholeCodes CompactCones i c row = compactPart (whole i c row)
 wholeCodes ConeMap i c row = mapWords (mapPart (whole i c row))
 
--- cone i cut by pattern p, number k, where t words are written before: t is the first augmented row
+-- cone i cut by pattern p, number k, where t words are written before: among the compact rows t is its first row
 unfoldable pub cutCodes : Table → ℕ → ℕ → ℕ → ℕ → Pattern → List ℕ
 cutCodes HRows t i row k p = standardPatternRows p row
 cutCodes JoinRows t i row k p = map originalRow (patternRows p row t)

@@ -1,9 +1,8 @@
-use mathlib.Core.Path.{_≡_, refl, sym, _∙_}
+use mathlib.Core.Path.{refl, sym, _∙_}
 use mathlib.Core.Bool.{true}
 use Rattle.layout.specs.Answers.{routeOf}
 use Rattle.chordal_info.specs.Sizes.{rowsFit}
 use Rattle.chordal_info.proofs.Routes.{standard-rows, no-columns, compact-rows}
-use native.Mathlib.Omega.{arith}
 use borrow.Author.Needs.{needs}
 use Rattle.chordal_info.proofs.check_join_counted.Statement.{statement}
 use Rattle.chordal_info.proofs.check_join_counted.Tie as tie

@@ -1,10 +1,9 @@
-use mathlib.Core.Path.{_≡_, _∙_}
+use mathlib.Core.Path.{_∙_}
 use Rattle.layout.specs.Cones.{records}
 use Rattle.layout.specs.Patterns.{patterns}
 use Rattle.layout.specs.Blocks.{parts}
 use Rattle.layout.specs.Answers.{routeOf}
 use Rattle.chordal_info.proofs.Routes.{counted-join}
-use native.Mathlib.Omega.{arith}
 use borrow.Author.Needs.{needs}
 use Rattle.chordal_info.proofs.check_join_route.Statement.{statement}
 use Rattle.chordal_info.proofs.check_join_route.Tie as tie

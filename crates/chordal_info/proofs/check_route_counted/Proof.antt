@@ -1,4 +1,4 @@
-use mathlib.Core.Path.{_≡_, sym, _∙_}
+use mathlib.Core.Path.{sym, _∙_}
 use mathlib.Core.List.{List}
 use borrow.Author.Tests.{not-true, not-false}
 use Rattle.layout.specs.Cones.{records}
@@ -8,7 +8,6 @@ use Rattle.layout.specs.Checks.{check10}
 use Rattle.layout.specs.Answers.{routeOf}
 use Rattle.chordal_info.specs.Routes.{entriesCheck}
 use Rattle.chordal_info.proofs.Routes.{standard-rows, no-columns, entries-fail, compact-rows, entries-standard, entries-compact, counted-rows}
-use native.Mathlib.Omega.{arith}
 use borrow.Author.Needs.{needs}
 use Rattle.chordal_info.proofs.check_route_counted.Statement.{statement}
 use Rattle.chordal_info.proofs.check_route_counted.Tie as tie

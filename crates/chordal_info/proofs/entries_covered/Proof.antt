@@ -1,8 +1,7 @@
-use Prim.Native.Nat.{ℕ, _+_, _-_, _≤_, _<_}
+use Prim.Native.Nat.{_-_, _≤_}
 use mathlib.Core.Path.{_≡_, sym, _∙_}
-use mathlib.Core.Bool.{Bool, false}
+use mathlib.Core.Bool.{false}
 use lib.ListN.{length, getD, drop}
-use Rattle.layout.specs.Lists.{all}
 use Rattle.csc.proofs.Fronts.{all-step, all-fails, all-done}
 use Rattle.chordal_info.specs.Covered.{rowsMarked}
 use native.Mathlib.Omega.{arith}

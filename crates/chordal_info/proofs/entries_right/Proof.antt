@@ -1,9 +1,7 @@
-use Prim.Native.Nat.{ℕ, _+_, _≤_, _<_}
-use mathlib.Core.Path.{_≡_, sym, ap, _∙_}
+use Prim.Native.Nat.{ℕ}
+use mathlib.Core.Path.{sym, ap}
 use mathlib.Core.Bool.{Bool, false}
-use lib.ListN.{length, replicate, length-replicate}
-use Rattle.layout.specs.Triangle.{triangle}
-use Rattle.layout.specs.Checks.{Sound}
+use lib.ListN.{replicate, length-replicate}
 use Rattle.layout.proofs.Triangles.{triangle-mono}
 use native.Mathlib.Omega.{arith}
 use borrow.Author.Needs.{needs}

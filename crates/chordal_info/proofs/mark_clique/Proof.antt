@@ -1,9 +1,8 @@
-use Prim.Native.Nat.{ℕ, _+_, _≤_, _<_}
+use Prim.Native.Nat.{ℕ, _≤_}
 use mathlib.Core.Path.{_≡_, sym, ap, subst, _∙_}
 use mathlib.Core.List.{List}
 use lib.ListN.{length, take}
 use lib.Seq.{length-take-le}
-use Rattle.layout.specs.Triangle.{triangle}
 use Rattle.layout.proofs.Buffers.{take-written}
 use Rattle.blocks.specs.Cliques.{rowsHere}
 use Rattle.chordal_info.specs.Covered.{Below, marked}

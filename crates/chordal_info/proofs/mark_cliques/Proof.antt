@@ -1,6 +1,6 @@
-use Prim.Native.Nat.{ℕ, _+_, _-_, _≤_, _<_}
+use Prim.Native.Nat.{_-_, _≤_}
 use mathlib.Core.Path.{_≡_, refl, sym, ap, _∙_}
-use mathlib.Core.List.{List, reverse}
+use mathlib.Core.List.{reverse}
 use lib.ListN.{length, take}
 use Rattle.layout.specs.Lists.{join}
 use Rattle.blocks.specs.Cliques.{rowsHere}

@@ -1,17 +1,15 @@
-use Prim.Native.Nat.{ℕ, _+_, _≤_, _<_}
+use Prim.Native.Nat.{ℕ}
 use mathlib.Core.Path.{_≡_, refl, sym, ap, subst, _∙_}
-use mathlib.Core.List.{List, [], _∷_, map}
+use mathlib.Core.List.{List, map}
 use lib.ListN.{length, getD}
 use Rattle.layout.specs.Lists.{upFrom, join}
-use Rattle.layout.specs.Triangle.{triangle}
 use Rattle.layout.specs.Cones.{records}
 use Rattle.layout.specs.Patterns.{patterns}
 use Rattle.layout.specs.Blocks.{Part, whole, cut, parts, originalRow, patternRows}
-use Rattle.layout.specs.Checks.{Sound, noCone, coveredRows}
+use Rattle.layout.specs.Checks.{noCone, coveredRows}
 use Rattle.supernode_tree.specs.Reads.{patternAt}
 use Rattle.parts.specs.Ahead.{ahead, Stands, meets, Knows}
-use Rattle.parts.specs.declared.Met.{Met}
-use Rattle.parts.specs.declared.Met.the-variants.{Whole, Cut, Done}
+use Rattle.parts.specs.declared.Met.the-variants.{Whole, Cut}
 use Rattle.chordal_info.specs.Covered.{marked}
 use Rattle.chordal_info.proofs.Parts.{partRows, covered-parts, part-step, parts-done}
 use native.Mathlib.Omega.{arith}

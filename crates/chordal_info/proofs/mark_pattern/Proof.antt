@@ -1,10 +1,10 @@
-use Prim.Native.Nat.{ℕ, _≤_, _<_, _-_, _+_}
-use mathlib.Core.Path.{_≡_, refl, ap, sym, _∙_}
-use mathlib.Core.List.{List, map, reverse}
+use Prim.Native.Nat.{ℕ, _≤_, _-_}
+use mathlib.Core.Path.{_≡_, ap, sym, _∙_}
+use mathlib.Core.List.{List, reverse}
 use lib.ListN.{length, take, drop, length-replicate}
 use lib.Seq.{length-take-le}
 use Rattle.layout.specs.Lists.{join}
-use Rattle.layout.specs.Patterns.{Pattern, cliqueCount}
+use Rattle.layout.specs.Patterns.{cliqueCount}
 use Rattle.supernode_tree.specs.Reads.{patternAt, PatternInside}
 use Rattle.supernode_tree.specs.declared.PatternRead.the-variants.{Pattern as Found}
 use Rattle.blocks.specs.Cliques.{rowsHere}

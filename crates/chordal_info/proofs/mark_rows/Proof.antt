@@ -1,6 +1,6 @@
-use Prim.Native.Nat.{ℕ, _+_, _-_, _≤_, _<_}
+use Prim.Native.Nat.{_-_, _≤_}
 use mathlib.Core.Path.{_≡_, sym, _∙_}
-use lib.ListN.{length, getD, drop, length-set}
+use lib.ListN.{length, drop, length-set}
 use Rattle.chordal_info.specs.Covered.{marked}
 use Rattle.chordal_info.proofs.Marks.{mark-step, mark-done}
 use native.Mathlib.Omega.{arith}

@@ -1,8 +1,7 @@
-use Prim.Native.Nat.{_+_, _<_}
-use mathlib.Core.Path.{_≡_, sym, ap, _∙_}
+use Prim.Native.Nat.{_+_}
+use mathlib.Core.Path.{sym, ap, _∙_}
 use borrow.Author.Tests.{le-leb, lt-leb}
 use Rattle.layout.specs.Problem.{Route}
-use Rattle.layout.specs.Answers.{routeOf}
 use Rattle.chordal_info.specs.Sizes.{rowsFit}
 use Rattle.chordal_info.proofs.Sizes.{route-standard, route-compact}
 use native.Mathlib.Omega.{arith}

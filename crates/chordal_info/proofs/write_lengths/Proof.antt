@@ -1,6 +1,5 @@
-use Prim.Native.Nat.{_+_, _<_, _≤_}
-use mathlib.Core.Path.{_≡_, refl}
-use lib.ListN.{length, length-set}
+use mathlib.Core.Path.{refl}
+use lib.ListN.{length-set}
 use Rattle.chordal_info.proofs.Sizes.{lengths-written}
 use native.Mathlib.Omega.{arith}
 use borrow.Author.Needs.{needs}

@@ -1,11 +1,11 @@
-use Prim.Native.Nat.{ℕ, suc, _≤_, _<_, _-_, _+_, _*_, _/_}
+use Prim.Native.Nat.{_-_, _+_}
 use native.Mathlib.Numerals.{add-one}
-use mathlib.Core.Path.{_≡_, refl, ap, ap₂, sym, subst, _∙_}
-use lib.ListN.{length, take, drop}
+use mathlib.Core.Path.{_≡_, ap, ap₂, sym, subst, _∙_}
+use lib.ListN.{length}
 use lib.Dec.{T}
 use Rattle.layout.specs.Triangle.{triangle}
 use Rattle.layout.specs.Patterns.{Clique, noClique, blockSize}
-use Rattle.supernode_tree.specs.Reads.{whole, valueOr, cliqueOf, cliqueRead, CliqueInside}
+use Rattle.supernode_tree.specs.Reads.{whole, valueOr, cliqueRead, CliqueInside}
 use Rattle.supernode_tree.specs.declared.CliqueRead.the-variants.{Clique as Found}
 use Rattle.supernode_tree.proofs.Words.{clique-found, length-part}
 use Rattle.overlaps.specs.Tables.{sizeHere}
@@ -13,9 +13,6 @@ use native.Mathlib.Omega.{arith}
 use borrow.Author.Needs.{needs}
 use Rattle.overlaps.proofs.block_rows.Statement.{statement}
 use Rattle.overlaps.proofs.block_rows.Tie as tie
-use Rattle.overlaps.proofs.block_rows.Reads as reads
-use Rattle.overlaps.proofs.block_rows.Lts as lts
-use Rattle.supernode_tree.proofs.Clique.read.Reads as read-reads
 
 -- the block of the clique that was read
 size : (c : tie.After-struct-known)
@@ -30,42 +27,33 @@ size c =
     ap (λ (c : Clique). triangle (blockSize c)) (ap (valueOr noClique) (clique-found ws (s .args .at) _ q (c .before .before .before .before .read .ensures .0) (g .1)))
     ∙ ap triangle (ap₂ _+_ (length-part (q .snode) (q .«snode_count») ws (omega arith)) (length-part (q .separator) (q .«separator_count») ws (omega arith)))
 
--- src/lib.rt:32:33
 read-requires : tie.Need-read-requires
 read-requires c κs = search needs
 
--- src/lib.rt:32:28
 enum-known-q : tie.Need-enum-known-q
 enum-known-q c = search needs
 
--- src/lib.rt:33:9
 enum-told : tie.Need-enum-told
 enum-told c = search needs
 
--- src/lib.rt:33:9
 returns : tie.Need-returns
 returns c =
     let s = c .before .before .before .before in
     let ws = s .args .words .now in
     absurd (subst T (sym (s .pre .0) ∙ ap whole (sym (c .before .before .read .ensures .0) ∙ ap (cliqueRead ws) (c .enum-told .given .1))) tt)
 
--- src/lib.rt:35:14
 add-k : tie.Need-add-k
 add-k c = omega (arith, size c, c .before .before .before .before .before .before .pre .1)
 
--- src/lib.rt:35:13
 cast-k : tie.Need-cast-k
 cast-k c = omega (arith, size c, c .before .before .before .before .before .before .pre .1)
 
--- src/lib.rt:36:10
 add-result : tie.Need-add-result
 add-result c = omega (arith, size c, c .before .before .before .before .before .before .pre .1)
 
--- src/lib.rt:36:5
 mul-result : tie.Need-mul-result
 mul-result c = omega (arith, size c, c .before .before .before .before .before .before .pre .1)
 
--- src/lib.rt:27:1
 returns-2 : tie.Need-returns-2
 returns-2 c = rw add-one (sym (size c))
 

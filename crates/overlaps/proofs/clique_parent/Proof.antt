@@ -1,40 +1,30 @@
-use mathlib.Core.Path.{_≡_, ap, sym, subst, _∙_}
+use mathlib.Core.Path.{ap, sym, subst, _∙_}
 use lib.Dec.{T}
 use Rattle.layout.specs.Patterns.{Clique, noClique}
 use Rattle.supernode_tree.specs.Reads.{whole, valueOr, cliqueRead}
 use Rattle.supernode_tree.proofs.Words.{clique-found}
-use native.Mathlib.Omega.{arith}
 use borrow.Author.Needs.{needs}
 use Rattle.overlaps.proofs.clique_parent.Statement.{statement}
 use Rattle.overlaps.proofs.clique_parent.Tie as tie
-use Rattle.overlaps.proofs.clique_parent.Reads as reads
-use Rattle.overlaps.proofs.clique_parent.Lts as lts
-use Rattle.supernode_tree.proofs.Clique.read.Reads as read-reads
 
--- src/lib.rt:192:33
 read-requires : tie.Need-read-requires
 read-requires c κs = search needs
 
--- src/lib.rt:192:28
 enum-known-q : tie.Need-enum-known-q
 enum-known-q c = search needs
 
--- src/lib.rt:193:9
 enum-told : tie.Need-enum-told
 enum-told c = search needs
 
--- src/lib.rt:193:9
 returns : tie.Need-returns
 returns c =
     let s = c .before .before .before .before in
     let ws = s .args .words .now in
     absurd (subst T (sym (s .pre) ∙ ap whole (sym (c .before .before .read .ensures .0) ∙ ap (cliqueRead ws) (c .enum-told .given .1))) tt)
 
--- src/lib.rt:195:5
 cast-result : tie.Need-cast-result
 cast-result c = search needs
 
--- src/lib.rt:188:1
 returns-2 : tie.Need-returns-2
 returns-2 c =
     let s = c .before .before .before .before .before .before in

@@ -1,5 +1,5 @@
 use Prim.Native.Nat.{ℕ, _≤_}
-use mathlib.Core.Path.{_≡_, refl, ap, sym, subst, _∙_}
+use mathlib.Core.Path.{_≡_, ap, sym, subst, _∙_}
 use mathlib.Core.List.{List}
 use lib.ListN.{length, replicate, length-replicate}
 use Rattle.blocks.specs.Cliques.{verticesHere}
@@ -9,31 +9,22 @@ use native.Mathlib.Omega.{arith}
 use borrow.Author.Needs.{needs}
 use Rattle.overlaps.proofs.clique_places.Statement.{statement}
 use Rattle.overlaps.proofs.clique_places.Tie as tie
-use Rattle.overlaps.proofs.clique_places.Reads as reads
-use Rattle.overlaps.proofs.clique_places.Lts as lts
-use Rattle.blocks.proofs.clique_vertices.Reads as clique-vertices-reads
-use Rattle.overlaps.proofs.note_places.Reads as note-places-reads
 
 few : (s : tie.Start) → length (verticesHere (s .args .words .now) (s .args .ordering .now) (s .args .at)) ≤ 256
 few s = omega (arith, vertices-few (s .args .words .now) (s .args .ordering .now) (s .args .at), s .pre .0 .sortable .few)
 
--- src/lib.rt:77:50
 slice-aggregate-clique-vertices : tie.Need-slice-aggregate-clique-vertices
 slice-aggregate-clique-vertices c = search needs
 
--- src/lib.rt:77:9
 clique-vertices-requires : tie.Need-clique-vertices-requires
 clique-vertices-requires c κs = search needs
 
--- src/lib.rt:78:17
 array-share-prefix-vertices : tie.Need-array-share-prefix-vertices
 array-share-prefix-vertices c = omega (arith, c .before .clique-vertices .ensures .0, few (c .before .before .before .before .before .before))
 
--- src/lib.rt:78:17
 slice-aggregate-note-places : tie.Need-slice-aggregate-note-places
 slice-aggregate-note-places c = let v = c .before .before in v .clique-vertices .ensures .0 ∙ sym (ap length (v .clique-vertices .ensures .1))
 
--- src/lib.rt:78:5
 note-places-requires : tie.Need-note-places-requires
 note-places-requires c κs =
     let v = c .before .before .before in
@@ -46,11 +37,9 @@ note-places-requires c κs =
       s .pre .1 ∙ ap (λ (m : ℕ). replicate m 0) (sym n),
     )
 
--- src/lib.rt:71:1
 same-length : tie.Need-same-length
 same-length c = search needs
 
--- src/lib.rt:71:1
 returns : tie.Need-returns
 returns c =
     let n = c .before .before in

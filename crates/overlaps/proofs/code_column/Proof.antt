@@ -1,5 +1,5 @@
 use Prim.Native.Nat.{ℕ, _<_}
-use mathlib.Core.Path.{_≡_, ap, _∙_}
+use mathlib.Core.Path.{ap, _∙_}
 use mathlib.Core.List.{List}
 use lib.ListN.{length, getD}
 use Rattle.layout.specs.Lists.{written}
@@ -8,49 +8,36 @@ use native.Mathlib.Omega.{arith}
 use borrow.Author.Needs.{needs}
 use Rattle.overlaps.proofs.code_column.Statement.{statement}
 use Rattle.overlaps.proofs.code_column.Tie as tie
-use Rattle.overlaps.proofs.code_column.Reads as reads
-use Rattle.overlaps.proofs.code_column.Lts as lts
-use Rattle.blocks.proofs.row_column.Reads as row-column-reads
-use Rattle.overlaps.proofs.tied_column.Reads as tied-column-reads
 
 vertex : (s : tie.Start) → getD (s .args .vertices .now) (s .args .j) 0 < length (s .args .places .now)
 vertex s = s .pre .0 .3 (s .args .j) (s .pre .0 .0)
 
--- src/lib.rt:133:13
 mul-c : tie.Need-mul-c
 mul-c c = search needs
 
--- src/lib.rt:133:13
 shared-slice-read-c : tie.Need-shared-slice-read-c
 shared-slice-read-c c = search needs
 
--- src/lib.rt:133:13
 cast-c : tie.Need-cast-c
 cast-c c = omega (arith, vertex (c .before .before .before .before))
 
--- src/lib.rt:134:8
 mul-if1 : tie.Need-mul-if1
 mul-if1 c = omega (arith, vertex (c .before .before .before .before))
 
--- src/lib.rt:134:8
 shared-slice-read-if1 : tie.Need-shared-slice-read-if1
 shared-slice-read-if1 c = omega (arith, vertex (c .before .before .before .before .before))
 
--- src/lib.rt:135:9
 row-column-requires : tie.Need-row-column-requires
 row-column-requires c κs = search needs
 
--- src/lib.rt:137:9
 tied-column-requires : tie.Need-tied-column-requires
 tied-column-requires c κs =
     let s = c .before .before .before .before .before .before .before in
     (s .pre .0, (s .pre .1, omega (arith, c .before .if1 .left)))
 
--- src/lib.rt:121:1
 same-length : tie.Need-same-length
 same-length c = search needs
 
--- src/lib.rt:121:1
 returns : tie.Need-returns
 returns c =
     let r = c .before .before in
@@ -60,11 +47,9 @@ returns c =
     ∙ ap (λ (xs : List ℕ). written xs (a .out .now))
     (own-column (a .places .now) (a .vertices .now) (a .base) (a .start) (a .j) (s .pre .0 .2) (s .pre .0 .0) (r .before .before .if1 .taken))
 
--- src/lib.rt:121:1
 same-length-2 : tie.Need-same-length-2
 same-length-2 c = search needs
 
--- src/lib.rt:121:1
 returns-2 : tie.Need-returns-2
 returns-2 c = search needs
 

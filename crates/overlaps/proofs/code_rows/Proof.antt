@@ -1,5 +1,5 @@
-use Prim.Native.Nat.{ℕ, suc, _<_, _≤_, _+_}
-use mathlib.Core.Path.{_≡_, refl, ap, sym, _∙_}
+use Prim.Native.Nat.{ℕ, _<_}
+use mathlib.Core.Path.{_≡_, ap, sym, _∙_}
 use mathlib.Core.List.{List}
 use lib.ListN.{length, getD}
 use Rattle.layout.specs.Lists.{written}
@@ -10,11 +10,6 @@ use native.Mathlib.Omega.{arith}
 use borrow.Author.Needs.{needs}
 use Rattle.overlaps.proofs.code_rows.Statement.{statement}
 use Rattle.overlaps.proofs.code_rows.Tie as tie
-use Rattle.overlaps.proofs.code_rows.Reads as reads
-use Rattle.overlaps.proofs.code_rows.Lts as lts
-use Rattle.blocks.proofs.clique_rows.Reads as clique-rows-reads
-use Rattle.overlaps.proofs.clique_parent.Reads as clique-parent-reads
-use Rattle.overlaps.proofs.tied_rows.Reads as tied-rows-reads
 
 -- the last clique's codes
 last : (t : tie.Then1)
@@ -40,29 +35,23 @@ tied k =
     let a = k .before .before .before .before .before .before .before .before .args in
     codes-tied (a .base) (a .words .now) (a .ordering .now) (a .offsets .now) (a .starts .now) (a .c) (k .clique-parent .result) (k .clique-parent .ensures) (k .before .if1 .left)
 
--- src/lib.rt:214:14
 mul-at : tie.Need-mul-at
 mul-at c = search needs
 
--- src/lib.rt:214:14
 shared-slice-read-at : tie.Need-shared-slice-read-at
 shared-slice-read-at c = search needs
 
--- src/lib.rt:215:8
 add-if1 : tie.Need-add-if1
 add-if1 c = search needs
 
--- src/lib.rt:216:9
 clique-rows-requires : tie.Need-clique-rows-requires
 clique-rows-requires c κs =
     let s = c .before .before .before .before .before .before .before .before in
     (s .pre .0 .0 .standing (s .args .c) (s .pre .0 .1), (s .pre .1 .0, omega (arith, ap length (last (c .before)), s .pre .1 .1)))
 
--- src/lib.rt:216:9
 same-length : tie.Need-same-length
 same-length c = search needs
 
--- src/lib.rt:216:9
 returns : tie.Need-returns
 returns c =
     let r = c .before .before in
@@ -70,27 +59,21 @@ returns c =
     let e = last (r .before .before) in
     (r .clique-rows .ensures .0 ∙ ap length (sym e), r .clique-rows .ensures .1 ∙ ap (λ (xs : List ℕ). written xs (s .args .out .now)) (sym e))
 
--- src/lib.rt:218:9
 clique-parent-requires : tie.Need-clique-parent-requires
 clique-parent-requires c κs = let s = c .before .before .before .before .before .before .before in s .pre .0 .0 .standing (s .args .c) (s .pre .0 .1) .found
 
--- src/lib.rt:219:36
 mul-tied-rows : tie.Need-mul-tied-rows
 mul-tied-rows c = omega (arith, inside c)
 
--- src/lib.rt:219:36
 shared-slice-read-tied-rows : tie.Need-shared-slice-read-tied-rows
 shared-slice-read-tied-rows c = omega (arith, inside (c .before))
 
--- src/lib.rt:219:59
 mul-tied-rows-2 : tie.Need-mul-tied-rows-2
 mul-tied-rows-2 c = omega (arith, inside (c .before), c .before .before .before .before .before .before .before .before .before .pre .0 .0 .starting)
 
--- src/lib.rt:219:59
 shared-slice-read-tied-rows-2 : tie.Need-shared-slice-read-tied-rows-2
 shared-slice-read-tied-rows-2 c = omega (arith, inside (c .before .before), c .before .before .before .before .before .before .before .before .before .before .pre .0 .0 .starting)
 
--- src/lib.rt:219:5
 tied-rows-requires : tie.Need-tied-rows-requires
 tied-rows-requires c κs =
     let k = c .before .before .before in
@@ -100,11 +83,9 @@ tied-rows-requires c κs =
       ((s .pre .1 .0, t .low (k .clique-parent .result) (inside k)), omega (arith, ap length (tied k), s .pre .1 .1)),
     )
 
--- src/lib.rt:199:1
 same-length-2 : tie.Need-same-length-2
 same-length-2 c = search needs
 
--- src/lib.rt:199:1
 returns-2 : tie.Need-returns-2
 returns-2 c =
     let r = c .before .before in

@@ -1,7 +1,7 @@
-use Prim.Native.Nat.{ℕ, _≤_, _<_, _-_, _+_}
+use Prim.Native.Nat.{ℕ, _≤_, _-_, _+_}
 use mathlib.Core.Path.{_≡_, refl, ap, sym, _∙_}
 use mathlib.Core.List.{List, [], reverse, _++_}
-use lib.ListN.{length, getD, take, drop, length-append, length-take, length-drop, drop-of-length-le}
+use lib.ListN.{length, take, drop, length-append, length-take, length-drop, drop-of-length-le}
 use Rattle.layout.specs.Lists.{written, join, below}
 use Rattle.layout.proofs.Members.{length-upFrom}
 use Rattle.layout.proofs.Starts.{length-written}
@@ -12,9 +12,6 @@ use native.Mathlib.Omega.{arith}
 use borrow.Author.Needs.{needs}
 use Rattle.overlaps.proofs.codes_down.Statement.{statement}
 use Rattle.overlaps.proofs.codes_down.Tie as tie
-use Rattle.overlaps.proofs.codes_down.Reads as reads
-use Rattle.overlaps.proofs.codes_down.Lts as lts
-use Rattle.overlaps.proofs.code_rows.Reads as code-rows-reads
 
 abbrev Inv-loop : tie.InvT-loop
 Inv-loop words ordering offsets starts base out₀ t₀ c₀ out t c =
@@ -38,7 +35,6 @@ fits i =
     let q : l .loop .c ≡ n + 1 = omega arith in
     omega (arith, ap (λ (m : ℕ). length (join f (reverse (drop m (below K))))) q, numbers-room f K n (omega arith), s .pre .1 .1)
 
--- src/lib.rt:239:5
 loop-holds : tie.Need-loop-holds Inv-loop μ-loop
 loop-holds c =
     let a = c .before .before .before .before .before .args in
@@ -47,42 +43,33 @@ loop-holds c =
     ap (λ (ns : List ℕ). join (codesHere (a .base) (a .words .now) (a .ordering .now) (a .offsets .now) (a .starts .now)) (reverse ns)) (sym (drop-of-length-le (below k) {i = k} (omega (arith, length-upFrom 0 k)))) in
     (omega arith, ap length e, refl, ap (λ (xs : List ℕ). written xs (a .out .now)) e)
 
--- src/lib.rt:240:9
 sub-c : tie.Need-sub-c Inv-loop μ-loop
 sub-c c = search needs
 
--- src/lib.rt:241:67
 mul-code-rows : tie.Need-mul-code-rows Inv-loop μ-loop
 mul-code-rows c = omega (arith, fits c)
 
--- src/lib.rt:241:67
 sub-code-rows : tie.Need-sub-code-rows Inv-loop μ-loop
 sub-code-rows c = omega (arith, fits c)
 
--- src/lib.rt:241:67
 part-code-rows-start : tie.Need-part-code-rows-start Inv-loop μ-loop
 part-code-rows-start c = omega (arith, fits c)
 
--- src/lib.rt:241:67
 part-code-rows-end : tie.Need-part-code-rows-end Inv-loop μ-loop
 part-code-rows-end c = omega (arith, fits c)
 
--- src/lib.rt:241:14
 code-rows-requires : tie.Need-code-rows-requires Inv-loop μ-loop
 code-rows-requires c κs =
     let i = c .before in
     let s = i .before .before .before .before .before .before .before in
     ((s .pre .0, omega arith), (s .pre .1 .0, simp (length-take, length-drop) (omega (arith, fits i))))
 
--- src/lib.rt:241:9
 add-t : tie.Need-add-t Inv-loop μ-loop
 add-t c = omega (arith, fits (c .before .before .before .before), c .before .before .code-rows .ensures .0)
 
--- src/lib.rt:239:5
 loop-less : tie.Need-loop-less Inv-loop μ-loop
 loop-less c = search needs
 
--- src/lib.rt:239:5
 loop-again : tie.Need-loop-again Inv-loop μ-loop
 loop-again c =
     let i = c .before .before .before .before in
@@ -110,11 +97,9 @@ loop-again c =
       e,
     )
 
--- src/lib.rt:223:1
 same-length : tie.Need-same-length Inv-loop μ-loop
 same-length c = c .before .loop .inv .2
 
--- src/lib.rt:223:1
 returns : tie.Need-returns Inv-loop μ-loop
 returns c =
     let l = c .before in

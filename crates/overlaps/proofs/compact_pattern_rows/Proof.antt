@@ -1,7 +1,7 @@
 use Rattle.layout.specs.Blocks.{patternRows}
 use Rattle.codes.specs.Codes.{cutCode}
-use Prim.Native.Nat.{ℕ, _≤_, _<_, _-_, _+_}
-use mathlib.Core.Path.{_≡_, refl, ap, sym, _∙_}
+use Prim.Native.Nat.{ℕ, _≤_, _-_}
+use mathlib.Core.Path.{_≡_, ap, sym, _∙_}
 use mathlib.Core.List.{List, map, reverse}
 use lib.ListN.{length, take, drop, length-replicate}
 use lib.Seq.{length-take-le}
@@ -18,12 +18,6 @@ use native.Mathlib.Omega.{arith}
 use borrow.Author.Needs.{needs}
 use Rattle.overlaps.proofs.compact_pattern_rows.Statement.{statement}
 use Rattle.overlaps.proofs.compact_pattern_rows.Tie as tie
-use Rattle.overlaps.proofs.compact_pattern_rows.Reads as reads
-use Rattle.overlaps.proofs.compact_pattern_rows.Lts as lts
-use Rattle.overlaps.proofs.codes_down.Reads as codes-down-reads
-use Rattle.overlaps.proofs.first_rows.Reads as first-rows-reads
-use Rattle.supernode_tree.proofs.Pattern.read.Reads as read-reads
-use Rattle.supernode_tree.proofs.clique_offsets.Reads as clique-offsets-reads
 
 -- the pattern's head lies in the words
 inside : (k : tie.After-known-told) → PatternInside (length (k .before .before .before .before .before .before .args .words .now)) (k .before .before .before .before .before .before .args .at) (Found (k .before .p .given .0 .0))
@@ -81,52 +75,41 @@ codes f =
     let s = o .before .before .before .before .before .before .before .before in
     pattern-codes (patternAt (s .args .words .now) (s .args .at)) (s .pre .0) (s .args .words .now) (offsets o) (many o) (standing o) (s .args .first) (starts f) (room f) (f .first-rows .ensures) (s .args .base)
 
--- src/lib.rt:260:35
 read-requires : tie.Need-read-requires
 read-requires c κs = search needs
 
--- src/lib.rt:260:30
 enum-known-p : tie.Need-enum-known-p
 enum-known-p c = search needs
 
--- src/lib.rt:261:9
 enum-told : tie.Need-enum-told
 enum-told c = search needs
 
--- src/lib.rt:261:9
 returns : tie.Need-returns
 returns c =
     let s = c .before .before .before .before .before in
     absurd (not-short (s .args .words .now) (s .args .at) _ (s .pre .0) (c .before .before .read .ensures .0) (c .enum-told .given .1))
 
--- src/lib.rt:264:54
 slice-aggregate-clique-offsets : tie.Need-slice-aggregate-clique-offsets
 slice-aggregate-clique-offsets c = search needs
 
--- src/lib.rt:264:5
 clique-offsets-requires : tie.Need-clique-offsets-requires
 clique-offsets-requires c κs =
     let k = c .before in
     let s = k .before .before .before .before .before .before in
     (cliques-here (s .args .words .now) (s .args .at) _ (s .pre .0) (k .before .before .before .read .ensures .0) (k .before .p .given .0 .0) (k .before .p .given .1), omega (arith, few k, length-replicate {A = ℕ} 256 0))
 
--- src/lib.rt:265:13
 cast-k : tie.Need-cast-k
 cast-k c = search needs
 
--- src/lib.rt:267:23
 array-share-prefix-offsets : tie.Need-array-share-prefix-offsets
 array-share-prefix-offsets c = omega (arith, few (c .before .before .before .before))
 
--- src/lib.rt:267:23
 slice-aggregate-first-rows : tie.Need-slice-aggregate-first-rows
 slice-aggregate-first-rows c = let o = c .before .before .before in sym (many o ∙ count (o .before .before))
 
--- src/lib.rt:267:45
 slice-aggregate-first-rows-2 : tie.Need-slice-aggregate-first-rows-2
 slice-aggregate-first-rows-2 c = search needs
 
--- src/lib.rt:267:5
 first-rows-requires : tie.Need-first-rows-requires
 first-rows-requires c κs =
     let o = c .before .before .before .before in
@@ -136,35 +119,27 @@ first-rows-requires c κs =
       omega (arith, sizes-sum p (s .pre .0) (s .args .words .now) (offsets o) (many o) (standing o), s .pre .1 .1 .0),
     )
 
--- src/lib.rt:270:23
 mul-codes-down : tie.Need-mul-codes-down
 mul-codes-down c = let i = inside (c .before .before .before .before .before .before .before .before) in omega arith
 
--- src/lib.rt:270:23
 sub-codes-down : tie.Need-sub-codes-down
 sub-codes-down c = let i = inside (c .before .before .before .before .before .before .before .before) in omega arith
 
--- src/lib.rt:270:23
 part-codes-down-start : tie.Need-part-codes-down-start
 part-codes-down-start c = let i = inside (c .before .before .before .before .before .before .before .before) in omega arith
 
--- src/lib.rt:270:23
 part-codes-down-end : tie.Need-part-codes-down-end
 part-codes-down-end c = let i = inside (c .before .before .before .before .before .before .before .before) in omega arith
 
--- src/lib.rt:270:37
 array-share-prefix-offsets-2 : tie.Need-array-share-prefix-offsets-2
 array-share-prefix-offsets-2 c = omega (arith, few (c .before .before .before .before .before .before .before .before .before))
 
--- src/lib.rt:270:37
 slice-aggregate-codes-down : tie.Need-slice-aggregate-codes-down
 slice-aggregate-codes-down c = let o = c .before .before .before .before .before .before .before .before in sym (many o ∙ count (o .before .before))
 
--- src/lib.rt:270:52
 slice-aggregate-codes-down-2 : tie.Need-slice-aggregate-codes-down-2
 slice-aggregate-codes-down-2 c = search needs
 
--- src/lib.rt:270:5
 codes-down-requires : tie.Need-codes-down-requires
 codes-down-requires c κs =
     let f = c .before .before .before .before .before in
@@ -179,11 +154,9 @@ codes-down-requires c κs =
       ),
     )
 
--- src/lib.rt:247:1
 same-length : tie.Need-same-length
 same-length c = search needs
 
--- src/lib.rt:247:1
 returns-2 : tie.Need-returns-2
 returns-2 c =
     let w = c .before .before in

@@ -10,9 +10,6 @@ use native.Mathlib.Omega.{arith}
 use borrow.Author.Needs.{needs}
 use Rattle.overlaps.proofs.first_rows.Statement.{statement}
 use Rattle.overlaps.proofs.first_rows.Tie as tie
-use Rattle.overlaps.proofs.first_rows.Reads as reads
-use Rattle.overlaps.proofs.first_rows.Lts as lts
-use Rattle.overlaps.proofs.block_rows.Reads as block-rows-reads
 
 abbrev Inv-loop : tie.InvT-loop
 Inv-loop words offsets first out₀ row₀ c₀ out row c =
@@ -39,49 +36,39 @@ room i =
     let a = i .before .before .before .before .before .args in
     omega (arith, row-here i, sum-room (sizeHere (a .words .now)) (a .offsets .now) (i .before .loop .c - 1) (omega arith))
 
--- src/lib.rt:47:5
 loop-holds : tie.Need-loop-holds Inv-loop μ-loop
 loop-holds c =
     let a = c .before .before .before .args in
     let os = a .offsets .now in
     (omega arith, refl, omega (arith, ap (λ (r : List ℕ). sum (map (sizeHere (a .words .now)) r)) (drop-of-length-le os {i = length os} (omega arith))), λ d m l. absurd (omega arith))
 
--- src/lib.rt:48:9
 sub-c : tie.Need-sub-c Inv-loop μ-loop
 sub-c c = search needs
 
--- src/lib.rt:49:9
 mul-out : tie.Need-mul-out Inv-loop μ-loop
 mul-out c = search needs
 
--- src/lib.rt:49:9
 slice-write-out : tie.Need-slice-write-out Inv-loop μ-loop
 slice-write-out c = search needs
 
--- src/lib.rt:50:34
 mul-block-rows : tie.Need-mul-block-rows Inv-loop μ-loop
 mul-block-rows c = search needs
 
--- src/lib.rt:50:34
 shared-slice-read-block-rows : tie.Need-shared-slice-read-block-rows Inv-loop μ-loop
 shared-slice-read-block-rows c = search needs
 
--- src/lib.rt:50:16
 block-rows-requires : tie.Need-block-rows-requires Inv-loop μ-loop
 block-rows-requires c κs =
     let i = c .before in
     let s = i .before .before .before .before .before in
     (s .pre .0 .0 (i .before .loop .c - 1) (omega arith), omega (arith, room i, s .pre .1))
 
--- src/lib.rt:50:9
 add-row : tie.Need-add-row Inv-loop μ-loop
 add-row c = omega (arith, room (c .before .before), c .before .before .before .before .before .before .before .pre .1, c .block-rows .ensures)
 
--- src/lib.rt:47:5
 loop-less : tie.Need-loop-less Inv-loop μ-loop
 loop-less c = search needs
 
--- src/lib.rt:47:5
 loop-again : tie.Need-loop-again Inv-loop μ-loop
 loop-again c =
     let i = c .before .before in
@@ -100,11 +87,9 @@ loop-again c =
           (λ d m q. l .loop .inv .3 d (omega arith) q),
     )
 
--- src/lib.rt:40:1
 same-length : tie.Need-same-length Inv-loop μ-loop
 same-length c = c .before .loop .inv .1
 
--- src/lib.rt:40:1
 returns : tie.Need-returns Inv-loop μ-loop
 returns c = let l = c .before in λ d m. l .loop .inv .3 d (omega arith) m
 

@@ -1,13 +1,11 @@
-use Prim.Native.Nat.{ℕ, _≤_, _<_, _-_, _+_}
-use mathlib.Core.Path.{_≡_, refl, ap, sym, subst, _∙_}
+use Prim.Native.Nat.{ℕ, _≤_, _<_, _-_}
+use mathlib.Core.Path.{_≡_, refl, subst}
 use lib.ListN.{length, getD, length-set}
 use Rattle.overlaps.proofs.Places.{Noted, noted-none, noted-more, noted-all}
 use native.Mathlib.Omega.{arith}
 use borrow.Author.Needs.{needs}
 use Rattle.overlaps.proofs.note_places.Statement.{statement}
 use Rattle.overlaps.proofs.note_places.Tie as tie
-use Rattle.overlaps.proofs.note_places.Reads as reads
-use Rattle.overlaps.proofs.note_places.Lts as lts
 
 abbrev Inv-loop : tie.InvT-loop
 Inv-loop vertices out₀ i₀ out i =
@@ -19,47 +17,36 @@ abbrev μ-loop : tie.MeasureT-loop
 vertex : (i : tie.In-loop Inv-loop μ-loop) → getD (i .before .before .args .vertices .now) (i .before .loop .i) 0 < length (i .before .loop .out)
 vertex i = omega (arith, i .before .before .pre .0 .1 (i .before .loop .i) (i .loop-test .taken))
 
--- src/lib.rt:63:5
 loop-holds : tie.Need-loop-holds Inv-loop μ-loop
 loop-holds c = (omega arith, refl, noted-none (c .args .vertices .now) (c .args .out .now) (length (c .args .out .now)) (c .pre .1))
 
--- src/lib.rt:64:17
 mul-v : tie.Need-mul-v Inv-loop μ-loop
 mul-v c = search needs
 
--- src/lib.rt:64:17
 shared-slice-read-v : tie.Need-shared-slice-read-v Inv-loop μ-loop
 shared-slice-read-v c = search needs
 
--- src/lib.rt:64:17
 cast-v : tie.Need-cast-v Inv-loop μ-loop
 cast-v c = omega (arith, vertex (c .before))
 
--- src/lib.rt:65:18
 cast-out : tie.Need-cast-out Inv-loop μ-loop
 cast-out c = search needs
 
--- src/lib.rt:65:18
 add-out : tie.Need-add-out Inv-loop μ-loop
 add-out c = search needs
 
--- src/lib.rt:65:9
 mul-out : tie.Need-mul-out Inv-loop μ-loop
 mul-out c = omega (arith, vertex (c .before))
 
--- src/lib.rt:65:9
 slice-write-out : tie.Need-slice-write-out Inv-loop μ-loop
 slice-write-out c = omega (arith, vertex (c .before))
 
--- src/lib.rt:66:9
 add-i : tie.Need-add-i Inv-loop μ-loop
 add-i c = search needs
 
--- src/lib.rt:63:5
 loop-less : tie.Need-loop-less Inv-loop μ-loop
 loop-less c = search needs
 
--- src/lib.rt:63:5
 loop-again : tie.Need-loop-again Inv-loop μ-loop
 loop-again c =
     let l = c .before .before in
@@ -69,11 +56,9 @@ loop-again c =
       noted-more (s .args .vertices .now) (l .loop .out) (l .loop .i) (s .pre .0 .0) (c .before .loop-test .taken) (vertex (c .before)) (l .loop .inv .2),
     )
 
--- src/lib.rt:57:1
 same-length : tie.Need-same-length Inv-loop μ-loop
 same-length c = c .before .loop .inv .1
 
--- src/lib.rt:57:1
 returns : tie.Need-returns Inv-loop μ-loop
 returns c =
     let l = c .before in

@@ -1,8 +1,8 @@
-use Prim.Native.Nat.{ℕ, _≤_, _<_, _-_, _+_, _*_, _/_}
+use Prim.Native.Nat.{ℕ, _≤_, _<_, _-_, _+_, _*_}
 use native.Mathlib.Nat.{mul-le-mul}
 use mathlib.Core.Path.{_≡_, refl, ap, sym, _∙_}
 use mathlib.Core.List.{List, map}
-use lib.ListN.{length, getD, take, set, length-set}
+use lib.ListN.{length, getD, take, length-set}
 use Rattle.layout.specs.Lists.{written}
 use Rattle.blocks.specs.Columns.{columnPairs}
 use Rattle.blocks.proofs.Sifting.{take-none}
@@ -14,9 +14,6 @@ use native.Mathlib.Omega.{arith}
 use borrow.Author.Needs.{needs}
 use Rattle.overlaps.proofs.tied_column.Statement.{statement}
 use Rattle.overlaps.proofs.tied_column.Tie as tie
-use Rattle.overlaps.proofs.tied_column.Reads as reads
-use Rattle.overlaps.proofs.tied_column.Lts as lts
-use Rattle.overlaps.proofs.tied_row.Reads as tied-row-reads
 
 abbrev Inv-loop : tie.InvT-loop
 Inv-loop out₀ vertices places j base start c row place tied i₀ out i =
@@ -50,111 +47,85 @@ under n =
     let s = n .before .before .before .before .before .before .before in
     rises-le (s .args .vertices .now) (n .before .loop .i) (s .args .j) (s .pre .0 .2) (omega arith) (s .pre .0 .0)
 
--- src/lib.rt:108:13
 mul-c : tie.Need-mul-c Inv-loop μ-loop
 mul-c c = search needs
 
--- src/lib.rt:108:13
 shared-slice-read-c : tie.Need-shared-slice-read-c Inv-loop μ-loop
 shared-slice-read-c c = search needs
 
--- src/lib.rt:109:27
 add-row : tie.Need-add-row Inv-loop μ-loop
 add-row c = search needs
 
--- src/lib.rt:109:22
 mul-row : tie.Need-mul-row Inv-loop μ-loop
 mul-row c = search needs
 
--- src/lib.rt:109:15
 add-row-2 : tie.Need-add-row-2 Inv-loop μ-loop
 add-row-2 c = search needs
 
--- src/lib.rt:110:24
 cast-place : tie.Need-cast-place Inv-loop μ-loop
 cast-place c = search needs
 
--- src/lib.rt:110:17
 mul-place : tie.Need-mul-place Inv-loop μ-loop
 mul-place c = omega (arith, vertex (c .before .before .before .before) (c .before .before .before .before .args .j) (c .before .before .before .before .pre .0 .0))
 
--- src/lib.rt:110:17
 shared-slice-read-place : tie.Need-shared-slice-read-place Inv-loop μ-loop
 shared-slice-read-place c = omega (arith, vertex (c .before .before .before .before .before) (c .before .before .before .before .before .args .j) (c .before .before .before .before .before .pre .0 .0))
 
--- src/lib.rt:110:17
 sub-place : tie.Need-sub-place Inv-loop μ-loop
 sub-place c = c .before .before .before .before .before .pre .1 .1
 
--- src/lib.rt:111:16
 add-tied : tie.Need-add-tied Inv-loop μ-loop
 add-tied c = search needs
 
--- src/lib.rt:111:41
 add-tied-2 : tie.Need-add-tied-2 Inv-loop μ-loop
 add-tied-2 c = omega (arith, few (c .before .before .before .before .before))
 
--- src/lib.rt:111:32
 mul-tied : tie.Need-mul-tied Inv-loop μ-loop
 mul-tied c = omega (arith, square (c .before .before .before .before .before))
 
--- src/lib.rt:111:16
 add-tied-3 : tie.Need-add-tied-3 Inv-loop μ-loop
 add-tied-3 c = omega (arith, square (c .before .before .before .before .before), c .before .before .before .before .before .pre .1 .0 .1)
 
--- src/lib.rt:113:5
 loop-holds : tie.Need-loop-holds Inv-loop μ-loop
 loop-holds c =
     let a = c .before .before .before .before .before .args in
     (omega arith, refl, ap (λ (xs : List ℕ). written xs (a .out .now)) (sym (take-none (map (placeCode (a .places .now) (a .base) (a .start)) (columnPairs (a .vertices .now) (a .j))))))
 
--- src/lib.rt:114:17
 mul-v : tie.Need-mul-v Inv-loop μ-loop
 mul-v c = search needs
 
--- src/lib.rt:114:17
 shared-slice-read-v : tie.Need-shared-slice-read-v Inv-loop μ-loop
 shared-slice-read-v c = search needs
 
--- src/lib.rt:115:27
 add-tied-row : tie.Need-add-tied-row Inv-loop μ-loop
 add-tied-row c = omega (arith, under (c .before), c .before .before .before .before .before .before .before .before .pre .1 .0 .0)
 
--- src/lib.rt:115:49
 cast-tied-row : tie.Need-cast-tied-row Inv-loop μ-loop
 cast-tied-row c = omega (arith, vertex (c .before .before .before .before .before .before .before .before) (c .before .before .loop .i) (inner (c .before)))
 
--- src/lib.rt:115:42
 mul-tied-row : tie.Need-mul-tied-row Inv-loop μ-loop
 mul-tied-row c = omega (arith, vertex (c .before .before .before .before .before .before .before .before) (c .before .before .loop .i) (inner (c .before)))
 
--- src/lib.rt:115:42
 shared-slice-read-tied-row : tie.Need-shared-slice-read-tied-row Inv-loop μ-loop
 shared-slice-read-tied-row c = omega (arith, vertex (c .before .before .before .before .before .before .before .before .before) (c .before .before .before .loop .i) (inner (c .before .before)))
 
--- src/lib.rt:115:18
 tied-row-requires : tie.Need-tied-row-requires Inv-loop μ-loop
 tied-row-requires c κs =
     let s = c .before .before .before .before .before .before .before .before .before in
     omega (arith, square s, s .pre .1 .0 .1, s .pre .1 .0 .2 .few (getD (s .args .vertices .now) (c .before .before .before .loop .i) 0))
 
--- src/lib.rt:115:9
 mul-out : tie.Need-mul-out Inv-loop μ-loop
 mul-out c = search needs
 
--- src/lib.rt:115:9
 slice-write-out : tie.Need-slice-write-out Inv-loop μ-loop
 slice-write-out c = search needs
 
--- src/lib.rt:116:9
 add-i : tie.Need-add-i Inv-loop μ-loop
 add-i c = search needs
 
--- src/lib.rt:113:5
 loop-less : tie.Need-loop-less Inv-loop μ-loop
 loop-less c = search needs
 
--- src/lib.rt:113:5
 loop-again : tie.Need-loop-again Inv-loop μ-loop
 loop-again c =
     let n = c .before .before .before in
@@ -174,11 +145,9 @@ loop-again c =
       rw (l .loop .inv .2, e) (write-more L (a .out .now) i 0 (omega (arith, k)) (omega (arith, k))),
     )
 
--- src/lib.rt:95:1
 same-length : tie.Need-same-length Inv-loop μ-loop
 same-length c = c .before .loop .inv .1
 
--- src/lib.rt:95:1
 returns : tie.Need-returns Inv-loop μ-loop
 returns c =
     let l = c .before in

@@ -1,24 +1,17 @@
 use borrow.Author.Tests.{eq-eqb, ne-eqb}
-use native.Mathlib.Omega.{arith}
 use borrow.Author.Needs.{needs}
 use Rattle.overlaps.proofs.tied_row.Statement.{statement}
 use Rattle.overlaps.proofs.tied_row.Tie as tie
-use Rattle.overlaps.proofs.tied_row.Reads as reads
-use Rattle.overlaps.proofs.tied_row.Lts as lts
 
--- src/lib.rt:89:9
 returns : tie.Need-returns
 returns c = rw (eq-eqb _ _ (c .if1 .taken))
 
--- src/lib.rt:91:13
 sub-result : tie.Need-sub-result
 sub-result c = search needs
 
--- src/lib.rt:91:5
 add-result : tie.Need-add-result
 add-result c = search needs
 
--- src/lib.rt:84:1
 returns-2 : tie.Need-returns-2
 returns-2 c = rw (ne-eqb _ _ (c .if1 .left))
 

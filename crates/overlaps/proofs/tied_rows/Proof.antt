@@ -1,5 +1,5 @@
 use Prim.Native.Nat.{ℕ, _≤_}
-use mathlib.Core.Path.{_≡_, refl, ap, sym, _∙_}
+use mathlib.Core.Path.{_≡_, ap, sym, _∙_}
 use mathlib.Core.List.{List, map}
 use lib.ListN.{length, length-replicate}
 use Rattle.layout.specs.Lists.{written}
@@ -14,44 +14,31 @@ use native.Mathlib.Omega.{arith}
 use borrow.Author.Needs.{needs}
 use Rattle.overlaps.proofs.tied_rows.Statement.{statement}
 use Rattle.overlaps.proofs.tied_rows.Tie as tie
-use Rattle.overlaps.proofs.tied_rows.Reads as reads
-use Rattle.overlaps.proofs.tied_rows.Lts as lts
-use Rattle.blocks.proofs.clique_vertices.Reads as clique-vertices-reads
-use Rattle.overlaps.proofs.clique_places.Reads as clique-places-reads
-use Rattle.overlaps.proofs.code_block.Reads as code-block-reads
 
 few : (s : tie.Start) (at : ℕ) → length (verticesHere (s .args .words .now) (s .args .ordering .now) at) ≤ 256
 few s at = omega (arith, vertices-few (s .args .words .now) (s .args .ordering .now) at, s .pre .0 .0 .sortable .few)
 
--- src/lib.rt:181:44
 slice-aggregate-clique-places : tie.Need-slice-aggregate-clique-places
 slice-aggregate-clique-places c = search needs
 
--- src/lib.rt:181:5
 clique-places-requires : tie.Need-clique-places-requires
 clique-places-requires c κs = search needs
 
--- src/lib.rt:183:50
 slice-aggregate-clique-vertices : tie.Need-slice-aggregate-clique-vertices
 slice-aggregate-clique-vertices c = search needs
 
--- src/lib.rt:183:9
 clique-vertices-requires : tie.Need-clique-vertices-requires
 clique-vertices-requires c κs = search needs
 
--- src/lib.rt:184:21
 array-share-prefix-vertices : tie.Need-array-share-prefix-vertices
 array-share-prefix-vertices c = omega (arith, c .before .before .clique-vertices .ensures .0, few (c .before .before .before .before .before .before .before .before .before .before) (c .before .before .before .before .before .before .before .before .before .before .args .at))
 
--- src/lib.rt:184:21
 slice-aggregate-code-block : tie.Need-slice-aggregate-code-block
 slice-aggregate-code-block c = let v = c .before .before .before in v .clique-vertices .ensures .0 ∙ sym (ap length (v .clique-vertices .ensures .1))
 
--- src/lib.rt:184:37
 slice-aggregate-code-block-2 : tie.Need-slice-aggregate-code-block-2
 slice-aggregate-code-block-2 c = search needs
 
--- src/lib.rt:184:5
 code-block-requires : tie.Need-code-block-requires
 code-block-requires c κs =
     let v = c .before .before .before .before in
@@ -70,11 +57,9 @@ code-block-requires c κs =
       ),
     )
 
--- src/lib.rt:165:1
 same-length : tie.Need-same-length
 same-length c = search needs
 
--- src/lib.rt:165:1
 returns : tie.Need-returns
 returns c =
     let b = c .before .before in

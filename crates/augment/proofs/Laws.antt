@@ -1,0 +1,109 @@
+-- What a caller of the writers cites: the tables of the cut by the parts' own lists, and what the checks say of the lengths.
+use Prim.Native.Nat.{ℕ, _+_, _-_, _≤_}
+use native.Mathlib.Omega.{arith}
+use mathlib.Core.Path.{_≡_, refl, sym, ap, _∙_}
+use mathlib.Core.List.{List, [], _∷_, _++_}
+use lib.ListN.{length, take, drop, set, replicate, length-set, length-replicate}
+use lib.Dec.{T, lit<}
+use Rattle.layout.specs.Lists.{written}
+use Rattle.layout.specs.Problem.{Problem, Csc, standard}
+use Rattle.layout.specs.Blocks.{Part, standardRows, blockRowCount}
+use Rattle.layout.specs.Checks.{Sound, layout, refusal, checks, startsRight}
+use Rattle.layout.specs.Standard.{standardA}
+use Rattle.layout.specs.Answers.{joinedParts}
+use Rattle.layout.proofs.Tests.{and-iff, eqb-iff, leb-iff}
+use Rattle.layout.proofs.Accepted.{passed, accepted-sound}
+use Rattle.layout.proofs.Laid.{sound-laid}
+use Rattle.layout.proofs.Columns.{RightStarts, starts-right}
+use Rattle.layout.proofs.Sizes.{standard-count}
+use Rattle.layout.proofs.Buffers.{take-written}
+use Rattle.augment_standard.specs.Beside.{besideStarts, besideRows, besideValues, besideH}
+use Rattle.augment_standard.proofs.Beside.{beside-standard}
+use Rattle.tables.specs.Tables.{codesFrom}
+use Rattle.tables.specs.declared.Table.the-variants.{HRows}
+use Rattle.tables.proofs.Tables.{h-rows}
+use Rattle.csc.proofs.Writing.{written-after}
+
+-- three words at the front
+three : (old : List ℕ) (a b c : ℕ) → 3 ≤ length old → set (set (set old 0 a) 1 b) 2 c ≡ written (a ∷ b ∷ c ∷ []) old
+three [] a b c h = absurd (omega arith)
+three (x ∷ []) a b c h = absurd (omega arith)
+three (x ∷ y ∷ []) a b c h = absurd (omega arith)
+three (x ∷ y ∷ z ∷ old) a b c h = refl
+
+pub length-three : (old : List ℕ) (a b c : ℕ) → length (set (set (set old 0 a) 1 b) 2 c) ≡ length old
+length-three old a b c =
+    length-set (set (set old 0 a) 1 b) 2 c ∙ length-set (set old 0 a) 1 b ∙ length-set old 0 a
+
+-- and a list after them, written to the part that was lent
+pub three-then : (a b c : ℕ) (ys old : List ℕ) {vs : List ℕ} → 3 + length ys ≤ length old
+    → let ws = set (set (set old 0 a) 1 b) 2 c in
+    vs ≡ written ys (take (length ws - 3) (drop 3 ws))
+    → take 3 ws ++ (vs ++ drop (length ws - 3) (drop 3 ws)) ≡ written (a ∷ b ∷ c ∷ ys) old
+three-then a b c ys old h e = written-after (a ∷ b ∷ c ∷ []) ys old h (three old a b c (omega arith)) e
+
+-- a table just cleared has room for n
+pub cleared : (n size : ℕ) → n ≤ size → n ≤ length (replicate {A = ℕ} size 0)
+cleared n size h = omega (arith, length-replicate {A = ℕ} size 0)
+
+pub within : (m n size : ℕ) → m + n ≤ size → n ≤ size
+within m n size h = omega arith
+
+-- the rows of H: how many, and where they stand in their table
+module _ {m : ℕ} {cones : List ℕ} {count : ℕ} {words : List ℕ} (h : Sound m cones count words) where
+  abbrev ps : List Part
+  ps = joinedParts cones count words
+
+  pub rows-count : length (standardRows (joinedParts cones count words)) ≡ blockRowCount (joinedParts cones count words)
+  rows-count = standard-count 0 ps (sound-laid h .0)
+
+  pub codes-count : length (codesFrom HRows 0 (joinedParts cones count words)) ≡ blockRowCount (joinedParts cones count words)
+  codes-count = ap length (h-rows 0 ps) ∙ rows-count
+
+-- the first k of a table to which xs was written
+pub front : (xs old new : List ℕ) (k : ℕ) → k ≡ length xs → new ≡ written xs old → take k new ≡ xs
+front xs old new k e w = ap (λ (n : ℕ). take n new) e ∙ ap (take (length xs)) w ∙ take-written xs old
+
+-- ---- a problem that the standard route accepts
+
+module _ (p : Problem) (ok : refusal standard p ≡ 0) where
+  starts : T (startsRight (p .n) (p .A)) × T (startsRight (p .n) (p .P))
+  starts = and-iff (startsRight (p .n) (p .A)) (startsRight (p .n) (p .P)) .0 (passed 0 1 (checks standard p) ok (lit< tt))
+
+  pub right-A : RightStarts (p .n) (p .A)
+  right-A = starts-right (p .n) (p .A) (starts .0)
+
+  pub starts-P : T (startsRight (p .n) (p .P))
+  starts-P = starts .1
+
+  pub right-P : RightStarts (p .n) (p .P)
+  right-P = starts-right (p .n) (p .P) starts-P
+
+  pub length-q : length (p .q) ≡ p .n
+  length-q = (simp (and-iff, eqb-iff) at (passed 0 3 (checks standard p) ok (lit< tt))) .0 .1
+
+  pub length-b : length (p .b) ≡ p .m
+  length-b = (simp (and-iff, eqb-iff) at (passed 0 3 (checks standard p) ok (lit< tt))) .1
+
+  pub few-entries : length (p .A .values) ≤ 262144
+  few-entries = (simp (and-iff, leb-iff) at (passed 0 0 (checks standard p) ok (lit< tt))) .0 .0 .1
+
+  pub few-rows : p .m + blockRowCount (layout p) ≤ 262144
+  few-rows = leb-iff (p .m + blockRowCount (layout p)) 262144 .0 (passed 0 9 (checks standard p) ok (lit< tt))
+
+  -- A beside H is the standard cut's A
+  beside : besideH (p .A) (p .m) (standardRows (layout p)) ≡ standardA p
+  beside = beside-standard p (starts .0)
+
+  module _ (k : ℕ) (e : k ≡ blockRowCount (layout p)) where
+    columns : k ≡ length (standardRows (layout p))
+    columns = e ∙ sym (rows-count (accepted-sound standard p ok))
+
+    pub starts-A : besideStarts (p .A .starts) (length (p .A .values)) k ≡ standardA p .starts
+    starts-A = ap (besideStarts (p .A .starts) (length (p .A .values))) columns ∙ ap (λ (M : Csc). M .starts) beside
+
+    pub values-A : besideValues (p .A .values) k ≡ standardA p .values
+    values-A = ap (besideValues (p .A .values)) columns ∙ ap (λ (M : Csc). M .values) beside
+
+  pub rows-A : besideRows (p .A .rows) (p .m) (standardRows (layout p)) ≡ standardA p .rows
+  rows-A = ap (λ (M : Csc). M .rows) beside

@@ -1,0 +1,20 @@
+-- What a joining of s and z walks over, and what it gives: x takes no part in them, nor do τ and κ.
+use Prim.Native.Nat.{ℕ, _≤_}
+use mathlib.Core.Path.{_≡_}
+use mathlib.Core.List.{List, []}
+use lib.ListN.{length}
+use lib.Ieee.{Float}
+use Rattle.layout.specs.Problem.{Route, Solution, solution, one64}
+use Rattle.layout.specs.Blocks.{blockRowCount}
+use Rattle.layout.specs.Checks.{Sound}
+use Rattle.layout.specs.Answers.{joined, joinedParts, slackCount}
+
+-- what the checks say of m, the cone records, the patterns, and s and z on a route
+pub record Joinable (route : Route) (m : ℕ) (cones : List ℕ) (count : ℕ) (words : List ℕ) (s z : List Float) : Type 0 where
+  pub sound : Sound m cones count words
+  pub few : blockRowCount (joinedParts cones count words) ≤ 262144
+  pub slacks : length s ≡ slackCount route m (joinedParts cones count words)
+  pub duals : length z ≡ slackCount route m (joinedParts cones count words)
+
+abbrev pub joinedOf : Route → ℕ → List ℕ → ℕ → List ℕ → List Float → List Float → Solution
+joinedOf route m cones count words s z = joined route 0 m (joinedParts cones count words) (solution [] s z one64 one64)
