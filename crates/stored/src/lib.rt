@@ -4,7 +4,7 @@
 // It begins with how many cases it has. A case is how many lists of u32 it has, then each list: its length
 // and its numbers; then the same of its lists of f64. Its lists lie one after the other in a buffer, the
 // k-th from starts[k] to starts[k + 1]. No contract can say what a file holds, so the functions that read
-// promise only that they are safe and end.
+// promise only that they are safe, that they end, and that buffers keep their lengths.
 ghost use mathlib.Core.Path.{_≡_};
 ghost use Prim.Native.Nat.{_<_, _≤_};
 ghost use lib.ListN.{length, take, getD};
@@ -36,7 +36,9 @@ fn number(text: &[u8]) -> u64 {
 }
 
 // The next u32; 0 where the file has ended.
-pub fn word(fd: i32) -> u32 {
+pub fn word(fd: i32) -> u32
+    ensures { λ r. ⌜ r < 4294967296 ⌝ }
+{
     let mut text = [0u8; 9];
     io::read_full(fd, &mut text);
     (number(&text) % 0x1_0000_0000) as u32
@@ -92,7 +94,9 @@ fn read_values(fd: i32, out: &mut [f64]) -> usize
 }
 
 // Reads a case's lists of u32. Lists that the case lacks are empty.
-pub fn load_words(fd: i32, words: &mut [u32], starts: &mut [usize]) {
+pub fn load_words(fd: i32, words: &mut [u32], starts: &mut [usize])
+    ensures { λ _. ⌜ (length (now (words .exit)) ≡ length (now (words .entry))) × (length (now (starts .exit)) ≡ length (now (starts .entry))) ⌝ }
+{
     let lists = word(fd) as usize;
     let mut at = 0;
     let mut k = 0;
@@ -105,7 +109,9 @@ pub fn load_words(fd: i32, words: &mut [u32], starts: &mut [usize]) {
     }
 }
 
-pub fn load_values(fd: i32, values: &mut [f64], starts: &mut [usize]) {
+pub fn load_values(fd: i32, values: &mut [f64], starts: &mut [usize])
+    ensures { λ _. ⌜ (length (now (values .exit)) ≡ length (now (values .entry))) × (length (now (starts .exit)) ≡ length (now (starts .entry))) ⌝ }
+{
     let lists = word(fd) as usize;
     let mut at = 0;
     let mut k = 0;
