@@ -19,9 +19,6 @@ use Rattle.layout.proofs.Sizes.{standard-count}
 use Rattle.layout.proofs.Buffers.{take-written}
 use Rattle.augment_standard.specs.Beside.{besideStarts, besideRows, besideValues, besideH}
 use Rattle.augment_standard.proofs.Beside.{beside-standard}
-use Rattle.tables.specs.Tables.{codesFrom}
-use Rattle.tables.specs.declared.Table.the-variants.{HRows}
-use Rattle.tables.proofs.Tables.{h-rows}
 use Rattle.csc.proofs.Writing.{written-after}
 
 -- three words at the front
@@ -49,16 +46,13 @@ cleared n size h = omega (arith, length-replicate {A = ℕ} size 0)
 pub within : (m n size : ℕ) → m + n ≤ size → n ≤ size
 within m n size h = omega arith
 
--- the rows of H: how many, and where they stand in their table
+-- how many rows H has
 module _ {m : ℕ} {cones : List ℕ} {count : ℕ} {words : List ℕ} (h : Sound m cones count words) where
   abbrev ps : List Part
   ps = joinedParts cones count words
 
   pub rows-count : length (standardRows (joinedParts cones count words)) ≡ blockRowCount (joinedParts cones count words)
   rows-count = standard-count 0 ps (sound-laid h .0)
-
-  pub codes-count : length (codesFrom HRows 0 (joinedParts cones count words)) ≡ blockRowCount (joinedParts cones count words)
-  codes-count = ap length (h-rows 0 ps) ∙ rows-count
 
 -- the first k of a table to which xs was written
 pub front : (xs old new : List ℕ) (k : ℕ) → k ≡ length xs → new ≡ written xs old → take k new ≡ xs

@@ -1,4 +1,4 @@
--- Tests over a list, as a loop from the front meets them: of each element, and of each with the one after it.
+-- Tests of each element of a list with the one after it, as a loop from the front meets them.
 use Prim.Native.Nat.{ℕ, zero, suc, _+_, _≤_, _<_}
 use native.Mathlib.Numerals.{add-one}
 use native.Mathlib.Omega.{arith}
@@ -11,17 +11,8 @@ use lib.Dec.{leb, ltb}
 use Rattle.layout.specs.Lists.{all, below, rises}
 use Rattle.layout.specs.Checks.{neverFalls}
 use Rattle.layout.proofs.Members.{length-below}
+use Rattle.layout.proofs.Walks.{all-done}
 use Rattle.layout.proofs.Keeps.{drop-below}
-
-module _ {A : Type 0} (p : A → Bool) where
-  pub all-step : (xs : List A) (i : ℕ) (d : A) → i < length xs → p (getD xs i d) ≡ true → all p (drop i xs) ≡ all p (drop (i + 1) xs)
-  all-step xs i d h e = rw (add-one, drop-cons xs i d h, e)
-
-  pub all-fails : (xs : List A) (i : ℕ) (d : A) → i < length xs → p (getD xs i d) ≡ false → all p (drop i xs) ≡ false
-  all-fails xs i d h e = rw (drop-cons xs i d h, e)
-
-  pub all-done : (xs : List A) (i : ℕ) → length xs ≤ i → all p (drop i xs) ≡ true
-  all-done xs i h = rw (drop-of-length-le xs h)
 
 -- each number and the one after it are so
 abbrev pub chained : (ℕ → ℕ → Bool) → List ℕ → Bool

@@ -1,4 +1,4 @@
--- Tests and sums over a list, one element at a time; three elements stored.
+-- Sums over a list, one element at a time; three elements stored.
 use Prim.Native.Nat.{ℕ, _+_, _-_, _≤_, _<_}
 use native.Mathlib.Nat.{le-refl}
 use native.Mathlib.Numerals.{add-one}
@@ -11,16 +11,6 @@ use lib.Seq.{take-suc, take-all, drop-cons}
 use Rattle.layout.specs.Lists.{all, sum, written}
 use Rattle.layout.proofs.Keeps.{map-append}
 use Rattle.layout.proofs.Starts.{sum-append}
-
-module _ {A : Type 0} (p : A → Bool) where
-  pub all-step : (xs : List A) (i : ℕ) (d : A) → i < length xs → p (getD xs i d) ≡ true → all p (drop i xs) ≡ all p (drop (i + 1) xs)
-  all-step xs i d h e = rw (add-one, drop-cons xs i d h, e)
-
-  pub all-fails : (xs : List A) (i : ℕ) (d : A) → i < length xs → p (getD xs i d) ≡ false → all p (drop i xs) ≡ false
-  all-fails xs i d h e = rw (drop-cons xs i d h, e)
-
-  pub all-done : (xs : List A) (i : ℕ) → length xs ≤ i → all p (drop i xs) ≡ true
-  all-done xs i h = rw (drop-of-length-le xs h)
 
 module _ {A : Type 0} (f : A → ℕ) where
   pub total-more : (xs : List A) (i : ℕ) (d : A) → i < length xs → sum (map f (take (i + 1) xs)) ≡ sum (map f (take i xs)) + f (getD xs i d)

@@ -180,17 +180,5 @@ module _ {A : Type 0} where
       go : (m : ℕ) (v : A) (d : List A) → length d ≤ m → replicate m v ++ drop m d ≡ replicate m v
       go m v d h = rw (drop-of-length-le d h) (append-nil (replicate m v))
 
--- ---- all, from an index on
-
-module _ {A : Type 0} where
-  pub all-step : (p : A → Bool) (ws : List A) (i : ℕ) (d : A) → i < length ws → p (getD ws i d) ≡ true → all p (drop i ws) ≡ all p (drop (i + 1) ws)
-  all-step p ws i d h e = rw (add-one, drop-cons ws i d h, e)
-
-  pub all-fails : (p : A → Bool) (ws : List A) (i : ℕ) (d : A) → i < length ws → p (getD ws i d) ≡ false → all p (drop i ws) ≡ false
-  all-fails p ws i d h e = rw (drop-cons ws i d h, e)
-
-  pub all-done : (p : A → Bool) (ws : List A) (i : ℕ) → length ws ≤ i → all p (drop i ws) ≡ true
-  all-done p ws i h = rw (drop-of-length-le ws h)
-
 pub window-none : (ws : List ℕ) → T (distinct (keep (λ x. ltb x 0) ws))
 window-none ws = subst (λ (l : List ℕ). T (distinct l)) (sym (keep-none (λ x. ltb x 0) ws (λ x h l. omega (arith, ltb→lt x 0 l)))) tt

@@ -9,8 +9,7 @@ use Rattle.layout.specs.Lists.{written}
 use Rattle.layout.specs.Blocks.{standardRows}
 use Rattle.layout.specs.Answers.{joinedParts}
 use Rattle.augment_standard.specs.Beside.{besideRows}
-use Rattle.tables.proofs.Tables.{h-rows}
-use Rattle.augment.proofs.Laws.{rows-count, codes-count, front}
+use Rattle.augment.proofs.Laws.{rows-count, front}
 use Rattle.augment.proofs.rows_by.Statement.{statement}
 use Rattle.augment.proofs.rows_by.Tie as tie
 
@@ -19,13 +18,10 @@ abbrev rows : tie.Start → List ℕ
 rows s = standardRows (joinedParts (s .args .cones .now) (s .args .count) (s .args .words .now))
 
 count : (o : tie.After-write-table) → o .write-table .result ≡ length (rows (o .before .before .before .before .before .before .before))
-count o = let s = o .before .before .before .before .before .before .before in o .write-table .ensures .0 ∙ ap length (h-rows 0 (joinedParts (s .args .cones .now) (s .args .count) (s .args .words .now)))
+count o = o .write-table .ensures .0
 
 put : (o : tie.After-write-table) → o .write-table .last .1 .1 .1 .1 .1 .0 ≡ written (rows (o .before .before .before .before .before .before .before)) (o .before .before .before .before .before .before .before .args .table .now)
-put o =
-    let s = o .before .before .before .before .before .before .before in
-    o .write-table .ensures .1
-    ∙ ap (λ (os : List ℕ). written os (s .args .table .now)) (h-rows 0 (joinedParts (s .args .cones .now) (s .args .count) (s .args .words .now)))
+put o = o .write-table .ensures .1
 
 -- stand at the front of their table
 taken : (o : tie.After-write-table) → take (o .write-table .result) (o .write-table .last .1 .1 .1 .1 .1 .0) ≡ rows (o .before .before .before .before .before .before .before)
@@ -40,7 +36,7 @@ inside o =
 write-table-requires : tie.Need-write-table-requires
 write-table-requires c κs =
     let s = c .before .before .before .before .before .before in
-    (s .pre .0, (tt, omega (arith, codes-count (s .pre .0), s .pre .1 .1)))
+    (s .pre .0, (tt, omega (arith, rows-count (s .pre .0), s .pre .1 .1)))
 
 slice-reshare-prefix-write-rows : tie.Need-slice-reshare-prefix-write-rows
 slice-reshare-prefix-write-rows c = inside (c .before .before .before)

@@ -9,7 +9,6 @@ use Rattle.layout.specs.Lists.{join, written}
 use Rattle.layout.specs.Standard.{standardPart}
 use Rattle.layout.specs.Answers.{joinedParts}
 use Rattle.layout.proofs.Starts.{length-written}
-use Rattle.tables.proofs.Tables.{standard-cones}
 use Rattle.augment.specs.Cut.{zeroThenParts}
 use Rattle.augment.proofs.Laws.{length-three, three-then}
 use Rattle.augment.proofs.standard_cones.Statement.{statement}
@@ -31,8 +30,7 @@ wrote o =
     let s = o .before .before .before .before .before in
     let ps = joinedParts (s .args .cones .now) (s .args .count) (s .args .words .now) in
     three-then 0 (s .args .m) 0 (join standardPart ps) (s .args .out .now) (omega (arith, s .pre .1))
-    (o .write-table .ensures .1
-    ∙ ap (λ (xs : List ℕ). written xs (take (length (front s) - 3) (drop 3 (front s)))) (standard-cones 0 ps))
+    (o .write-table .ensures .1)
 
 slice-write-out : tie.Need-slice-write-out
 slice-write-out c = search needs
@@ -62,7 +60,6 @@ write-table-requires c κs =
         omega (
           arith,
           size s,
-          ap length (standard-cones 0 (joinedParts (s .args .cones .now) (s .args .count) (s .args .words .now))),
           length-drop 3 ws,
           length-take-le (length ws - 3) (drop 3 ws) (omega (arith, length-drop 3 ws)),
           s .pre .1,

@@ -2,7 +2,7 @@ use Prim.Native.Nat.{_-_, _≤_}
 use mathlib.Core.Path.{_≡_, sym, _∙_}
 use mathlib.Core.Bool.{false}
 use lib.ListN.{length, getD, drop}
-use Rattle.csc.proofs.Fronts.{all-step, all-fails, all-done}
+use Rattle.layout.proofs.Walks.{all-step, all-fails, all-done}
 use Rattle.chordal_info.specs.Covered.{rowsMarked}
 use native.Mathlib.Omega.{arith}
 use borrow.Author.Tests.{not-true, not-false}

@@ -6,7 +6,7 @@ use borrow.Author.Needs.{needs}
 use lib.ListN.{length, drop}
 use lib.Dec.{ltb}
 use Rattle.layout.specs.Lists.{all}
-use Rattle.csc.proofs.Fronts.{all-step, all-fails, all-done}
+use Rattle.layout.proofs.Walks.{all-step, all-fails, all-done}
 use Rattle.csc.proofs.rows_inside.Statement.{statement}
 use Rattle.csc.proofs.rows_inside.Tie as tie
 

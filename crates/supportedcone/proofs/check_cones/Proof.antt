@@ -10,7 +10,8 @@ use Rattle.layout.specs.Checks.{noCone, sizesBounded, conesRead}
 use Rattle.layout.specs.Cones.{records, reads, rowCount}
 use Rattle.supportedcone.specs.Ranges.{rowTotal}
 use Rattle.supportedcone.specs.Cases.{told, recordOf, recordAt}
-use Rattle.supportedcone.proofs.Steps.{all-step, all-fails, all-done, total-more, total-done}
+use Rattle.layout.proofs.Walks.{all-step, all-fails, all-done}
+use Rattle.supportedcone.proofs.Steps.{total-more, total-done}
 use Rattle.supportedcone.proofs.Bounds.{rows-bounded}
 use Rattle.supportedcone.proofs.Reading.{told-is, told-bad}
 use Rattle.supportedcone.proofs.Records.{whole, part-record, bounded-at, few-records}

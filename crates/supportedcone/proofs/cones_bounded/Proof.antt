@@ -6,7 +6,7 @@ use Rattle.layout.specs.Lists.{all}
 use Rattle.layout.specs.Checks.{noCone, sizesBounded, conesBounded}
 use Rattle.layout.specs.Cones.{records}
 use Rattle.supportedcone.specs.Cases.{recordAt}
-use Rattle.supportedcone.proofs.Steps.{all-step, all-fails, all-done}
+use Rattle.layout.proofs.Walks.{all-step, all-fails, all-done}
 use Rattle.supportedcone.proofs.Records.{inside, record-in}
 use native.Mathlib.Omega.{arith}
 use borrow.Author.Needs.{needs}

@@ -1,4 +1,4 @@
-use Rattle.utils.proofs.Windows.{all-step, all-fails, all-done}
+use Rattle.layout.proofs.Walks.{all-step, all-fails, all-done}
 use Rattle.layout.specs.Lists.{all}
 use borrow.Author.Tests.{lt-ltb, le-ltb}
 use lib.ListN.{length, drop, getD}

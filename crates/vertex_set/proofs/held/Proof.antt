@@ -1,4 +1,4 @@
-use Rattle.utils.proofs.Windows.{all-step, all-fails, all-done}
+use Rattle.layout.proofs.Walks.{all-step, all-fails, all-done}
 use Rattle.vertex_set.proofs.Walks.{has-step, has-here, has-nowhere}
 use Rattle.layout.specs.Lists.{has, all}
 use lib.ListN.{length, drop}
