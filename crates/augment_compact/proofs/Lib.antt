@@ -1,0 +1,4 @@
+pub mod Steps
+pub mod Columns
+pub mod Places
+pub mod Cut

@@ -1,0 +1,140 @@
+// The compact cut's A. The codes say what stands on each augmented row: below 65,536 the original row that moves there, and from there on
+// the row that an overlap is tied to.
+ghost use mathlib.Core.Path.{_≡_};
+ghost use Prim.Native.Nat.{_+_, _-_, _*_, _≤_, _<_};
+ghost use lib.ListN.{length};
+ghost use lib.Dec.{T};
+ghost use Rattle.layout.specs.Lists.{written};
+ghost use Rattle.layout.specs.Checks.{startsRight};
+ghost use Rattle.layout.specs.Compact.{csc};
+ghost use Rattle.csc.specs.Matrix.{matrix};
+ghost use Rattle.augment_compact.specs.Cut.{codedColumns, tiedRows, tiedValues, cutRows, cutValues};
+ghost use Rattle.augment_compact.specs.Places.{placed, CodesKnown, ColumnsRise};
+ghost use Rattle.columns.specs.Marks.{Placing, Clear};
+
+// Writes where each original row moves to.
+pub fn write_place(place: &mut [u32], codes: &[u32])
+    requires { ⌜ CodesKnown (length (now place)) (now codes) × (length (now codes) ≤ 262144) ⌝ }
+    ensures { λ _. ⌜ now (place .exit) ≡ placed 0 (now (codes .entry)) (now (place .entry)) ⌝ }
+{
+    let mut r = 0;
+    while r < codes.len() {
+        let c = codes[r] as usize;
+        if c < 65536 {
+            place[c] = r as u32;
+        }
+        r += 1;
+    }
+}
+
+// Writes the columns of A over the augmented rows. The codes and the flags are as before then.
+pub fn write_columns(
+    rows_out: &mut [u32],
+    values_out: &mut [f64],
+    codes: &mut [u32],
+    chunks: &mut [bool],
+    place: &[u32],
+    n: u32,
+    starts: &[u32],
+    rows: &[u32],
+    values: &[f64],
+)
+    requires { ⌜ T (startsRight n (matrix (now starts) (now rows) (now values))) × ColumnsRise n (matrix (now starts) (now rows) (now values)) ⌝ }
+    requires { ⌜ Placing (now codes) (now place) (now rows) × Clear (length (now codes)) (now chunks) ⌝ }
+    requires { ⌜ (length (now rows) ≤ length (now «rows_out»)) × (length (now values) ≤ length (now «values_out»)) ⌝ }
+    ensures { λ _. ⌜ now («rows_out» .exit) ≡ written (csc (codedColumns n (matrix (now (starts .entry)) (now (rows .entry)) (now (values .entry))) (now (codes .entry))) .rows) (now («rows_out» .entry)) ⌝ }
+    ensures { λ _. ⌜ now («values_out» .exit) ≡ written (csc (codedColumns n (matrix (now (starts .entry)) (now (rows .entry)) (now (values .entry))) (now (codes .entry))) .values) (now («values_out» .entry)) ⌝ }
+    ensures { λ _. ⌜ now (codes .exit) ≡ now (codes .entry) ⌝ }
+    ensures { λ _. ⌜ now (chunks .exit) ≡ now (chunks .entry) ⌝ }
+{
+    let count = n as usize;
+    let mut c = 0;
+    while c < count {
+        let first = starts[c] as usize;
+        let end = starts[c + 1] as usize;
+        columns::move_column(
+            &mut *rows_out,
+            &mut *values_out,
+            &mut *codes,
+            &mut *chunks,
+            place,
+            rows,
+            values,
+            first,
+            end,
+        );
+        c += 1;
+    }
+}
+
+// Writes the rows of the overlaps' columns: the row that each is tied to, and its own.
+pub fn write_overlap_rows(out: &mut [u32], codes: &[u32])
+    requires { ⌜ (length (tiedRows 0 (now codes)) ≤ length (now out)) × (length (now codes) ≤ 262144) ⌝ }
+    ensures { λ _. ⌜ now (out .exit) ≡ written (tiedRows 0 (now (codes .entry))) (now (out .entry)) ⌝ }
+{
+    let mut w = 0;
+    let mut r = 0;
+    while r < codes.len() {
+        let c = codes[r];
+        if c >= 65536 {
+            out[w] = c - 65536;
+            out[w + 1] = r as u32;
+            w += 2;
+        }
+        r += 1;
+    }
+}
+
+// Writes the values of k overlaps' columns.
+pub fn write_overlap_values(out: &mut [f64], k: usize)
+    requires { ⌜ 2 * k ≤ length (now out) ⌝ }
+    ensures { λ _. ⌜ now (out .exit) ≡ written (tiedValues k) (now (out .entry)) ⌝ }
+{
+    let mut t = 0;
+    let mut i = 0;
+    while i < k {
+        out[t] = -1.0;
+        out[t + 1] = 1.0;
+        t += 2;
+        i += 1;
+    }
+}
+
+// Writes the rows and the values of the compact cut's A: A's columns moved, and the k overlaps' columns. place and chunks are scratch; the
+// codes and the flags are as before then.
+pub fn write_entries(
+    rows_out: &mut [u32],
+    values_out: &mut [f64],
+    codes: &mut [u32],
+    place: &mut [u32],
+    chunks: &mut [bool],
+    n: u32,
+    starts: &[u32],
+    rows: &[u32],
+    values: &[f64],
+    k: usize,
+)
+    requires { ⌜ T (startsRight n (matrix (now starts) (now rows) (now values))) × ColumnsRise n (matrix (now starts) (now rows) (now values)) ⌝ }
+    requires { ⌜ CodesKnown (length (now place)) (now codes) × Placing (now codes) (placed 0 (now codes) (now place)) (now rows) × Clear (length (now codes)) (now chunks) ⌝ }
+    requires { ⌜ (length (now rows) + length (tiedRows 0 (now codes)) ≤ length (now «rows_out»)) × (length (now values) + 2 * k ≤ length (now «values_out»)) ⌝ }
+    ensures { λ _. ⌜ now («rows_out» .exit) ≡ written (cutRows n (matrix (now (starts .entry)) (now (rows .entry)) (now (values .entry))) (now (codes .entry))) (now («rows_out» .entry)) ⌝ }
+    ensures { λ _. ⌜ now («values_out» .exit) ≡ written (cutValues n (matrix (now (starts .entry)) (now (rows .entry)) (now (values .entry))) (now (codes .entry)) k) (now («values_out» .entry)) ⌝ }
+    ensures { λ _. ⌜ now (codes .exit) ≡ now (codes .entry) ⌝ }
+    ensures { λ _. ⌜ now (place .exit) ≡ placed 0 (now (codes .entry)) (now (place .entry)) ⌝ }
+    ensures { λ _. ⌜ now (chunks .exit) ≡ now (chunks .entry) ⌝ }
+{
+    write_place(&mut *place, &*codes);
+    write_columns(
+        &mut *rows_out,
+        &mut *values_out,
+        &mut *codes,
+        chunks,
+        &*place,
+        n,
+        starts,
+        rows,
+        values,
+    );
+    write_overlap_rows(&mut rows_out[rows.len()..], &*codes);
+    write_overlap_values(&mut values_out[values.len()..], k);
+}

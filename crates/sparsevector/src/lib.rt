@@ -1,0 +1,34 @@
+// b over the augmented rows: its values that are not zero move to their rows, and +0.0 stands on all others.
+ghost use mathlib.Core.Path.{_≡_};
+ghost use mathlib.Core.List.{map};
+ghost use Prim.Native.Nat.{_≤_};
+ghost use lib.ListN.{length};
+ghost use Rattle.layout.specs.Lists.{written};
+ghost use Rattle.sparsevector.specs.Values.{codeValue, RowInside, RowsInside};
+
+// The value on a row with this code: a zero of either sign becomes +0.0, a NaN is kept.
+pub fn code_value(code: u32, b: &[f64]) -> f64
+    requires { ⌜ RowInside (length (now b)) code ⌝ }
+    ensures { λ r. ⌜ r ≡ codeValue (now (b .entry)) code ⌝ }
+{
+    if code >= 65536 {
+        return 0.0;
+    }
+    let v = b[code as usize];
+    if v == 0.0 {
+        return 0.0;
+    }
+    v
+}
+
+// Writes b's values to the augmented rows.
+pub fn move_values(out: &mut [f64], codes: &[u32], b: &[f64])
+    requires { ⌜ (length (now codes) ≤ length (now out)) × RowsInside (length (now b)) (now codes) ⌝ }
+    ensures { λ _. ⌜ now (out .exit) ≡ written (map (codeValue (now (b .entry))) (now (codes .entry))) (now (out .entry)) ⌝ }
+{
+    let mut r = 0;
+    while r < codes.len() {
+        out[r] = code_value(codes[r], b);
+        r += 1;
+    }
+}
