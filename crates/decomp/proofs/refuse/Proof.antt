@@ -20,7 +20,6 @@ use Rattle.decomp.proofs.refuse.Lts as lts
 use Rattle.checks.proofs.check_problem.Reads as check-problem-reads
 use Rattle.chordal_info.proofs.check_route.Reads as check-route-reads
 
--- src/lib.rt:28:9
 check-problem-requires : tie.Need-check-problem-requires
 check-problem-requires c κs = search needs
 

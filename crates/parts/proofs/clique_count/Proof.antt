@@ -13,26 +13,21 @@ use Rattle.parts.proofs.clique_count.Reads as reads
 use Rattle.parts.proofs.clique_count.Lts as lts
 use Rattle.supernode_tree.proofs.Pattern.read.Reads as read-reads
 
--- src/lib.rt:74:51
 read-requires : tie.Need-read-requires
 read-requires c κs = search needs
 
--- src/lib.rt:74:46
 enum-known-p : tie.Need-enum-known-p
 enum-known-p c = search needs
 
--- src/lib.rt:75:9
 enum-told : tie.Need-enum-told
 enum-told c = search needs
 
--- src/lib.rt:75:9
 returns : tie.Need-returns
 returns c =
     let s = c .before .before .before .before in
     let ws = s .args .words .now in
     absurd (rw (no-head ws (s .args .at) (sym (c .before .before .read .ensures .0) ∙ ap (patternRead ws) (c .enum-told .given .1))) at (s .pre .tree))
 
--- src/lib.rt:70:1
 returns-2 : tie.Need-returns-2
 returns-2 c =
     let s = c .before .before .before .before .before in

@@ -91,42 +91,33 @@ few d =
     let e = d .get-decomposed-dim-and-overlaps .ensures in
     omega (arith, pattern-few (patternOf k) (h .1) (h .2), n, e .0, e .1)
 
--- src/lib.rt:93:9
 start-requires : tie.Need-start-requires Inv-loop μ-loop
 start-requires c κs = c .before .before .pre
 
--- src/lib.rt:97:5
 loop-holds : tie.Need-loop-holds Inv-loop μ-loop
 loop-holds c =
     let a = c .before .before .before .args in
     let e = c .start .ensures .0 in
     (omega (arith, ap blockRowCount e), omega (arith, ap overlapCount e), omega (arith, ap coneCount e), omega arith, omega arith, omega arith, c .start .ensures .1)
 
--- src/lib.rt:98:13
 next-requires : tie.Need-next-requires Inv-loop μ-loop
 next-requires c κs = c .loop .inv .6
 
--- src/lib.rt:100:24
 enum-known-met : tie.Need-enum-known-met Inv-loop μ-loop
 enum-known-met c = search needs
 
--- src/lib.rt:101:24
 cast-dim : tie.Need-cast-dim Inv-loop μ-loop
 cast-dim c = search needs
 
--- src/lib.rt:101:17
 add-dim : tie.Need-add-dim Inv-loop μ-loop
 add-dim c = omega (arith, met-whole c .1 .1, met-whole c .1 .2, c .before .before .before .before .loop .inv .6 .few, c .before .before .before .before .loop .inv .3)
 
--- src/lib.rt:102:17
 add-new-cones : tie.Need-add-new-cones Inv-loop μ-loop
 add-new-cones c = omega (arith, met-whole c .1 .2, c .before .before .before .before .loop .inv .5)
 
--- src/lib.rt:97:5
 loop-less : tie.Need-loop-less Inv-loop μ-loop
 loop-less c = omega (arith, ap length (met-whole c .0))
 
--- src/lib.rt:97:5
 loop-again : tie.Need-loop-again Inv-loop μ-loop
 loop-again c =
     let l = c .before .before .before .before in
@@ -141,40 +132,31 @@ loop-again c =
       h .5,
     )
 
--- src/lib.rt:105:22
 enum-known-met-2 : tie.Need-enum-known-met-2 Inv-loop μ-loop
 enum-known-met-2 c = search needs
 
--- src/lib.rt:106:21
 clique-count-requires : tie.Need-clique-count-requires Inv-loop μ-loop
 clique-count-requires c κs = met-cut c .1 .1
 
--- src/lib.rt:107:21
 get-decomposed-dim-and-overlaps-requires :
     tie.Need-get-decomposed-dim-and-overlaps-requires Inv-loop μ-loop
 get-decomposed-dim-and-overlaps-requires c κs = (met-cut (c .before) .1 .1, met-cut (c .before) .1 .2)
 
--- src/lib.rt:108:17
 add-dim-2 : tie.Need-add-dim-2 Inv-loop μ-loop
 add-dim-2 c = omega (arith, few (c .before), met-cut (c .before .before .before) .1 .4, c .before .before .before .before .before .before .before .loop .inv .3)
 
--- src/lib.rt:109:17
 add-overlaps : tie.Need-add-overlaps Inv-loop μ-loop
 add-overlaps c = omega (arith, few (c .before .before), met-cut (c .before .before .before .before) .1 .4, c .before .before .before .before .before .before .before .before .loop .inv .4)
 
--- src/lib.rt:110:30
 cast-new-cones : tie.Need-cast-new-cones Inv-loop μ-loop
 cast-new-cones c = search needs
 
--- src/lib.rt:110:17
 add-new-cones-2 : tie.Need-add-new-cones-2 Inv-loop μ-loop
 add-new-cones-2 c = omega (arith, met-cut (c .before .before .before .before) .1 .4, c .before .before .before .before .before .before .before .before .loop .inv .5)
 
--- src/lib.rt:97:5
 loop-less-2 : tie.Need-loop-less-2 Inv-loop μ-loop
 loop-less-2 c = omega (arith, ap length (met-cut (c .before .before .before .before) .0))
 
--- src/lib.rt:97:5
 loop-again-2 : tie.Need-loop-again-2 Inv-loop μ-loop
 loop-again-2 c =
     let d = c .before .before in
@@ -193,11 +175,9 @@ loop-again-2 c =
       h .6,
     )
 
--- src/lib.rt:114:17
 enum-told : tie.Need-enum-told Inv-loop μ-loop
 enum-told c = search needs
 
--- src/lib.rt:114:17
 returns : tie.Need-returns Inv-loop μ-loop
 returns c =
     let r = c .before .before in

@@ -29,59 +29,45 @@ at-row c =
     let l = c .before .before .before in
     omega (arith, c .row-of .ensures, l .before .before .before .before .pre .1 (l .loop .k) (omega arith), l .loop .inv .1)
 
--- src/lib.rt:37:5
 loop-holds : tie.Need-loop-holds Inv-loop μ-loop
 loop-holds c = search needs
 
--- src/lib.rt:38:20
 mul-code : tie.Need-mul-code Inv-loop μ-loop
 mul-code c = search needs
 
--- src/lib.rt:38:20
 shared-slice-read-code : tie.Need-shared-slice-read-code Inv-loop μ-loop
 shared-slice-read-code c = search needs
 
--- src/lib.rt:39:13
 row-of-requires : tie.Need-row-of-requires Inv-loop μ-loop
 row-of-requires c κs = search needs
 
--- src/lib.rt:40:37
 mul-joined-value : tie.Need-mul-joined-value Inv-loop μ-loop
 mul-joined-value c = omega (arith, at-row c)
 
--- src/lib.rt:40:37
 slice-read-joined-value : tie.Need-slice-read-joined-value Inv-loop μ-loop
 slice-read-joined-value c = omega (arith, at-row (c .before))
 
--- src/lib.rt:40:45
 mul-joined-value-2 : tie.Need-mul-joined-value-2 Inv-loop μ-loop
 mul-joined-value-2 c = search needs
 
--- src/lib.rt:40:45
 shared-slice-read-joined-value : tie.Need-shared-slice-read-joined-value Inv-loop μ-loop
 shared-slice-read-joined-value c = search needs
 
--- src/lib.rt:40:18
 joined-value-requires : tie.Need-joined-value-requires Inv-loop μ-loop
 joined-value-requires c κs = search needs
 
--- src/lib.rt:40:9
 mul-out : tie.Need-mul-out Inv-loop μ-loop
 mul-out c = omega (arith, at-row (c .before .before .before))
 
--- src/lib.rt:40:9
 slice-write-out : tie.Need-slice-write-out Inv-loop μ-loop
 slice-write-out c = omega (arith, at-row (c .before .before .before))
 
--- src/lib.rt:41:9
 add-k : tie.Need-add-k Inv-loop μ-loop
 add-k c = search needs
 
--- src/lib.rt:37:5
 loop-less : tie.Need-loop-less Inv-loop μ-loop
 loop-less c = search needs
 
--- src/lib.rt:37:5
 loop-again : tie.Need-loop-again Inv-loop μ-loop
 loop-again c =
     let r = c .before .before .before in
@@ -100,11 +86,9 @@ loop-again c =
           ∙ sym (walk-step addCoded 0 nan (a .codes .now) (a .values .now) ws k (omega arith) (omega arith)) ∙ l .loop .inv .2,
     )
 
--- src/lib.rt:32:1
 same-length : tie.Need-same-length Inv-loop μ-loop
 same-length c = c .before .loop .inv .1
 
--- src/lib.rt:32:1
 returns : tie.Need-returns Inv-loop μ-loop
 returns c =
     let a = c .before .before .before .before .before .args in

@@ -14,21 +14,17 @@ use Rattle.reverse_compact.proofs.join_z.Lts as lts
 use Rattle.csc.proofs.fill_values.Reads as fill-values-reads
 use Rattle.reverse_compact.proofs.put_all.Reads as put-all-reads
 
--- src/lib.rt:74:5
 fill-values-requires : tie.Need-fill-values-requires
 fill-values-requires c κs = search needs
 
--- src/lib.rt:75:5
 put-all-requires : tie.Need-put-all-requires
 put-all-requires c κs =
     let s = c .before .before .before .before .before .before .before .before in
     (s .pre .0, λ k l. omega (arith, s .pre .1 k l, c .before .before .before .fill-values .kept .0))
 
--- src/lib.rt:69:1
 same-length : tie.Need-same-length
 same-length c = search needs
 
--- src/lib.rt:69:1
 returns : tie.Need-returns
 unfolding ofBits
 returns c =

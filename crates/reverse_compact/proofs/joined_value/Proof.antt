@@ -6,11 +6,9 @@ use Rattle.reverse_compact.proofs.joined_value.Tie as tie
 use Rattle.reverse_compact.proofs.joined_value.Reads as reads
 use Rattle.reverse_compact.proofs.joined_value.Lts as lts
 
--- src/lib.rt:16:9
 returns : tie.Need-returns
 returns c = simp (lt-ltb _ _ (c .if1 .taken))
 
--- src/lib.rt:12:1
 returns-2 : tie.Need-returns-2
 returns-2 c = simp (le-ltb _ _ (c .if1 .left))
 

@@ -6,15 +6,12 @@ use Rattle.reverse_compact.proofs.row_of.Tie as tie
 use Rattle.reverse_compact.proofs.row_of.Reads as reads
 use Rattle.reverse_compact.proofs.row_of.Lts as lts
 
--- src/lib.rt:26:9
 returns : tie.Need-returns
 returns c = simp (lt-ltb _ _ (c .if1 .taken))
 
--- src/lib.rt:28:5
 cast-result : tie.Need-cast-result
 cast-result c = search needs
 
--- src/lib.rt:22:1
 returns-2 : tie.Need-returns-2
 returns-2 c = simp (le-ltb _ _ (c .if1 .left))
 

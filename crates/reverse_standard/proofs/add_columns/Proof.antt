@@ -21,55 +21,42 @@ abbrev μ-loop : tie.MeasureT-loop
 at-row : (c : tie.In-loop Inv-loop μ-loop) → getD (c .before .before .args .rows .now) (c .before .loop .k) 0 < length (c .before .loop .out)
 at-row c = omega (arith, c .before .before .pre .1 (c .before .loop .k) (c .loop-test .taken))
 
--- src/lib.rt:45:5
 loop-holds : tie.Need-loop-holds Inv-loop μ-loop
 loop-holds c = search needs
 
--- src/lib.rt:46:17
 mul-o : tie.Need-mul-o Inv-loop μ-loop
 mul-o c = search needs
 
--- src/lib.rt:46:17
 shared-slice-read-o : tie.Need-shared-slice-read-o Inv-loop μ-loop
 shared-slice-read-o c = search needs
 
--- src/lib.rt:46:17
 cast-o : tie.Need-cast-o Inv-loop μ-loop
 cast-o c = omega (arith, c .shared-slice-known .given (c .before .before .loop .k))
 
--- src/lib.rt:47:18
 mul-out : tie.Need-mul-out Inv-loop μ-loop
 mul-out c = omega (arith, at-row (c .before))
 
--- src/lib.rt:47:18
 slice-read-out : tie.Need-slice-read-out Inv-loop μ-loop
 slice-read-out c = omega (arith, at-row (c .before .before))
 
--- src/lib.rt:47:27
 mul-out-2 : tie.Need-mul-out-2 Inv-loop μ-loop
 mul-out-2 c = search needs
 
--- src/lib.rt:47:27
 shared-slice-read-out : tie.Need-shared-slice-read-out Inv-loop μ-loop
 shared-slice-read-out c = search needs
 
--- src/lib.rt:47:9
 mul-out-3 : tie.Need-mul-out-3 Inv-loop μ-loop
 mul-out-3 c = omega (arith, at-row (c .before .before .before))
 
--- src/lib.rt:47:9
 slice-write-out : tie.Need-slice-write-out Inv-loop μ-loop
 slice-write-out c = omega (arith, at-row (c .before .before .before))
 
--- src/lib.rt:48:9
 add-k : tie.Need-add-k Inv-loop μ-loop
 add-k c = search needs
 
--- src/lib.rt:45:5
 loop-less : tie.Need-loop-less Inv-loop μ-loop
 loop-less c = search needs
 
--- src/lib.rt:45:5
 loop-again : tie.Need-loop-again Inv-loop μ-loop
 loop-again c =
     let l = c .before .before .before .before in
@@ -79,11 +66,9 @@ loop-again c =
       sym (walk-step addAt 0 nan (a .rows .now) (a .values .now) (l .loop .out) (l .loop .k) (omega arith) (omega arith)) ∙ l .loop .inv .2,
     )
 
--- src/lib.rt:40:1
 same-length : tie.Need-same-length Inv-loop μ-loop
 same-length c = c .before .loop .inv .1
 
--- src/lib.rt:40:1
 returns : tie.Need-returns Inv-loop μ-loop
 returns c =
     let a = c .before .before .args in

@@ -14,21 +14,17 @@ use Rattle.reverse_standard.proofs.gemv.Lts as lts
 use Rattle.csc.proofs.fill_values.Reads as fill-values-reads
 use Rattle.reverse_standard.proofs.add_columns.Reads as add-columns-reads
 
--- src/lib.rt:48:5
 fill-values-requires : tie.Need-fill-values-requires
 fill-values-requires c κs = search needs
 
--- src/lib.rt:49:5
 add-columns-requires : tie.Need-add-columns-requires
 add-columns-requires c κs =
     let s = c .before .before .before .before .before .before .before .before in
     (s .pre .0, λ k l. omega (arith, s .pre .1 k l, c .before .before .before .fill-values .kept .0))
 
--- src/lib.rt:43:1
 same-length : tie.Need-same-length
 same-length c = search needs
 
--- src/lib.rt:43:1
 returns : tie.Need-returns
 unfolding ofBits
 returns c =

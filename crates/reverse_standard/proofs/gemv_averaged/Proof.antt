@@ -18,11 +18,9 @@ use Rattle.reverse_standard.proofs.gemv.Reads as gemv-reads
 use Rattle.reverse_standard.proofs.number_of_overlaps_in_rows.Reads as number-of-overlaps-in-rows-reads
 use Rattle.reverse_standard.proofs.take_averages.Reads as take-averages-reads
 
--- src/lib.rt:93:32
 slice-aggregate-number-of-overlaps-in-rows : tie.Need-slice-aggregate-number-of-overlaps-in-rows
 slice-aggregate-number-of-overlaps-in-rows c = search needs
 
--- src/lib.rt:93:5
 number-of-overlaps-in-rows-requires : tie.Need-number-of-overlaps-in-rows-requires
 number-of-overlaps-in-rows-requires c κs =
     let s = c .before .before .before .before in (
@@ -31,23 +29,18 @@ number-of-overlaps-in-rows-requires c κs =
       s .pre .1 .1,
     )
 
--- src/lib.rt:94:5
 gemv-requires : tie.Need-gemv-requires
 gemv-requires c κs = search needs
 
--- src/lib.rt:95:24
 slice-aggregate-take-averages : tie.Need-slice-aggregate-take-averages
 slice-aggregate-take-averages c = search needs
 
--- src/lib.rt:95:5
 take-averages-requires : tie.Need-take-averages-requires
 take-averages-requires c κs = search needs
 
--- src/lib.rt:87:1
 same-length : tie.Need-same-length
 same-length c = search needs
 
--- src/lib.rt:87:1
 returns : tie.Need-returns
 returns c =
     let t = c .before .before in

@@ -22,31 +22,24 @@ abbrev μ-loop : tie.MeasureT-loop
 at-row : (c : tie.In-loop Inv-loop μ-loop) → getD (c .before .before .args .rows .now) (c .before .loop .k) 0 < length (c .before .loop .counts)
 at-row c = omega (arith, c .before .before .pre .1 (c .before .loop .k) (c .loop-test .taken))
 
--- src/lib.rt:67:5
 loop-holds : tie.Need-loop-holds Inv-loop μ-loop
 loop-holds c = (omega arith, refl, c .pre .0)
 
--- src/lib.rt:68:17
 mul-o : tie.Need-mul-o Inv-loop μ-loop
 mul-o c = search needs
 
--- src/lib.rt:68:17
 shared-slice-read-o : tie.Need-shared-slice-read-o Inv-loop μ-loop
 shared-slice-read-o c = search needs
 
--- src/lib.rt:68:17
 cast-o : tie.Need-cast-o Inv-loop μ-loop
 cast-o c = omega (arith, c .shared-slice-known .given (c .before .before .loop .k))
 
--- src/lib.rt:69:9
 mul-counts : tie.Need-mul-counts Inv-loop μ-loop
 mul-counts c = omega (arith, at-row (c .before))
 
--- src/lib.rt:69:9
 slice-read-counts : tie.Need-slice-read-counts Inv-loop μ-loop
 slice-read-counts c = omega (arith, at-row (c .before .before))
 
--- src/lib.rt:69:9
 add-counts : tie.Need-add-counts Inv-loop μ-loop
 add-counts c =
     let l = c .before .before .before in
@@ -54,19 +47,15 @@ add-counts c =
     let o = getD rows (l .loop .k) 0 in
     omega (arith, l .loop .inv .2 o (at-row (c .before .before)), count-few rows (l .loop .k) o, l .before .pre .2)
 
--- src/lib.rt:69:9
 slice-write-counts : tie.Need-slice-write-counts Inv-loop μ-loop
 slice-write-counts c = omega (arith, at-row (c .before .before))
 
--- src/lib.rt:70:9
 add-k : tie.Need-add-k Inv-loop μ-loop
 add-k c = search needs
 
--- src/lib.rt:67:5
 loop-less : tie.Need-loop-less Inv-loop μ-loop
 loop-less c = search needs
 
--- src/lib.rt:67:5
 loop-again : tie.Need-loop-again Inv-loop μ-loop
 loop-again c =
     let l = c .before .before .before in
@@ -76,11 +65,9 @@ loop-again c =
       counted-more rows (l .loop .counts) (l .loop .k) (omega arith) (at-row (c .before .before)) (l .loop .inv .2),
     )
 
--- src/lib.rt:62:1
 same-length : tie.Need-same-length Inv-loop μ-loop
 same-length c = c .before .loop .inv .1
 
--- src/lib.rt:62:1
 returns : tie.Need-returns Inv-loop μ-loop
 returns c =
     let l = c .before in

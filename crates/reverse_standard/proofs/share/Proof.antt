@@ -6,15 +6,12 @@ use Rattle.reverse_standard.proofs.share.Tie as tie
 use Rattle.reverse_standard.proofs.share.Reads as reads
 use Rattle.reverse_standard.proofs.share.Lts as lts
 
--- src/lib.rt:79:20
 int-to-float-result : tie.Need-int-to-float-result
 int-to-float-result c = search needs
 
--- src/lib.rt:79:9
 returns : tie.Need-returns
 returns c = simp (lt-ltb _ _ (c .before .if1 .taken))
 
--- src/lib.rt:75:1
 returns-2 : tie.Need-returns-2
 returns-2 c = simp (le-ltb _ _ (c .if1 .left))
 

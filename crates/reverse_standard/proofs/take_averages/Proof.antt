@@ -20,49 +20,38 @@ Inv-loop z₀ counts i₀ z i = (i ≤ length z) × (length z ≡ length z₀) �
 abbrev μ-loop : tie.MeasureT-loop
 μ-loop z₀ counts i₀ z i = length z - i
 
--- src/lib.rt:89:5
 loop-holds : tie.Need-loop-holds Inv-loop μ-loop
 loop-holds c = search needs
 
--- src/lib.rt:90:22
 mul-share : tie.Need-mul-share Inv-loop μ-loop
 mul-share c = search needs
 
--- src/lib.rt:90:22
 shared-slice-read-share : tie.Need-shared-slice-read-share Inv-loop μ-loop
 shared-slice-read-share c = search needs
 
--- src/lib.rt:90:33
 mul-share-2 : tie.Need-mul-share-2 Inv-loop μ-loop
 mul-share-2 c = search needs
 
--- src/lib.rt:90:33
 slice-read-share : tie.Need-slice-read-share Inv-loop μ-loop
 slice-read-share c = search needs
 
--- src/lib.rt:90:16
 share-requires : tie.Need-share-requires Inv-loop μ-loop
 share-requires c κs = search needs
 
--- src/lib.rt:90:9
 mul-z : tie.Need-mul-z Inv-loop μ-loop
 mul-z c = search needs
 
--- src/lib.rt:90:9
 slice-write-z : tie.Need-slice-write-z Inv-loop μ-loop
 slice-write-z c = search needs
 
--- src/lib.rt:91:9
 add-i : tie.Need-add-i Inv-loop μ-loop
 add-i c = search needs
 
--- src/lib.rt:89:5
 loop-less : tie.Need-loop-less Inv-loop μ-loop
 loop-less c =
     let l = c .before .before .before .before in
     omega (arith, length-set (l .loop .z) (l .loop .i) (c .share .result))
 
--- src/lib.rt:89:5
 loop-again : tie.Need-loop-again Inv-loop μ-loop
 loop-again c =
     let l = c .before .before .before .before in
@@ -81,11 +70,9 @@ loop-again c =
           ∙ mapped-more f old i (omega (arith, l .loop .inv .1)),
     )
 
--- src/lib.rt:84:1
 same-length : tie.Need-same-length Inv-loop μ-loop
 same-length c = c .before .loop .inv .1
 
--- src/lib.rt:84:1
 returns : tie.Need-returns Inv-loop μ-loop
 returns c =
     let l = c .before in

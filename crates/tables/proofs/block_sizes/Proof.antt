@@ -65,51 +65,39 @@ size c =
     let small = all-cons (atMost 256) (cliqueOf ws q) (cliquesFrom ws (q .next) (l .loop .left - 1)) _ (first-of c) (l .loop .inv .2) .0 in
     (e, omega (arith, leb→le (blockSize (cliqueOf ws q)) 256 (passes _ small)))
 
--- src/lib.rt:104:5
 loop-holds : tie.Need-loop-holds Inv-loop μ-loop
 loop-holds c = (omega arith, c .before .before .pre .0 .0, c .before .before .pre .1, refl, refl, refl)
 
--- src/lib.rt:105:37
 read-requires : tie.Need-read-requires Inv-loop μ-loop
 read-requires c κs = search needs
 
--- src/lib.rt:105:32
 enum-known-q : tie.Need-enum-known-q Inv-loop μ-loop
 enum-known-q c = search needs
 
--- src/lib.rt:106:13
 enum-told : tie.Need-enum-told Inv-loop μ-loop
 enum-told c = search needs
 
--- src/lib.rt:108:18
 get-nblk-requires : tie.Need-get-nblk-requires Inv-loop μ-loop
 get-nblk-requires c κs = omega (arith, size c .1)
 
--- src/lib.rt:108:18
 cast-out : tie.Need-cast-out Inv-loop μ-loop
 cast-out c = omega (arith, size (c .before) .1, c .get-nblk .ensures)
 
--- src/lib.rt:108:9
 mul-out : tie.Need-mul-out Inv-loop μ-loop
 mul-out c = search needs
 
--- src/lib.rt:108:9
 slice-write-out : tie.Need-slice-write-out Inv-loop μ-loop
 slice-write-out c = search needs
 
--- src/lib.rt:110:9
 add-c : tie.Need-add-c Inv-loop μ-loop
 add-c c = search needs
 
--- src/lib.rt:111:9
 sub-left : tie.Need-sub-left Inv-loop μ-loop
 sub-left c = search needs
 
--- src/lib.rt:104:5
 loop-less : tie.Need-loop-less Inv-loop μ-loop
 loop-less c = search needs
 
--- src/lib.rt:104:5
 loop-again : tie.Need-loop-again Inv-loop μ-loop
 loop-again c =
     let k = c .before in
@@ -132,11 +120,9 @@ loop-again c =
       rest-of-drop L (map blockSize others) (l .loop .c) (blockSize (cliqueOf ws q)) d,
     )
 
--- src/lib.rt:96:1
 same-length : tie.Need-same-length Inv-loop μ-loop
 same-length c = c .before .loop .inv .3
 
--- src/lib.rt:96:1
 returns : tie.Need-returns Inv-loop μ-loop
 returns c =
     let l = c .before in
@@ -145,11 +131,9 @@ returns c =
     let L = map blockSize (cliquesFrom ws (s .args .first) (s .args .count)) in
     l .loop .inv .4 ∙ write-done L (s .args .out .now) (l .loop .c) (omega (arith, sizes-count s))
 
--- src/lib.rt:96:1
 same-length-2 : tie.Need-same-length-2 Inv-loop μ-loop
 same-length-2 c = c .before .before .before .before .loop .inv .3
 
--- src/lib.rt:96:1
 returns-2 : tie.Need-returns-2 Inv-loop μ-loop
 returns-2 c =
     let l = c .before .before .before .before in

@@ -16,51 +16,39 @@ use Rattle.tables.proofs.copy_record.Reads as reads
 use Rattle.tables.proofs.copy_record.Lts as lts
 use Rattle.tables.proofs.put.Reads as put-reads
 
--- src/lib.rt:62:14
 mul-at : tie.Need-mul-at
 mul-at c = search needs
 
--- src/lib.rt:63:17
 mul-put : tie.Need-mul-put
 mul-put c = search needs
 
--- src/lib.rt:63:17
 shared-slice-read-put : tie.Need-shared-slice-read-put
 shared-slice-read-put c = search needs
 
--- src/lib.rt:63:34
 add-put : tie.Need-add-put
 add-put c = search needs
 
--- src/lib.rt:63:28
 mul-put-2 : tie.Need-mul-put-2
 mul-put-2 c = search needs
 
--- src/lib.rt:63:28
 shared-slice-read-put-2 : tie.Need-shared-slice-read-put-2
 shared-slice-read-put-2 c = search needs
 
--- src/lib.rt:63:49
 add-put-2 : tie.Need-add-put-2
 add-put-2 c = search needs
 
--- src/lib.rt:63:43
 mul-put-3 : tie.Need-mul-put-3
 mul-put-3 c = search needs
 
--- src/lib.rt:63:43
 shared-slice-read-put-3 : tie.Need-shared-slice-read-put-3
 shared-slice-read-put-3 c = search needs
 
--- src/lib.rt:63:5
 put-requires : tie.Need-put-requires
 put-requires c κs = search needs
 
--- src/lib.rt:57:1
 same-length : tie.Need-same-length
 same-length c = search needs
 
--- src/lib.rt:57:1
 returns : tie.Need-returns
 returns c =
     let p = c .before .before in

@@ -11,23 +11,18 @@ use Rattle.tables.proofs.cut_entries.Lts as lts
 use Rattle.parts.proofs.clique_count.Reads as clique-count-reads
 use Rattle.tables.proofs.map_down.Reads as map-down-reads
 
--- src/lib.rt:219:9
 clique-count-requires : tie.Need-clique-count-requires
 clique-count-requires c κs = search needs
 
--- src/lib.rt:220:14
 cast-map-down : tie.Need-cast-map-down
 cast-map-down c = search needs
 
--- src/lib.rt:220:5
 map-down-requires : tie.Need-map-down-requires
 map-down-requires c κs = search needs
 
--- src/lib.rt:213:1
 same-length : tie.Need-same-length
 same-length c = search needs
 
--- src/lib.rt:213:1
 returns : tie.Need-returns
 returns c =
     let w = c .before .before .map-down .ensures in

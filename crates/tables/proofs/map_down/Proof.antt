@@ -22,30 +22,24 @@ Inv-loop cone pattern count out₀ t₀ c₀ out t c =
 abbrev μ-loop : tie.MeasureT-loop
 μ-loop cone pattern count out₀ t₀ c₀ out t c = c
 
--- src/lib.rt:193:5
 loop-holds : tie.Need-loop-holds Inv-loop μ-loop
 loop-holds c =
     let a = c .before .args in
     let e : [] ≡ drop (a .count) (below (a .count)) = sym (drop-of-length-le (below (a .count)) {i = a .count} (omega (arith, length-below (a .count)))) in
     (omega arith, omega arith, refl, ap (λ (xs : List ℕ). written (join (entryOf (a .cone) (a .pattern)) (reverse xs)) (a .out .now)) e)
 
--- src/lib.rt:194:9
 sub-c : tie.Need-sub-c Inv-loop μ-loop
 sub-c c = search needs
 
--- src/lib.rt:195:9
 put-requires : tie.Need-put-requires Inv-loop μ-loop
 put-requires c κs = omega arith
 
--- src/lib.rt:196:9
 add-t : tie.Need-add-t Inv-loop μ-loop
 add-t c = search needs
 
--- src/lib.rt:193:5
 loop-less : tie.Need-loop-less Inv-loop μ-loop
 loop-less c = search needs
 
--- src/lib.rt:193:5
 loop-again : tie.Need-loop-again Inv-loop μ-loop
 loop-again c =
     let l = c .before .before .before .before .before in
@@ -62,11 +56,9 @@ loop-again c =
     (ap (λ (k : ℕ). join f (reverse (drop k (below (a .count)))) ++ (a .cone ∷ a .pattern ∷ n ∷ [])) q ∙ sym (entries-more (a .cone) (a .pattern) (a .count) n (omega arith))) in
     (omega arith, omega arith, c .before .before .put .kept .0 ∙ l .loop .inv .2, e)
 
--- src/lib.rt:186:1
 same-length : tie.Need-same-length Inv-loop μ-loop
 same-length c = c .before .loop .inv .2
 
--- src/lib.rt:186:1
 returns : tie.Need-returns Inv-loop μ-loop
 returns c =
     let l = c .before in

@@ -15,25 +15,20 @@ use Rattle.tables.proofs.pattern_sizes.Lts as lts
 use Rattle.supernode_tree.proofs.Pattern.read.Reads as read-reads
 use Rattle.tables.proofs.block_sizes.Reads as block-sizes-reads
 
--- src/lib.rt:122:35
 read-requires : tie.Need-read-requires
 read-requires c κs = search needs
 
--- src/lib.rt:122:30
 enum-known-p : tie.Need-enum-known-p
 enum-known-p c = search needs
 
--- src/lib.rt:123:9
 enum-told : tie.Need-enum-told
 enum-told c = search needs
 
--- src/lib.rt:123:9
 returns : tie.Need-returns
 returns c =
     let s = c .before .before .before .before .before in
     absurd (not-short (s .args .words .now) (s .args .at) _ (s .pre .0) (c .before .before .read .ensures .0) (c .enum-told .given .1))
 
--- src/lib.rt:125:5
 block-sizes-requires : tie.Need-block-sizes-requires
 block-sizes-requires c κs =
     let s = c .before .before .before .before .before .before .before in
@@ -45,15 +40,12 @@ block-sizes-requires c κs =
       sym (ap (λ (p : Pattern). all (atMost 256) (p .cliques)) (pattern-here ws (s .args .at) _ (s .pre .0) e (g .0 .0) (g .1))) ∙ blocks-small p 256 (s .pre .0) (s .pre .1 .0),
     )
 
--- src/lib.rt:126:5
 cast-result : tie.Need-cast-result
 cast-result c = search needs
 
--- src/lib.rt:116:1
 same-length : tie.Need-same-length
 same-length c = search needs
 
--- src/lib.rt:116:1
 returns-2 : tie.Need-returns-2
 returns-2 c =
     let s = c .before .before .before .before .before .before .before .before .before .before .before in

@@ -21,38 +21,30 @@ Inv-loop sizes out₀ t₀ c₀ out t c =
 abbrev μ-loop : tie.MeasureT-loop
 μ-loop sizes out₀ t₀ c₀ out t c = c
 
--- src/lib.rt:153:5
 loop-holds : tie.Need-loop-holds Inv-loop μ-loop
 loop-holds c =
     let a = c .before .before .args in
     let e : [] ≡ drop (length (a .sizes .now)) (a .sizes .now) = sym (drop-of-length-le (a .sizes .now) {i = length (a .sizes .now)} (omega arith)) in
     (omega arith, omega arith, refl, ap (λ (xs : List ℕ). written (join psdWords (reverse xs)) (a .out .now)) e)
 
--- src/lib.rt:154:9
 sub-c : tie.Need-sub-c Inv-loop μ-loop
 sub-c c = search needs
 
--- src/lib.rt:155:30
 mul-put : tie.Need-mul-put Inv-loop μ-loop
 mul-put c = search needs
 
--- src/lib.rt:155:30
 shared-slice-read-put : tie.Need-shared-slice-read-put Inv-loop μ-loop
 shared-slice-read-put c = search needs
 
--- src/lib.rt:155:9
 put-requires : tie.Need-put-requires Inv-loop μ-loop
 put-requires c κs = omega arith
 
--- src/lib.rt:156:9
 add-t : tie.Need-add-t Inv-loop μ-loop
 add-t c = search needs
 
--- src/lib.rt:153:5
 loop-less : tie.Need-loop-less Inv-loop μ-loop
 loop-less c = search needs
 
--- src/lib.rt:153:5
 loop-again : tie.Need-loop-again Inv-loop μ-loop
 loop-again c =
     let l = c .before .before .before .before .before .before in
@@ -69,11 +61,9 @@ loop-again c =
     (ap (λ (k : ℕ). join psdWords (reverse (drop k sizes)) ++ psdWords (getD sizes n 0)) q ∙ sym (down-more psdWords 0 sizes n (omega arith))) in
     (omega arith, omega arith, c .before .before .put .kept .0 ∙ l .loop .inv .2, e)
 
--- src/lib.rt:146:1
 same-length : tie.Need-same-length Inv-loop μ-loop
 same-length c = c .before .loop .inv .2
 
--- src/lib.rt:146:1
 returns : tie.Need-returns Inv-loop μ-loop
 returns c =
     let l = c .before in

@@ -22,35 +22,27 @@ Inv-loop sizes out₀ t₀ c₀ out t c =
 abbrev μ-loop : tie.MeasureT-loop
 μ-loop sizes out₀ t₀ c₀ out t c = length sizes - c
 
--- src/lib.rt:137:5
 loop-holds : tie.Need-loop-holds Inv-loop μ-loop
 loop-holds c = search needs
 
--- src/lib.rt:138:30
 mul-put : tie.Need-mul-put Inv-loop μ-loop
 mul-put c = search needs
 
--- src/lib.rt:138:30
 shared-slice-read-put : tie.Need-shared-slice-read-put Inv-loop μ-loop
 shared-slice-read-put c = search needs
 
--- src/lib.rt:138:9
 put-requires : tie.Need-put-requires Inv-loop μ-loop
 put-requires c κs = omega arith
 
--- src/lib.rt:139:9
 add-t : tie.Need-add-t Inv-loop μ-loop
 add-t c = search needs
 
--- src/lib.rt:140:9
 add-c : tie.Need-add-c Inv-loop μ-loop
 add-c c = search needs
 
--- src/lib.rt:137:5
 loop-less : tie.Need-loop-less Inv-loop μ-loop
 loop-less c = search needs
 
--- src/lib.rt:137:5
 loop-again : tie.Need-loop-again Inv-loop μ-loop
 loop-again c =
     let l = c .before .before .before .before .before .before in
@@ -64,11 +56,9 @@ loop-again c =
     ∙ ap (λ (ws : List ℕ). written ws (a .out .now)) (sym (up-more psdWords 0 sizes n (omega arith))) in
     (omega arith, omega arith, c .before .before .put .kept .0 ∙ l .loop .inv .2, e)
 
--- src/lib.rt:130:1
 same-length : tie.Need-same-length Inv-loop μ-loop
 same-length c = c .before .loop .inv .2
 
--- src/lib.rt:130:1
 returns : tie.Need-returns Inv-loop μ-loop
 returns c =
     let l = c .before in

@@ -6,43 +6,33 @@ use Rattle.tables.proofs.put.Tie as tie
 use Rattle.tables.proofs.put.Reads as reads
 use Rattle.tables.proofs.put.Lts as lts
 
--- src/lib.rt:45:5
 mul-out : tie.Need-mul-out
 mul-out c = search needs
 
--- src/lib.rt:45:5
 slice-write-out : tie.Need-slice-write-out
 slice-write-out c = search needs
 
--- src/lib.rt:46:9
 add-out : tie.Need-add-out
 add-out c = search needs
 
--- src/lib.rt:46:5
 mul-out-2 : tie.Need-mul-out-2
 mul-out-2 c = search needs
 
--- src/lib.rt:46:5
 slice-write-out-2 : tie.Need-slice-write-out-2
 slice-write-out-2 c = simp length-set (omega arith)
 
--- src/lib.rt:47:9
 add-out-2 : tie.Need-add-out-2
 add-out-2 c = search needs
 
--- src/lib.rt:47:5
 mul-out-3 : tie.Need-mul-out-3
 mul-out-3 c = search needs
 
--- src/lib.rt:47:5
 slice-write-out-3 : tie.Need-slice-write-out-3
 slice-write-out-3 c = simp length-set (omega arith)
 
--- src/lib.rt:41:1
 same-length : tie.Need-same-length
 same-length c = simp length-set
 
--- src/lib.rt:41:1
 returns : tie.Need-returns
 returns c = search needs
 

@@ -10,19 +10,15 @@ use Rattle.tables.proofs.whole_entry.Reads as reads
 use Rattle.tables.proofs.whole_entry.Lts as lts
 use Rattle.tables.proofs.put.Reads as put-reads
 
--- src/lib.rt:73:17
 cast-put : tie.Need-cast-put
 cast-put c = search needs
 
--- src/lib.rt:73:5
 put-requires : tie.Need-put-requires
 put-requires c κs = search needs
 
--- src/lib.rt:68:1
 same-length : tie.Need-same-length
 same-length c = search needs
 
--- src/lib.rt:68:1
 returns : tie.Need-returns
 returns c =
     let p = c .before .before in

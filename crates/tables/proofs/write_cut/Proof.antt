@@ -86,11 +86,9 @@ few c =
     let a = s .args in
     subst (λ (x : Table). Few x (a .t + blockRows (patternAt (a .words .now) (a .at)))) (c .enum-told3 .given .1) (s .pre .1 .0)
 
--- src/lib.rt:243:71
 enum-told : tie.Need-enum-told
 enum-told c = search needs
 
--- src/lib.rt:243:25
 standard-pattern-rows-requires : tie.Need-standard-pattern-rows-requires
 standard-pattern-rows-requires c κs =
     let s = c .before .before .before .before .before in
@@ -99,11 +97,9 @@ standard-pattern-rows-requires c κs =
     let ok = s .pre .0 .0 in
     (ok, ((s .pre .0 .1, s .pre .0 .2), omega (arith, ap length (rows-h (c .before)), standard-rows-count p ok (a .row), s .pre .1 .1)))
 
--- src/lib.rt:244:78
 enum-told-2 : tie.Need-enum-told-2
 enum-told-2 c = search needs
 
--- src/lib.rt:244:28
 compact-pattern-originals-requires : tie.Need-compact-pattern-originals-requires
 compact-pattern-originals-requires c κs =
     let s = c .before .before .before .before .before in
@@ -112,15 +108,12 @@ compact-pattern-originals-requires c κs =
     let ok = s .pre .0 .0 in
     (ok, ((s .pre .0 .1, s .pre .0 .2), omega (arith, ap length (rows-join (c .before)), original-rows-count p ok (a .row) (a .t), s .pre .1 .1)))
 
--- src/lib.rt:245:74
 enum-told-3 : tie.Need-enum-told-3
 enum-told-3 c = search needs
 
--- src/lib.rt:245:74
 cast-compact-pattern-rows : tie.Need-cast-compact-pattern-rows
 cast-compact-pattern-rows c = omega (arith, few c)
 
--- src/lib.rt:245:27
 compact-pattern-rows-requires : tie.Need-compact-pattern-rows-requires
 compact-pattern-rows-requires c κs =
     let s = c .before .before .before .before .before in
@@ -129,11 +122,9 @@ compact-pattern-rows-requires c κs =
     let ok = s .pre .0 .0 in
     (ok, ((s .pre .0 .1, s .pre .0 .2), (few (c .before), omega (arith, ap length (rows-cut (c .before)), (length-map (patternRows p (a .row) (a .t)) cutCode ∙ rows-count p ok (a .row) (a .t)), s .pre .1 .1))))
 
--- src/lib.rt:246:67
 enum-told-4 : tie.Need-enum-told-4
 enum-told-4 c = search needs
 
--- src/lib.rt:246:33
 standard-pattern-cones-requires : tie.Need-standard-pattern-cones-requires
 standard-pattern-cones-requires c κs =
     let s = c .before .before .before .before .before in
@@ -142,11 +133,9 @@ standard-pattern-cones-requires c κs =
     let ok = s .pre .0 .0 in
     ((ok, s .pre .0 .1), omega (arith, ap length (words-standard (c .before)), standard-words p (a .i) (a .row) (a .k), s .pre .1 .1))
 
--- src/lib.rt:247:65
 enum-told-5 : tie.Need-enum-told-5
 enum-told-5 c = search needs
 
--- src/lib.rt:247:32
 compact-pattern-cones-requires : tie.Need-compact-pattern-cones-requires
 compact-pattern-cones-requires c κs =
     let s = c .before .before .before .before .before in
@@ -155,11 +144,9 @@ compact-pattern-cones-requires c κs =
     let ok = s .pre .0 .0 in
     ((ok, s .pre .0 .1), omega (arith, ap length (words-compact (c .before)), compact-words p (a .i) (a .row) (a .k), s .pre .1 .1))
 
--- src/lib.rt:248:56
 enum-told-6 : tie.Need-enum-told-6
 enum-told-6 c = search needs
 
--- src/lib.rt:248:27
 cut-entries-requires : tie.Need-cut-entries-requires
 cut-entries-requires c κs =
     let s = c .before .before .before .before .before in
@@ -168,11 +155,9 @@ cut-entries-requires c κs =
     let ok = s .pre .0 .0 in
     ((ok, s .pre .0 .3), omega (arith, ap length (words-map (c .before)), map-words p (a .i) (a .row) (a .k), s .pre .1 .1))
 
--- src/lib.rt:226:1
 same-length : tie.Need-same-length
 same-length c = search needs
 
--- src/lib.rt:226:1
 returns : tie.Need-returns
 returns c =
     let w = c .before .before .standard-pattern-rows in
@@ -182,11 +167,9 @@ returns c =
     let ok = s .pre .0 .0 in
     renamed _ (standardPatternRows p (a .row)) (rows-h (c .before .before .before .before)) _ _ _ (w .ensures .0 ∙ sym (standard-rows-count p ok (a .row))) (w .ensures .1)
 
--- src/lib.rt:226:1
 same-length-2 : tie.Need-same-length-2
 same-length-2 c = search needs
 
--- src/lib.rt:226:1
 returns-2 : tie.Need-returns-2
 returns-2 c =
     let w = c .before .before .compact-pattern-originals in
@@ -196,11 +179,9 @@ returns-2 c =
     let ok = s .pre .0 .0 in
     renamed _ (map originalRow (patternRows p (a .row) (a .t))) (rows-join (c .before .before .before .before)) _ _ _ (w .ensures .0 ∙ sym (original-rows-count p ok (a .row) (a .t))) (w .ensures .1 (a .t))
 
--- src/lib.rt:226:1
 same-length-3 : tie.Need-same-length-3
 same-length-3 c = search needs
 
--- src/lib.rt:226:1
 returns-3 : tie.Need-returns-3
 returns-3 c =
     let w = c .before .before .compact-pattern-rows in
@@ -210,11 +191,9 @@ returns-3 c =
     let ok = s .pre .0 .0 in
     renamed _ (map cutCode (patternRows p (a .row) (a .t))) (rows-cut (c .before .before .before .before)) _ _ _ (w .ensures .0 ∙ sym ((length-map (patternRows p (a .row) (a .t)) cutCode ∙ rows-count p ok (a .row) (a .t)))) (w .ensures .1)
 
--- src/lib.rt:226:1
 same-length-4 : tie.Need-same-length-4
 same-length-4 c = search needs
 
--- src/lib.rt:226:1
 returns-4 : tie.Need-returns-4
 returns-4 c =
     let w = c .before .before .standard-pattern-cones in
@@ -224,11 +203,9 @@ returns-4 c =
     let ok = s .pre .0 .0 in
     renamed _ (standardPart (cut (a .i) (a .row) (a .k) p)) (words-standard (c .before .before .before .before)) _ _ _ (w .ensures .0 ∙ sym (standard-words p (a .i) (a .row) (a .k))) (w .ensures .1)
 
--- src/lib.rt:226:1
 same-length-5 : tie.Need-same-length-5
 same-length-5 c = search needs
 
--- src/lib.rt:226:1
 returns-5 : tie.Need-returns-5
 returns-5 c =
     let w = c .before .before .compact-pattern-cones in
@@ -238,11 +215,9 @@ returns-5 c =
     let ok = s .pre .0 .0 in
     renamed _ (compactPart (cut (a .i) (a .row) (a .k) p)) (words-compact (c .before .before .before .before)) _ _ _ (w .ensures .0 ∙ sym (compact-words p (a .i) (a .row) (a .k))) (w .ensures .1)
 
--- src/lib.rt:226:1
 same-length-6 : tie.Need-same-length-6
 same-length-6 c = search needs
 
--- src/lib.rt:226:1
 returns-6 : tie.Need-returns-6
 returns-6 c =
     let w = c .before .before .cut-entries in

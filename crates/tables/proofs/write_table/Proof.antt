@@ -115,41 +115,32 @@ fits-cut c =
     let s = l .before .before .before .before .before in
     part-fits (s .args .table) (fullOf s) (l .loop .t) (l .loop .inv .0) (cutOf c) (aheadOf l) _ (l .loop .inv .3) (met-cut c .0) .2
 
--- src/lib.rt:269:9
 start-requires : tie.Need-start-requires Inv-loop μ-loop
 start-requires c κs = c .before .before .before .pre .0
 
--- src/lib.rt:271:5
 loop-holds : tie.Need-loop-holds Inv-loop μ-loop
 loop-holds c =
     let s = c .before .before .before .before in
     (omega arith, refl, refl, ap (codesFrom (s .args .table) 0) (sym (c .start .ensures .0)), c .start .ensures .1)
 
--- src/lib.rt:272:13
 next-requires : tie.Need-next-requires Inv-loop μ-loop
 next-requires c κs = c .loop .inv .4
 
--- src/lib.rt:274:24
 enum-known-met : tie.Need-enum-known-met Inv-loop μ-loop
 enum-known-met c = search needs
 
--- src/lib.rt:275:77
 mul-write-whole : tie.Need-mul-write-whole Inv-loop μ-loop
 mul-write-whole c = omega (arith, fits-whole c, room (c .before .before .before .before .before .before .before .before .before))
 
--- src/lib.rt:275:77
 sub-write-whole : tie.Need-sub-write-whole Inv-loop μ-loop
 sub-write-whole c = omega (arith, fits-whole c, room (c .before .before .before .before .before .before .before .before .before))
 
--- src/lib.rt:275:77
 part-write-whole-start : tie.Need-part-write-whole-start Inv-loop μ-loop
 part-write-whole-start c = omega (arith, fits-whole c, room (c .before .before .before .before .before .before .before .before .before))
 
--- src/lib.rt:275:77
 part-write-whole-end : tie.Need-part-write-whole-end Inv-loop μ-loop
 part-write-whole-end c = omega (arith, fits-whole c, room (c .before .before .before .before .before .before .before .before .before))
 
--- src/lib.rt:275:22
 write-whole-requires : tie.Need-write-whole-requires Inv-loop μ-loop
 write-whole-requires c κs =
     let k = c .before in
@@ -158,19 +149,16 @@ write-whole-requires c κs =
     let h = met-whole k .1 in
     ((h .0, omega (arith, h .1, l .loop .inv .4 .few), h .2, h .3), simp (length-take, length-drop) (omega (arith, fits-whole k, room s)))
 
--- src/lib.rt:275:17
 add-t : tie.Need-add-t Inv-loop μ-loop
 add-t c =
     let k = c .before .before .before .before in
     omega (arith, fits-whole k, c .before .before .write-whole .ensures .0, small (k .before .before .before .before))
 
--- src/lib.rt:271:5
 loop-less : tie.Need-loop-less Inv-loop μ-loop
 loop-less c =
     let k = c .before .before .before .before in
     omega (arith, ap length (met-whole k .0))
 
--- src/lib.rt:271:5
 loop-again : tie.Need-loop-again Inv-loop μ-loop
 loop-again c =
     let k = c .before .before .before .before in
@@ -181,27 +169,21 @@ loop-again c =
     (s .args .out .now) (l .loop .out) (w .last .1 .1 .1 .1 .1 .0) (room s) (l .loop .inv .1) (l .loop .inv .2) (w .result) (w .ensures .0) (w .ensures .1) in
     (e .0, e .1, e .2, e .3, met-whole k .1 .5)
 
--- src/lib.rt:278:22
 enum-known-met-2 : tie.Need-enum-known-met-2 Inv-loop μ-loop
 enum-known-met-2 c = search needs
 
--- src/lib.rt:279:91
 mul-write-cut : tie.Need-mul-write-cut Inv-loop μ-loop
 mul-write-cut c = omega (arith, fits-cut c, room (c .before .before .before .before .before .before .before .before .before))
 
--- src/lib.rt:279:91
 sub-write-cut : tie.Need-sub-write-cut Inv-loop μ-loop
 sub-write-cut c = omega (arith, fits-cut c, room (c .before .before .before .before .before .before .before .before .before))
 
--- src/lib.rt:279:91
 part-write-cut-start : tie.Need-part-write-cut-start Inv-loop μ-loop
 part-write-cut-start c = omega (arith, fits-cut c, room (c .before .before .before .before .before .before .before .before .before))
 
--- src/lib.rt:279:91
 part-write-cut-end : tie.Need-part-write-cut-end Inv-loop μ-loop
 part-write-cut-end c = omega (arith, fits-cut c, room (c .before .before .before .before .before .before .before .before .before))
 
--- src/lib.rt:279:22
 write-cut-requires : tie.Need-write-cut-requires Inv-loop μ-loop
 write-cut-requires c κs =
     let k = c .before in
@@ -217,19 +199,16 @@ write-cut-requires c κs =
       ),
     )
 
--- src/lib.rt:279:17
 add-t-2 : tie.Need-add-t-2 Inv-loop μ-loop
 add-t-2 c =
     let k = c .before .before .before .before in
     omega (arith, fits-cut k, c .before .before .write-cut .ensures .0, small (k .before .before .before .before))
 
--- src/lib.rt:271:5
 loop-less-2 : tie.Need-loop-less-2 Inv-loop μ-loop
 loop-less-2 c =
     let k = c .before .before .before .before in
     omega (arith, ap length (met-cut k .0))
 
--- src/lib.rt:271:5
 loop-again-2 : tie.Need-loop-again-2 Inv-loop μ-loop
 loop-again-2 c =
     let k = c .before .before .before .before in
@@ -240,15 +219,12 @@ loop-again-2 c =
     (s .args .out .now) (l .loop .out) (w .last .1 .1 .1 .1 .1 .1 .1 .0) (room s) (l .loop .inv .1) (l .loop .inv .2) (w .result) (w .ensures .0) (w .ensures .1) in
     (e .0, e .1, e .2, e .3, met-cut k .1 .6)
 
--- src/lib.rt:283:17
 enum-told : tie.Need-enum-told Inv-loop μ-loop
 enum-told c = search needs
 
--- src/lib.rt:283:17
 same-length : tie.Need-same-length Inv-loop μ-loop
 same-length c = c .before .before .before .loop .inv .1
 
--- src/lib.rt:283:17
 returns : tie.Need-returns Inv-loop μ-loop
 returns c =
     let r = c .before .before in

@@ -70,136 +70,111 @@ words-map c =
     let a = s .args in
     whole-map (a .table) (a .i) (getD (records (a .cones .now)) (a .i) noCone) (a .row) (c .enum-told6 .given .1)
 
--- src/lib.rt:86:34
 enum-told : tie.Need-enum-told
 enum-told c = search needs
 
--- src/lib.rt:86:25
 count-up-requires : tie.Need-count-up-requires
 count-up-requires c κs =
     let s = c .before .before .before .before .before in
     let a = s .args in
     omega (arith, ap length (rows-h (c .before)), length-upFrom (a .row) (a .rows), s .pre .0, s .pre .1)
 
--- src/lib.rt:87:37
 enum-told-2 : tie.Need-enum-told-2
 enum-told-2 c = search needs
 
--- src/lib.rt:87:42
 add-count-up : tie.Need-add-count-up
 add-count-up c = search needs
 
--- src/lib.rt:87:28
 count-up-requires-2 : tie.Need-count-up-requires-2
 count-up-requires-2 c κs =
     let s = c .before .before .before .before .before in
     let a = s .args in
     omega (arith, ap length (rows-join (c .before)), length-upFrom (65536 + a .row) (a .rows), s .pre .0, s .pre .1)
 
--- src/lib.rt:88:36
 enum-told-3 : tie.Need-enum-told-3
 enum-told-3 c = search needs
 
--- src/lib.rt:88:27
 count-up-requires-3 : tie.Need-count-up-requires-3
 count-up-requires-3 c κs =
     let s = c .before .before .before .before .before in
     let a = s .args in
     omega (arith, ap length (rows-cut (c .before)), length-upFrom (a .row) (a .rows), s .pre .0, s .pre .1)
 
--- src/lib.rt:89:55
 enum-told-4 : tie.Need-enum-told-4
 enum-told-4 c = search needs
 
--- src/lib.rt:89:33
 copy-record-requires : tie.Need-copy-record-requires
 copy-record-requires c κs =
     let s = c .before .before .before .before .before in
     let a = s .args in
     omega (arith, ap length (words-standard (c .before)), s .pre .0, s .pre .1)
 
--- src/lib.rt:90:54
 enum-told-5 : tie.Need-enum-told-5
 enum-told-5 c = search needs
 
--- src/lib.rt:90:32
 copy-record-requires-2 : tie.Need-copy-record-requires-2
 copy-record-requires-2 c κs =
     let s = c .before .before .before .before .before in
     let a = s .args in
     omega (arith, ap length (words-compact (c .before)), s .pre .0, s .pre .1)
 
--- src/lib.rt:91:42
 enum-told-6 : tie.Need-enum-told-6
 enum-told-6 c = search needs
 
--- src/lib.rt:91:27
 whole-entry-requires : tie.Need-whole-entry-requires
 whole-entry-requires c κs =
     let s = c .before .before .before .before .before in
     let a = s .args in
     omega (arith, ap length (words-map (c .before)), s .pre .0, s .pre .1)
 
--- src/lib.rt:79:1
 same-length : tie.Need-same-length
 same-length c = search needs
 
--- src/lib.rt:79:1
 returns : tie.Need-returns
 returns c =
     let w = c .before .before .count-up in
     let a = c .before .before .before .before .before .before .before .before .args in
     renamed _ (upFrom (a .row) (a .rows)) (rows-h (c .before .before .before .before)) _ _ _ (w .ensures .0 ∙ sym (length-upFrom (a .row) (a .rows))) (w .ensures .1)
 
--- src/lib.rt:79:1
 same-length-2 : tie.Need-same-length-2
 same-length-2 c = search needs
 
--- src/lib.rt:79:1
 returns-2 : tie.Need-returns-2
 returns-2 c =
     let w = c .before .before .count-up2 in
     let a = c .before .before .before .before .before .before .before .before .args in
     renamed _ (upFrom (65536 + a .row) (a .rows)) (rows-join (c .before .before .before .before)) _ _ _ (w .ensures .0 ∙ sym (length-upFrom (65536 + a .row) (a .rows))) (w .ensures .1)
 
--- src/lib.rt:79:1
 same-length-3 : tie.Need-same-length-3
 same-length-3 c = search needs
 
--- src/lib.rt:79:1
 returns-3 : tie.Need-returns-3
 returns-3 c =
     let w = c .before .before .count-up3 in
     let a = c .before .before .before .before .before .before .before .before .args in
     renamed _ (upFrom (a .row) (a .rows)) (rows-cut (c .before .before .before .before)) _ _ _ (w .ensures .0 ∙ sym (length-upFrom (a .row) (a .rows))) (w .ensures .1)
 
--- src/lib.rt:79:1
 same-length-4 : tie.Need-same-length-4
 same-length-4 c = search needs
 
--- src/lib.rt:79:1
 returns-4 : tie.Need-returns-4
 returns-4 c =
     let w = c .before .before .copy-record in
     let a = c .before .before .before .before .before .before .before .before .args in
     renamed _ (coneWords (getD (records (a .cones .now)) (a .i) noCone)) (words-standard (c .before .before .before .before)) _ _ _ (w .ensures .0) (w .ensures .1)
 
--- src/lib.rt:79:1
 same-length-5 : tie.Need-same-length-5
 same-length-5 c = search needs
 
--- src/lib.rt:79:1
 returns-5 : tie.Need-returns-5
 returns-5 c =
     let w = c .before .before .copy-record2 in
     let a = c .before .before .before .before .before .before .before .before .args in
     renamed _ (coneWords (getD (records (a .cones .now)) (a .i) noCone)) (words-compact (c .before .before .before .before)) _ _ _ (w .ensures .0) (w .ensures .1)
 
--- src/lib.rt:79:1
 same-length-6 : tie.Need-same-length-6
 same-length-6 c = search needs
 
--- src/lib.rt:79:1
 returns-6 : tie.Need-returns-6
 returns-6 c =
     let w = c .before .before .whole-entry in

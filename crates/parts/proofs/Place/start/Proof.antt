@@ -5,7 +5,6 @@ use Rattle.parts.proofs.Place.start.Tie as tie
 use Rattle.parts.proofs.Place.start.Reads as reads
 use Rattle.parts.proofs.Place.start.Lts as lts
 
--- src/lib.rt:37:5
 returns : tie.Need-returns
 returns c =
     let q = starts (c .args .m) (c .args .cones .now) (c .args .count) (c .args .words .now) (c .pre) (omega arith) in

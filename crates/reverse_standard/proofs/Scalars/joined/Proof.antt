@@ -7,7 +7,6 @@ use Rattle.reverse_standard.proofs.Scalars.joined.Tie as tie
 use Rattle.reverse_standard.proofs.Scalars.joined.Reads as reads
 use Rattle.reverse_standard.proofs.Scalars.joined.Lts as lts
 
--- src/lib.rt:19:5
 returns : tie.Need-returns
 unfolding ofBits
 returns c = (refl, refl)
