@@ -7,17 +7,16 @@ use mathlib.Core.List.{List, [], _∷_}
 use lib.ListN.{length, take}
 use lib.Dec.{T, eqb, lit<}
 use lib.Ieee.{Float}
-use Rattle.layout.specs.Lists.{all}
 use Rattle.layout.specs.Problem.{Route, standard, compact, Solution, solution, one64}
-use Rattle.layout.specs.Patterns.{patterns}
 use Rattle.layout.specs.Blocks.{Part, blockRowCount, overlapCount}
-use Rattle.layout.specs.Checks.{Sound, conesRead, patternsRead, treeRight, cliquesRight, check8, check10}
-use Rattle.layout.specs.Answers.{orElse, roomy, joinBounded, joinedParts, joinChecks, joinRefusal, joined, solutionFits, mapRight, scalars, routeOf}
+use Rattle.layout.specs.Checks.{Sound, firstFailing}
+use Rattle.layout.specs.Answers.{orElse, roomy, joinedParts, joinChecks, joinRefusal, joined, solutionFits, mapRight, scalars, routeOf}
 use Rattle.layout.proofs.Tests.{and-iff, leb-iff, eqb-iff}
 use Rattle.layout.proofs.Accepted.{passed}
 use Rattle.checks.specs.Order.{joinedRefusal}
 use Rattle.checks.proofs.Order.{joined-then-route, first-given, both-zero}
 use Rattle.checks.proofs.Checked.{joined-sound}
+use Rattle.chordal_info.specs.Routes.{joinRouteChecks}
 use Rattle.chordal_info.proofs.Sizes.{rows-fit, rows-few}
 use Rattle.reverse.specs.Joined.{Joinable, joinedOf}
 
@@ -33,25 +32,16 @@ join-order a room fit = (
   λ e f g. rw (e, f, g),
 )
 
--- ---- what the checks say
-
-module _ (route : Route) (n m : ℕ) (cones : List ℕ) (count : ℕ) (words : List ℕ) where
-  tests : List Bool
-  tests =
-      let pats = patterns count words in
-      joinBounded n m cones ∷ true ∷ true ∷ conesRead m cones ∷ patternsRead cones count words ∷ all treeRight pats ∷ all cliquesRight pats
-      ∷ check8 route n ∷ true ∷ check10 route m (joinedParts cones count words) ∷ []
-
-  -- checks 1 to 10
-  pub checks-passed : joinChecks route n m cones count words ≡ 0
-      → Sound m cones count words × (blockRowCount (joinedParts cones count words) ≤ 262144)
-  unfolding tests
-  checks-passed e =
-      let ps = joinedParts cones count words in (
-        joined-sound n m cones count words
-            (both-zero (joinedRefusal n m cones count words) _ (sym (joined-then-route route n m cones count words) ∙ e) .0),
-        rows-few route m (blockRowCount ps) (overlapCount ps) (subst T (sym (rows-fit route m ps)) (passed 0 9 tests e (lit< tt))),
-      )
+-- what checks 1 to 10 say
+pub checks-passed : (route : Route) (n m : ℕ) (cones : List ℕ) (count : ℕ) (words : List ℕ) → joinChecks route n m cones count words ≡ 0
+    → Sound m cones count words × (blockRowCount (joinedParts cones count words) ≤ 262144)
+checks-passed route n m cones count words e =
+    let ps = joinedParts cones count words in
+    let last = joinRouteChecks route n m ps in
+    let (seven, later) = both-zero (joinedRefusal n m cones count words) (firstFailing 8 last) (sym (joined-then-route route n m cones count words) ∙ e) in (
+      joined-sound n m cones count words seven,
+      rows-few route m (blockRowCount ps) (overlapCount ps) (subst T (sym (rows-fit route m ps)) (passed 7 2 last later (lit< tt))),
+    )
 
 -- ---- a solution's lengths from counts, by the route's number
 

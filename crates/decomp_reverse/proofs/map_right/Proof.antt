@@ -40,40 +40,40 @@ aheadOf l = let a = start l .args in ahead (a .cones .now) (a .words .now) (l .l
 
 -- ---- a whole cone was met
 
-abbrev place : tie.After-met Inv-loop μ-loop → tie.At-loop Inv-loop μ-loop
-place k = k .before .before .before
+abbrev turn : tie.After-met Inv-loop μ-loop → tie.At-loop Inv-loop μ-loop
+turn k = k .before .before .before
 
 abbrev wholeOf : tie.After-met Inv-loop μ-loop → Part
 wholeOf k =
-    let q = place k .loop .place in
-    whole (q .cone) (getD (records (start (place k) .args .cones .now)) (q .cone) noCone) (q .row)
+    let q = turn k .loop .place in
+    whole (q .cone) (getD (records (start (turn k) .args .cones .now)) (q .cone) noCone) (q .row)
 
 met-whole : (k : tie.After-met Inv-loop μ-loop)
-    → let a = start (place k) .args in
-    aheadOf (place k) ≡ wholeOf k ∷ ahead (a .cones .now) (a .words .now) (k .met .given .0 .1 .0)
+    → let a = start (turn k) .args in
+    aheadOf (turn k) ≡ wholeOf k ∷ ahead (a .cones .now) (a .words .now) (k .met .given .0 .1 .0)
 met-whole k =
-    let a = start (place k) .args in
-    k .before .before .next .ensures .0 ∙ ap (meets (a .cones .now) (a .words .now) (place k .loop .place)) (k .met .given .1)
+    let a = start (turn k) .args in
+    k .before .before .next .ensures .0 ∙ ap (meets (a .cones .now) (a .words .now) (turn k .loop .place)) (k .met .given .1)
 
 knows-whole : (k : tie.After-met Inv-loop μ-loop)
-    → let a = start (place k) .args in
-    Knows (a .m) (a .cones .now) (a .words .now) (place k .loop .place) (Whole (k .met .given .0 .0) (k .met .given .0 .1 .0))
+    → let a = start (turn k) .args in
+    Knows (a .m) (a .cones .now) (a .words .now) (turn k .loop .place) (Whole (k .met .given .0 .0) (k .met .given .0 .1 .0))
 knows-whole k =
-    let a = start (place k) .args in
-    subst (Knows (a .m) (a .cones .now) (a .words .now) (place k .loop .place)) (k .met .given .1) (k .before .before .next .ensures .1)
+    let a = start (turn k) .args in
+    subst (Knows (a .m) (a .cones .now) (a .words .now) (turn k .loop .place)) (k .met .given .1) (k .before .before .next .ensures .1)
 
 -- its entry was there
 same-whole : (c : tie.Else1 Inv-loop μ-loop)
     → let k = c .before .before .before .before in
-    begins (drop (place k .loop .t) (start (place k) .args .entries .now)) (mapWords (mapPart (wholeOf k))) ≡ true
+    begins (drop (turn k .loop .t) (start (turn k) .args .entries .now)) (mapWords (mapPart (wholeOf k))) ≡ true
 same-whole c = sym (c .before .entry-right .ensures) ∙ not-false _ (c .if1 .left)
 
 fits-whole : (c : tie.Else1 Inv-loop μ-loop)
-    → let l = place (c .before .before .before .before) in
+    → let l = turn (c .before .before .before .before) in
     l .loop .t + 3 ≤ length (start l .args .entries .now)
 fits-whole c =
     let k = c .before .before .before .before in
-    inside (start (place k) .args .entries .now) (place k .loop .t) (mapWords (mapPart (wholeOf k))) (place k .loop .inv .0) (same-whole c)
+    inside (start (turn k) .args .entries .now) (turn k .loop .t) (mapWords (mapPart (wholeOf k))) (turn k .loop .inv .0) (same-whole c)
 
 -- ---- a cone that a pattern cuts was met
 
@@ -163,12 +163,12 @@ returns : tie.Need-returns Inv-loop μ-loop
 returns c =
     let r = c .before in
     let k = r .before .before .before in
-    let l = place k in
+    let l = turn k in
     sym (sym (l .loop .inv .2)
     ∙ entries-miss (start l .args .entries .now) (l .loop .t) (wholeOf k) (aheadOf l) _ (met-whole k) (sym (r .entry-right .ensures) ∙ not-true _ (c .if1 .taken)))
 
 add-t : tie.Need-add-t Inv-loop μ-loop
-add-t c = omega (arith, fits-whole c, small (start (place (c .before .before .before .before))))
+add-t c = omega (arith, fits-whole c, small (start (turn (c .before .before .before .before))))
 
 loop-less : tie.Need-loop-less Inv-loop μ-loop
 loop-less c = omega (arith, ap length (met-whole (c .before .before .before .before)))
@@ -176,7 +176,7 @@ loop-less c = omega (arith, ap length (met-whole (c .before .before .before .bef
 loop-again : tie.Need-loop-again Inv-loop μ-loop
 loop-again c =
     let k = c .before .before .before .before in
-    let l = place k in (
+    let l = turn k in (
       fits-whole c,
       knows-whole k .5,
       sym (entries-hit (start l .args .entries .now) (l .loop .t) (wholeOf k) (aheadOf l) _ (met-whole k) (same-whole c)) ∙ l .loop .inv .2,
