@@ -4,9 +4,9 @@ use mathlib.Core.Path.{ap, _∙_}
 use mathlib.Core.List.{List}
 use Prim.Native.Nat.{ℕ}
 use Rattle.layout.specs.Lists.{written}
-use Rattle.compact_cut.proofs.Laws.{few-starts, starts-A}
-use Rattle.compact_cut.proofs.write_compact_a.Statement.{statement}
-use Rattle.compact_cut.proofs.write_compact_a.Tie as tie
+use Rattle.compact_constraints.proofs.Laws.{few-starts, starts-A}
+use Rattle.compact_constraints.proofs.write_compact_a.Statement.{statement}
+use Rattle.compact_constraints.proofs.write_compact_a.Tie as tie
 
 cast-write-starts : tie.Need-cast-write-starts
 cast-write-starts c = let s = c .before .before .before .before .before .before .before .before .before .before .before in omega (arith, few-starts (s .pre .0))

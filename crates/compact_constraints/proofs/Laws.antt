@@ -25,7 +25,7 @@ use Rattle.augment_compact.specs.Cut.{tiedRows, cutRows, cutValues}
 use Rattle.augment_compact.specs.Places.{placed, CodesKnown, ColumnsRise}
 use Rattle.augment_compact.proofs.Cut.{cut-compact, tied-count}
 use Rattle.augment_compact.proofs.Places.{few-rows, accepted-starts, accepted-rise, accepted-known, accepted-placing}
-use Rattle.compact_cut.specs.Constraints.{completed, Accepted}
+use Rattle.compact_constraints.specs.Constraints.{completed, Accepted}
 
 -- flags just cleared are down, and there are enough for n rows
 pub flags-down : (n size : ℕ) → n ≤ 64 * size → size ≤ 4096 → Clear n (replicate size false)
