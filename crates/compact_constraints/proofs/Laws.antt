@@ -49,9 +49,9 @@ module _ {p : Problem} (h : Accepted p) where
   pub few-augmented : blockRowCount (layout p) ≤ 262144
   few-augmented = omega (arith, codes-count, few-rows whole (h .accepted))
 
-  -- so many that the starts are small
-  pub few-starts : length (p .A .values) + 2 * overlapCount (layout p) ≤ 524288
-  few-starts =
+  -- the entries of the cut's A
+  pub few-cut-entries : length (p .A .values) + 2 * overlapCount (layout p) ≤ 524288
+  few-cut-entries =
       let tenth = and-iff (leb (blockRowCount (layout p)) 262144) (leb (overlapCount (layout p)) 131072) .0 (passed 0 9 (checks compact whole) (h .accepted) (lit< tt)) in
       omega (arith, few-entries compact whole (h .accepted), leb-iff (overlapCount (layout p)) 131072 .0 (tenth .1))
 
