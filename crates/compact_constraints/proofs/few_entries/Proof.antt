@@ -3,9 +3,9 @@ use borrow.Author.Needs.{needs}
 use Rattle.layout.specs.Blocks.{blockRowCount}
 use Rattle.layout.specs.Answers.{joinedParts}
 use Rattle.augment.proofs.Laws.{cleared}
-use Rattle.compact_cut.proofs.Laws.{flags-down}
-use Rattle.compact_cut.proofs.few_entries.Statement.{statement}
-use Rattle.compact_cut.proofs.few_entries.Tie as tie
+use Rattle.compact_constraints.proofs.Laws.{flags-down}
+use Rattle.compact_constraints.proofs.few_entries.Statement.{statement}
+use Rattle.compact_constraints.proofs.few_entries.Tie as tie
 
 slice-aggregate-entries-by : tie.Need-slice-aggregate-entries-by
 slice-aggregate-entries-by c = search needs

@@ -1,7 +1,7 @@
 use native.Mathlib.Omega.{arith}
 use borrow.Author.Needs.{needs}
-use Rattle.compact_cut.proofs.compact_a_entries.Statement.{statement}
-use Rattle.compact_cut.proofs.compact_a_entries.Tie as tie
+use Rattle.compact_constraints.proofs.compact_a_entries.Statement.{statement}
+use Rattle.compact_constraints.proofs.compact_a_entries.Tie as tie
 
 few-entries-requires : tie.Need-few-entries-requires
 few-entries-requires c κs =

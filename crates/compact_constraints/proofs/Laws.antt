@@ -25,7 +25,7 @@ use Rattle.augment_compact.specs.Cut.{tiedRows, cutRows, cutValues}
 use Rattle.augment_compact.specs.Places.{placed, CodesKnown, ColumnsRise}
 use Rattle.augment_compact.proofs.Cut.{cut-compact, tied-count}
 use Rattle.augment_compact.proofs.Places.{few-rows, accepted-starts, accepted-rise, accepted-known, accepted-placing}
-use Rattle.compact_cut.specs.Constraints.{completed, Accepted}
+use Rattle.compact_constraints.specs.Constraints.{completed, Accepted}
 
 -- flags just cleared are down, and there are enough for n rows
 pub flags-down : (n size : ℕ) → n ≤ 64 * size → size ≤ 4096 → Clear n (replicate size false)
@@ -49,9 +49,9 @@ module _ {p : Problem} (h : Accepted p) where
   pub few-augmented : blockRowCount (layout p) ≤ 262144
   few-augmented = omega (arith, codes-count, few-rows whole (h .accepted))
 
-  -- so many that the starts are small
-  pub few-starts : length (p .A .values) + 2 * overlapCount (layout p) ≤ 524288
-  few-starts =
+  -- the entries of the cut's A
+  pub few-cut-entries : length (p .A .values) + 2 * overlapCount (layout p) ≤ 524288
+  few-cut-entries =
       let tenth = and-iff (leb (blockRowCount (layout p)) 262144) (leb (overlapCount (layout p)) 131072) .0 (passed 0 9 (checks compact whole) (h .accepted) (lit< tt)) in
       omega (arith, few-entries compact whole (h .accepted), leb-iff (overlapCount (layout p)) 131072 .0 (tenth .1))
 

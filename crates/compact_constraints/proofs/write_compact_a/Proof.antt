@@ -4,17 +4,17 @@ use mathlib.Core.Path.{ap, _∙_}
 use mathlib.Core.List.{List}
 use Prim.Native.Nat.{ℕ}
 use Rattle.layout.specs.Lists.{written}
-use Rattle.compact_cut.proofs.Laws.{few-starts, starts-A}
-use Rattle.compact_cut.proofs.write_compact_a.Statement.{statement}
-use Rattle.compact_cut.proofs.write_compact_a.Tie as tie
+use Rattle.compact_constraints.proofs.Laws.{few-cut-entries, starts-A}
+use Rattle.compact_constraints.proofs.write_compact_a.Statement.{statement}
+use Rattle.compact_constraints.proofs.write_compact_a.Tie as tie
 
 cast-write-starts : tie.Need-cast-write-starts
-cast-write-starts c = let s = c .before .before .before .before .before .before .before .before .before .before .before in omega (arith, few-starts (s .pre .0))
+cast-write-starts c = let s = c .before .before .before .before .before .before .before .before .before .before .before in omega (arith, few-cut-entries (s .pre .0))
 
 write-starts-requires : tie.Need-write-starts-requires
 write-starts-requires c κs =
     let s = c .before .before .before .before .before .before .before .before .before .before .before in
-    (s .pre .1 .1 .0, omega (arith, few-starts (s .pre .0), s .pre .1 .0 .1))
+    (s .pre .1 .1 .0, omega (arith, few-cut-entries (s .pre .0), s .pre .1 .0 .1))
 
 compact-a-entries-requires : tie.Need-compact-a-entries-requires
 compact-a-entries-requires c κs =

@@ -16,9 +16,9 @@ use Rattle.columns.specs.Marks.{Placing, Clear}
 use Rattle.augment_compact.specs.Cut.{tiedRows, cutRows, cutValues}
 use Rattle.augment_compact.specs.Places.{placed, CodesKnown}
 use Rattle.augment.proofs.Laws.{front}
-use Rattle.compact_cut.proofs.Laws.{sound, codes-count, few-augmented, rows-inside, columns-right, codes-known, codes-placing, rows-room, values-b, rows-A, values-A}
-use Rattle.compact_cut.proofs.entries_by.Statement.{statement}
-use Rattle.compact_cut.proofs.entries_by.Tie as tie
+use Rattle.compact_constraints.proofs.Laws.{sound, codes-count, few-augmented, rows-inside, columns-right, codes-known, codes-placing, rows-room, values-b, rows-A, values-A}
+use Rattle.compact_constraints.proofs.entries_by.Statement.{statement}
+use Rattle.compact_constraints.proofs.entries_by.Tie as tie
 
 -- the codes of the augmented rows
 abbrev codes : tie.Start → List ℕ
