@@ -3,7 +3,7 @@
  * Each call returns 0 where it is done, and otherwise the number of the first check that fails; its outputs then hold
  * what they held. A slice is a pointer, never null, and a length; an output longer than its result keeps its rest.
  * No output may overlap another argument. Whatever the tables hold, a call reads and writes within their lengths and
- * ends. It needs about a megabyte of stack at most, and calls on several threads do not meet.
+ * ends. It fits a thread with 2 MB of stack, and calls on several threads do not meet.
  *
  * A route is 0 standard, 1 compact. The no-parent mark of a pattern, and the mark of a cone map's entry that has no
  * pattern, is CHORDAL_NONE.

@@ -190,6 +190,11 @@ fn places(d: &mut Draws) -> usize {
     1 + d.below(3).saturating_sub(d.below(2))
 }
 
+// what is damaged for check 10 is large, so it is seldom
+fn large(d: &mut Draws) -> bool {
+    d.below(10_000) == 0
+}
+
 fn route(d: &mut Draws) -> (u32, Route) {
     let route = ROUTES[d.below(2)];
     (if d.chance(2) { 2 + d.below(3) as u32 } else { route.code() }, route)
@@ -294,8 +299,7 @@ impl Soak {
                 0..=1 => short = d.below(outputs),
                 2 => scramble(d, &mut self.problem),
                 _ => {
-                    // what is damaged for check 10 is large, so it is seldom
-                    let check = if d.below(20_000) == 0 { 10 } else { 1 + d.below(9) };
+                    let check = if large(d) { 10 } else { 1 + d.below(9) };
                     random::damage(d, &mut self.problem, check);
                 }
             }
@@ -360,7 +364,7 @@ impl Soak {
                 2 => scramble(d, &mut self.problem),
                 3..=7 => random::damage_solution(d, &mut self.solution),
                 _ => {
-                    let check = [1, 4, 5, 6, 7, 8][d.below(6)];
+                    let check = if large(d) { 10 } else { [1, 4, 5, 6, 7, 8][d.below(6)] };
                     random::damage(d, &mut self.problem, check);
                 }
             }

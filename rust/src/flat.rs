@@ -2,7 +2,7 @@
 //!
 //! Anything at all may be passed: a call ends with its full result at the front of its outputs, the rest of a longer
 //! output being kept, or with a [`Refusal`] and outputs that hold what they held. Routes are numbers, 0 standard and 1
-//! compact. A call needs about a megabyte of stack at most.
+//! compact. A call fits a thread with 2 MB of stack.
 //!
 //! ```
 //! use tejiwakpa::{flat, Refusal};

@@ -14,8 +14,8 @@
 //! | [`same_layout`] | whether two problems are laid out alike |
 //!
 //! The code behind the calls is proved: given anything at all, a call ends with its full result or with one [`Refusal`].
-//! Each needs about a megabyte of stack at most, and calls on several threads do not meet. [`flat`] has the same calls
-//! over lent slices.
+//! Each fits a thread with 2 MB of stack, Rust's usual one, and calls on several threads do not meet. [`flat`] has the
+//! same calls over lent slices.
 //!
 //! ```
 //! use tejiwakpa::{cut, join, Clique, Columns, Cone, Pattern, Problem, Refusal, Route, Solution};
