@@ -1,71 +1,22 @@
--- Check 11 of the cut: its test place by place, the number that it gives after checks 1 to 10, and the room that the writers then have.
+-- What a cut that is not refused has: an accepted problem, and the room that the writers ask.
 use Prim.Native.Nat.{ℕ, zero, suc, _+_, _*_, _≤_, _<_}
-use native.Mathlib.Numerals.{add-one}
 use native.Mathlib.Omega.{arith}
-use mathlib.Core.Path.{_≡_, refl, sym, ap, subst, _∙_}
+use mathlib.Core.Path.{_≡_, refl, sym, ap, subst}
 use mathlib.Core.Bool.{Bool, true, false, cond}
 use mathlib.Core.List.{List, [], _∷_}
-use lib.ListN.{length, getD, drop, drop-of-length-le}
-use lib.Seq.{drop-cons}
+use lib.ListN.{length, getD}
 use lib.Dec.{T, leb, lit<}
-use borrow.Author.Tests.{le-leb, lt-leb}
+use Rattle.layout.specs.Lists.{written}
 use Rattle.layout.specs.Problem.{Problem, Route, standard, compact}
 use Rattle.layout.specs.Blocks.{blockRowCount, overlapCount}
 use Rattle.layout.specs.Checks.{layout, refusal}
 use Rattle.layout.specs.Compact.{compactCones, coneMap, mapWords}
 use Rattle.layout.specs.Standard.{standardCones}
-use Rattle.layout.specs.Lists.{written}
-use Rattle.layout.specs.Answers.{Augmented, augmented, orElse, onRoute, routeOf, roomy, sizes, sizesRefusal, cutRefusal}
+use Rattle.layout.specs.Answers.{Augmented, augmented, orElse, onRoute, routeOf, roomy, sizes, cutRefusal}
 use Rattle.layout.proofs.Tests.{and-iff, leb-iff}
 use Rattle.layout.proofs.Sizes.{coneCount}
 use Rattle.chordal_info.specs.Sizes.{routeSizes}
 use Rattle.chordal_info.proofs.Sizes.{route-sizes}
-
--- ---- the test, from place i on
-
-module _ (ks rs : List ℕ) (i : ℕ) (l : i < length ks) where
-  pub room-step : i < length rs → getD ks i 0 ≤ getD rs i 0 → roomy (drop i ks) (drop i rs) ≡ roomy (drop (i + 1) ks) (drop (i + 1) rs)
-  room-step h e = rw (add-one, drop-cons ks i 0 l, drop-cons rs i 0 h, le-leb (getD ks i 0) (getD rs i 0) e)
-
-  pub room-less : i < length rs → getD rs i 0 < getD ks i 0 → roomy (drop i ks) (drop i rs) ≡ false
-  room-less h e = rw (drop-cons ks i 0 l, drop-cons rs i 0 h, lt-leb (getD ks i 0) (getD rs i 0) e)
-
-  pub room-missing : length rs ≤ i → roomy (drop i ks) (drop i rs) ≡ false
-  room-missing h = rw (drop-cons ks i 0 l, drop-of-length-le rs h)
-
-pub room-done : (ks rs : List ℕ) (i : ℕ) → length ks ≤ i → roomy (drop i ks) (drop i rs) ≡ true
-room-done ks rs i h = rw (drop-of-length-le ks h)
-
-fits : (ks rs : List ℕ) (i : ℕ) → T (roomy ks rs) → i < length ks → getD ks i 0 ≤ getD rs i 0
-fits [] rs i h l = absurd (omega (arith, l))
-fits (k ∷ ks) [] i h l = absurd h
-fits (k ∷ ks) (r ∷ rs) zero h l = leb-iff k r .0 (and-iff (leb k r) (roomy ks rs) .0 h .0)
-fits (k ∷ ks) (r ∷ rs) (suc i) h l = fits ks rs i (and-iff (leb k r) (roomy ks rs) .0 h .1) (omega (arith, l))
-
--- ---- the number
-
--- a problem that the sizes refuse is refused by the same number
-after-sizes : (a : ℕ) (t : Bool) → (orElse a 0 ≡ 0 → ⊥) → orElse a (cond t 0 11) ≡ orElse a 0
-after-sizes zero t h = absurd (h refl)
-after-sizes (suc a) t h = refl
-
-pub sizes-first : (k : ℕ) (p : Problem) (rooms : List ℕ) → let first = onRoute k (λ rt. sizesRefusal rt p 11) in
-    (first ≡ 0 → ⊥) → first ≡ onRoute k (λ rt. cutRefusal rt p rooms)
-sizes-first zero p rooms h = sym (after-sizes (refusal standard p) (roomy (sizes standard p) rooms) h)
-sizes-first (suc zero) p rooms h = sym (after-sizes (refusal compact p) (roomy (sizes compact p) rooms) h)
-sizes-first (suc (suc k)) p rooms h = refl
-
-passed-first : (a : ℕ) (t : Bool) → orElse a 0 ≡ 0 → orElse a (cond t 0 11) ≡ cond t 0 11
-passed-first zero t h = refl
-passed-first (suc a) t h = absurd (omega arith)
-
-pub rooms-next : (k : ℕ) (p : Problem) (rooms : List ℕ) → onRoute k (λ rt. sizesRefusal rt p 11) ≡ 0
-    → onRoute k (λ rt. cutRefusal rt p rooms) ≡ cond (roomy (sizes (routeOf k) p) rooms) 0 11
-rooms-next zero p rooms h = passed-first (refusal standard p) (roomy (sizes standard p) rooms) h
-rooms-next (suc zero) p rooms h = passed-first (refusal compact p) (roomy (sizes compact p) rooms) h
-rooms-next (suc (suc k)) p rooms h = absurd (omega arith)
-
--- ---- what a cut that is not refused has
 
 abbrev pub Taken : Route → Problem → List ℕ → Type 0
 Taken route p rooms = (refusal route p ≡ 0) × T (roomy (sizes route p) rooms)
@@ -87,6 +38,12 @@ module _ {A : Type 0} (f : Augmented → List A) (p : Problem) (old : List A) wh
   by-route e = ap (λ (i : ℕ). written (f (augmented (routeOf i) p)) old) (sym e)
 
 -- ---- the room of the eleven outputs
+
+fits : (ks rs : List ℕ) (i : ℕ) → T (roomy ks rs) → i < length ks → getD ks i 0 ≤ getD rs i 0
+fits [] rs i h l = absurd (omega (arith, l))
+fits (k ∷ ks) [] i h l = absurd h
+fits (k ∷ ks) (r ∷ rs) zero h l = leb-iff k r .0 (and-iff (leb k r) (roomy ks rs) .0 h .0)
+fits (k ∷ ks) (r ∷ rs) (suc i) h l = fits ks rs i (and-iff (leb k r) (roomy ks rs) .0 h .1) (omega (arith, l))
 
 module _ (p : Problem) (rooms : List ℕ) where
   abbrev room : ℕ → ℕ

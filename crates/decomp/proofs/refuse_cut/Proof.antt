@@ -6,15 +6,15 @@ use lib.ListN.{length, replicate}
 use Rattle.layout.specs.Lists.{written}
 use Rattle.layout.specs.Problem.{Problem, problem}
 use Rattle.layout.specs.Answers.{output, onRoute, routeOf, roomy, sizes, sizesRefusal, cutRefusal}
-use Rattle.decomp_augment.proofs.Rooms.{sizes-first, rooms-next}
+use Rattle.decomp.proofs.Rooms.{sizes-first, rooms-next}
 use native.Mathlib.Omega.{arith}
 use borrow.Author.Needs.{needs}
-use Rattle.decomp_augment.proofs.refuse_cut.Statement.{statement}
-use Rattle.decomp_augment.proofs.refuse_cut.Tie as tie
-use Rattle.decomp_augment.proofs.refuse_cut.Reads as reads
-use Rattle.decomp_augment.proofs.refuse_cut.Lts as lts
+use Rattle.decomp.proofs.refuse_cut.Statement.{statement}
+use Rattle.decomp.proofs.refuse_cut.Tie as tie
+use Rattle.decomp.proofs.refuse_cut.Reads as reads
+use Rattle.decomp.proofs.refuse_cut.Lts as lts
 use Rattle.decomp.proofs.sizes.Reads as sizes-reads
-use Rattle.decomp_augment.proofs.rooms_right.Reads as rooms-right-reads
+use Rattle.decomp.proofs.rooms_right.Reads as rooms-right-reads
 
 abbrev given : tie.Start → Problem
 given s =

@@ -2,13 +2,13 @@ use Prim.Native.Nat.{_≤_, _-_}
 use mathlib.Core.Path.{_≡_, sym, _∙_}
 use lib.ListN.{length, drop}
 use Rattle.layout.specs.Answers.{roomy}
-use Rattle.decomp_augment.proofs.Rooms.{room-step, room-less, room-missing, room-done}
+use Rattle.decomp.proofs.Rooms.{room-step, room-less, room-missing, room-done}
 use native.Mathlib.Omega.{arith}
 use borrow.Author.Needs.{needs}
-use Rattle.decomp_augment.proofs.rooms_right.Statement.{statement}
-use Rattle.decomp_augment.proofs.rooms_right.Tie as tie
-use Rattle.decomp_augment.proofs.rooms_right.Reads as reads
-use Rattle.decomp_augment.proofs.rooms_right.Lts as lts
+use Rattle.decomp.proofs.rooms_right.Statement.{statement}
+use Rattle.decomp.proofs.rooms_right.Tie as tie
+use Rattle.decomp.proofs.rooms_right.Reads as reads
+use Rattle.decomp.proofs.rooms_right.Lts as lts
 
 abbrev Inv-loop : tie.InvT-loop
 Inv-loop ks rs i₀ i = (i ≤ length ks) × (roomy ks rs ≡ roomy (drop i ks) (drop i rs))
