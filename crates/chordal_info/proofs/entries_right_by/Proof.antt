@@ -11,7 +11,7 @@ use Rattle.layout.specs.Patterns.{patterns}
 use Rattle.layout.specs.Blocks.{parts}
 use Rattle.layout.specs.Checks.{coveredRows, valuesOn}
 use Rattle.layout.proofs.Members.{all-at}
-use Rattle.utils.proofs.Tests.{and-true, and-false}
+use Rattle.layout.proofs.Tests.{and-true, and-false}
 use Rattle.chordal_info.specs.Covered.{Below, marked, rowsMarked, valuesMarked}
 use Rattle.chordal_info.proofs.Marks.{cleared-rows, cleared-values}
 use native.Mathlib.Omega.{arith}

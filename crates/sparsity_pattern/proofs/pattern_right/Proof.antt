@@ -5,7 +5,7 @@ use lib.ListN.{length, take, drop}
 use borrow.Author.Tests.{not-true, not-false}
 use Rattle.layout.specs.Patterns.{read}
 use Rattle.layout.specs.Checks.{isPermutation}
-use Rattle.utils.proofs.Tests.{differ, and-true, and-false}
+use Rattle.layout.proofs.Tests.{differ, and-true, and-false}
 use Rattle.supernode_tree.specs.Reads.{patternRead, patternAt, headOf}
 use Rattle.supernode_tree.proofs.Words.{head-found}
 use Rattle.supernode_tree.proofs.Cliques.{no-pattern-whole, pattern-head}
