@@ -66,53 +66,82 @@ fn mark_block(vertices: &[u32], base: u32, covered: &mut [bool])
     }
 }
 
-// Marks the rows of the block of the clique at an offset.
-fn mark_clique(words: &[u32], ordering: &[u32], at: usize, base: u32, covered: &mut [bool])
+// Marks the rows of the block of the clique at an offset; its vertices are written to a buffer first.
+fn mark_clique(
+    words: &[u32],
+    ordering: &[u32],
+    at: usize,
+    base: u32,
+    vertices: &mut [u32],
+    covered: &mut [bool],
+)
     requires { ⌜ CliqueStands (now words) (now ordering) at ⌝ }
-    requires { ⌜ BlockFits base (length (now ordering)) (length (now covered)) ⌝ }
+    requires { ⌜ (256 ≤ length (now vertices)) × BlockFits base (length (now ordering)) (length (now covered)) ⌝ }
     ensures { λ _. ⌜ now (covered .exit) ≡ marked (rowsHere base (now (words .entry)) (now (ordering .entry)) at) (now (covered .entry)) ⌝ }
 {
-    let mut vertices = [0u32; 256];
-    let k = clique_vertices(words, ordering, at, &mut vertices);
+    let k = clique_vertices(words, ordering, at, &mut *vertices);
     mark_block(&vertices[..k], base, covered);
 }
 
 // The same of the cliques at some offsets, from last to first.
-fn mark_cliques(words: &[u32], ordering: &[u32], offsets: &[usize], base: u32, covered: &mut [bool])
+fn mark_cliques(
+    words: &[u32],
+    ordering: &[u32],
+    offsets: &[usize],
+    base: u32,
+    vertices: &mut [u32],
+    covered: &mut [bool],
+)
     requires { ⌜ Standing (now words) (now ordering) (now offsets) ⌝ }
-    requires { ⌜ BlockFits base (length (now ordering)) (length (now covered)) ⌝ }
+    requires { ⌜ (256 ≤ length (now vertices)) × BlockFits base (length (now ordering)) (length (now covered)) ⌝ }
     ensures { λ _. ⌜ now (covered .exit) ≡ marked (join (rowsHere base (now (words .entry)) (now (ordering .entry))) (reverse (now (offsets .entry)))) (now (covered .entry)) ⌝ }
 {
     let mut c = offsets.len();
     while 0 < c {
         c -= 1;
-        mark_clique(words, ordering, offsets[c], base, &mut *covered);
+        mark_clique(
+            words,
+            ordering,
+            offsets[c],
+            base,
+            &mut *vertices,
+            &mut *covered,
+        );
     }
 }
 
 // Marks the rows of the blocks of the pattern at an offset.
-fn mark_pattern(words: &[u32], at: usize, base: u32, covered: &mut [bool])
+fn mark_pattern(
+    words: &[u32],
+    at: usize,
+    base: u32,
+    offsets: &mut [usize],
+    vertices: &mut [u32],
+    covered: &mut [bool],
+)
     requires { ⌜ RightPattern (patternAt (now words) at) × (patternAt (now words) at .vertexCount ≤ 256) ⌝ }
+    requires { ⌜ (256 ≤ length (now offsets)) × (256 ≤ length (now vertices)) ⌝ }
     requires { ⌜ BlockFits base (patternAt (now words) at .vertexCount) (length (now covered)) ⌝ }
     ensures { λ _. ⌜ MarksPattern (patternAt (now (words .entry)) at) base (now (covered .entry)) (now (covered .exit)) ⌝ }
 {
     let PatternRead::Pattern(p) = Pattern::read(words, at) else {
         return;
     };
-    let mut offsets = [0usize; 256];
-    clique_offsets(words, p.cliques, p.clique_count, &mut offsets);
+    clique_offsets(words, p.cliques, p.clique_count, &mut *offsets);
     let a = p.ordering;
     let e = p.cliques;
     let k = p.clique_count as usize;
-    mark_cliques(words, &words[a..e], &offsets[..k], base, covered);
+    mark_cliques(words, &words[a..e], &offsets[..k], base, vertices, covered);
 }
 
-// Marks every row that stands on an augmented row.
+// Marks every row that stands on an augmented row; the buffers are made once for all patterns.
 fn mark_covered(m: u32, cones: &[u32], count: u32, words: &[u32], covered: &mut [bool])
     requires { ⌜ Sound m (now cones) count (now words) ⌝ }
     requires { ⌜ m ≤ length (now covered) ⌝ }
     ensures { λ _. ⌜ now (covered .exit) ≡ marked (coveredRows (parts (records (now (cones .entry))) (patterns count (now (words .entry))))) (now (covered .entry)) ⌝ }
 {
+    let mut offsets = [0usize; 256];
+    let mut vertices = [0u32; 256];
     let mut place = Place::start(m, cones, count, words);
     loop {
         let met = place.next(m, cones, words);
@@ -122,7 +151,14 @@ fn mark_covered(m: u32, cones: &[u32], count: u32, words: &[u32], covered: &mut 
                 place = next;
             }
             Met::Cut(at, next) => {
-                mark_pattern(words, at, place.row, &mut *covered);
+                mark_pattern(
+                    words,
+                    at,
+                    place.row,
+                    &mut offsets,
+                    &mut vertices,
+                    &mut *covered,
+                );
                 place = next;
             }
             Met::Done => {

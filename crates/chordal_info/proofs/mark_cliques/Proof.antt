@@ -15,18 +15,18 @@ use Rattle.chordal_info.proofs.mark_cliques.Lts as lts
 use Rattle.chordal_info.proofs.mark_clique.Reads as mark-clique-reads
 
 abbrev Inv-loop : tie.InvT-loop
-Inv-loop words ordering offsets base covered₀ c₀ covered c =
+Inv-loop words ordering offsets base vertices₀ covered₀ c₀ vertices covered c =
     let f = rowsHere base words ordering in
-    (c ≤ length offsets) × (length covered ≡ length covered₀)
+    (c ≤ length offsets) × (length vertices ≡ length vertices₀) × (length covered ≡ length covered₀)
     × (marked (join f (reverse (take c offsets))) covered ≡ marked (join f (reverse offsets)) covered₀)
 
 abbrev μ-loop : tie.MeasureT-loop
-μ-loop words ordering offsets base covered₀ c₀ covered c = c
+μ-loop words ordering offsets base vertices₀ covered₀ c₀ vertices covered c = c
 
 loop-holds : tie.Need-loop-holds Inv-loop μ-loop
 loop-holds c =
-    let a = c .before .before .before .before .args in
-    (omega arith, refl, down-start (rowsHere (a .base) (a .words .now) (a .ordering .now)) (a .offsets .now) (a .covered .now))
+    let a = c .before .before .before .before .before .args in
+    (omega arith, refl, refl, down-start (rowsHere (a .base) (a .words .now) (a .ordering .now)) (a .offsets .now) (a .covered .now))
 
 sub-c : tie.Need-sub-c Inv-loop μ-loop
 sub-c c = search needs
@@ -39,33 +39,37 @@ shared-slice-read-mark-clique c = search needs
 
 mark-clique-requires : tie.Need-mark-clique-requires Inv-loop μ-loop
 mark-clique-requires c κs =
-    let l = c .before .before .before in
-    let s = l .before .before .before .before .before in
-    (s .pre .0 (l .loop .c - 1) (omega arith), omega (arith, s .pre .1, l .loop .inv .1))
+    let l = c .before .before .before .before in
+    let s = l .before .before .before .before .before .before in
+    (s .pre .0 (l .loop .c - 1) (omega arith), omega (arith, s .pre .1, l .loop .inv .1, l .loop .inv .2))
 
 loop-less : tie.Need-loop-less Inv-loop μ-loop
 loop-less c = search needs
 
 loop-again : tie.Need-loop-again Inv-loop μ-loop
 loop-again c =
-    let m = c .before .before in
-    let l = m .before .before .before .before in
-    let a = l .before .before .before .before .before .args in (
+    let m = c .before .before .before .before in
+    let l = m .before .before .before .before .before in
+    let a = l .before .before .before .before .before .before .args in (
       omega arith,
       m .mark-clique .kept .1 .1 .1 .1 .0 ∙ l .loop .inv .1,
+      m .mark-clique .kept .1 .1 .1 .1 .1 .0 ∙ l .loop .inv .2,
       ap (marked (join (rowsHere (a .base) (a .words .now) (a .ordering .now)) (reverse (take (l .loop .c - 1) (a .offsets .now))))) (m .mark-clique .ensures)
           ∙ sym (down-step (rowsHere (a .base) (a .words .now) (a .ordering .now)) (a .offsets .now) (l .loop .c) (l .loop .covered) (omega arith) (omega arith))
-          ∙ l .loop .inv .2,
+          ∙ l .loop .inv .3,
     )
 
 same-length : tie.Need-same-length Inv-loop μ-loop
 same-length c = c .before .loop .inv .1
 
+same-length-2 : tie.Need-same-length-2 Inv-loop μ-loop
+same-length-2 c = c .before .loop .inv .2
+
 returns : tie.Need-returns Inv-loop μ-loop
 returns c =
     let l = c .before in
-    let a = l .before .before .before .before .before .args in
-    sym (down-done (rowsHere (a .base) (a .words .now) (a .ordering .now)) (a .offsets .now) (l .loop .c) (l .loop .covered) (omega arith)) ∙ l .loop .inv .2
+    let a = l .before .before .before .before .before .before .args in
+    sym (down-done (rowsHere (a .base) (a .words .now) (a .ordering .now)) (a .offsets .now) (l .loop .c) (l .loop .covered) (omega arith)) ∙ l .loop .inv .3
 
 pub mark-cliques-spec : {M : Type 1} → statement M
 mark-cliques-spec =
@@ -81,4 +85,5 @@ mark-cliques-spec =
     loop-less
     loop-again
     same-length
+    same-length-2
     returns)

@@ -24,12 +24,13 @@ use Rattle.parts.proofs.Place.next.Reads as next-reads
 use Rattle.parts.proofs.Place.start.Reads as start-reads
 
 abbrev Inv-loop : tie.InvT-loop
-Inv-loop m cones count words covered₀ place₀ covered place =
+Inv-loop m cones count words covered₀ offsets₀ vertices₀ place₀ covered offsets vertices place =
     Stands m cones words place × (length covered ≡ length covered₀)
     × (marked (join partRows (ahead cones words place)) covered ≡ marked (coveredRows (parts (records cones) (patterns count words))) covered₀)
+    × (length offsets ≡ 256) × (length vertices ≡ 256)
 
 abbrev μ-loop : tie.MeasureT-loop
-μ-loop m cones count words covered₀ place₀ covered place = length (ahead cones words place)
+μ-loop m cones count words covered₀ offsets₀ vertices₀ place₀ covered offsets vertices place = length (ahead cones words place)
 
 -- a whole cone was met
 whole-meets : (k : tie.After-met Inv-loop μ-loop)
@@ -82,6 +83,8 @@ loop-holds c =
       refl,
       ap (λ (ps : List Part). marked (join partRows ps) (a .covered .now)) (c .start .ensures .0)
           ∙ ap (λ (os : List ℕ). marked os (a .covered .now)) (sym (covered-parts (s .pre .0))),
+      refl,
+      refl,
     )
 
 next-requires : tie.Need-next-requires Inv-loop μ-loop
@@ -115,36 +118,48 @@ loop-again c =
           (ahead cones words (k .met .given .0 .1 .0)) (upFrom (at .row) (k .met .given .0 .0)) (l .loop .covered) (whole-meets k)
           (ap (upFrom (at .row)) (whole-knows k .0))
           ∙ l .loop .inv .2,
+      l .loop .inv .3,
+      l .loop .inv .4,
     )
 
 enum-known-met-2 : tie.Need-enum-known-met-2 Inv-loop μ-loop
 enum-known-met-2 c = search needs
 
+slice-aggregate-mark-pattern : tie.Need-slice-aggregate-mark-pattern Inv-loop μ-loop
+slice-aggregate-mark-pattern c = search needs
+
+slice-aggregate-mark-pattern-2 : tie.Need-slice-aggregate-mark-pattern-2 Inv-loop μ-loop
+slice-aggregate-mark-pattern-2 c = search needs
+
 mark-pattern-requires : tie.Need-mark-pattern-requires Inv-loop μ-loop
 mark-pattern-requires c κs =
-    let k = c .before .before in
+    let k = c .before .before .before .before in
     let l = k .before .before .before in
-    let s = l .before .before .before .before .before in
-    ((cut-knows k .1, cut-knows k .2), omega (arith, cut-knows k .3, l .loop .inv .0 .few, l .loop .inv .1, s .pre .1))
+    let s = l .before .before .before .before .before in (
+      (cut-knows k .1, cut-knows k .2),
+      (omega (arith, l .loop .inv .3, l .loop .inv .4), omega (arith, cut-knows k .3, l .loop .inv .0 .few, l .loop .inv .1, s .pre .1)),
+    )
 
 loop-less-2 : tie.Need-loop-less-2 Inv-loop μ-loop
-loop-less-2 c = omega (arith, ap length (cut-meets (c .before .before .before .before .before)))
+loop-less-2 c = omega (arith, ap length (cut-meets (c .before .before .before .before .before .before .before .before .before)))
 
 loop-again-2 : tie.Need-loop-again-2 Inv-loop μ-loop
 loop-again-2 c =
-    let r = c .before .before in
-    let k = r .before .before .before in
+    let r = c .before .before .before .before in
+    let k = r .before .before .before .before .before in
     let l = k .before .before .before in
     let cones = l .before .before .before .before .before .args .cones .now in
     let words = l .before .before .before .before .before .args .words .now in
     let at = l .loop .place in
     let p = patternAt words (k .met2 .given .0 .0) in (
       cut-knows k .6,
-      r .mark-pattern .kept .1 .1 .1 .0 ∙ l .loop .inv .1,
+      r .mark-pattern .kept .1 .1 .1 .1 .1 .0 ∙ l .loop .inv .1,
       ap (marked (join partRows (ahead cones words (k .met2 .given .0 .1 .0)))) (r .mark-pattern .ensures 0)
           ∙ part-step (cut (at .cone) (at .row) (at .pattern) p) (ahead cones words at)
           (ahead cones words (k .met2 .given .0 .1 .0)) (map originalRow (patternRows p (at .row) 0)) (l .loop .covered) (cut-meets k) refl
           ∙ l .loop .inv .2,
+      r .mark-pattern .kept .1 .1 .1 .0 ∙ l .loop .inv .3,
+      r .mark-pattern .kept .1 .1 .1 .1 .0 ∙ l .loop .inv .4,
     )
 
 enum-told : tie.Need-enum-told Inv-loop μ-loop
@@ -175,6 +190,8 @@ mark-covered-spec =
     loop-less
     loop-again
     enum-known-met-2
+    slice-aggregate-mark-pattern
+    slice-aggregate-mark-pattern-2
     mark-pattern-requires
     loop-less-2
     loop-again-2
