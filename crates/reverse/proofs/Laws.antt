@@ -1,93 +1,45 @@
--- The rows of H lie below m; a buffer's front that was written or lent.
+-- Parts of buffers that were lent and written, and the counts of the standard route.
 use Prim.Native.Nat.{ℕ, _+_, _-_, _≤_, _<_}
 use native.Mathlib.Omega.{arith}
-use mathlib.Core.Path.{_≡_, sym, ap, _∙_}
-use mathlib.Core.Logic.{inl, inr}
-use mathlib.Core.List.{List, [], _∷_, _++_, map}
-use lib.ListN.{length, getD, take, drop, length-drop}
-use lib.Seq.{take-all, length-take-le}
-use lib.Dec.{T}
-use Rattle.layout.specs.Lists.{has, below, join, sum, upFrom, written}
-use Rattle.layout.specs.Triangle.{triangle}
-use Rattle.layout.specs.Cones.{rowCount}
-use Rattle.layout.specs.Patterns.{Pattern, cliqueAt, cliqueCount, members}
-use Rattle.layout.specs.Blocks.{Part, whole, cut, pair, pairRow, block, standardRows}
-use Rattle.layout.specs.Checks.{Sound}
-use Rattle.layout.specs.Answers.{joinedParts}
-use Rattle.layout.proofs.Buffers.{take-written}
-use Rattle.layout.proofs.Members.{has-append, has-getD, has-join, has-map, has-upFrom}
-use Rattle.layout.proofs.Triangles.{triangle-column, pairIndex-le}
-use Rattle.layout.proofs.Originals.{sorted-rises, sorted-bounded}
-use Rattle.layout.proofs.Cliques.{cliqueVertices}
-use Rattle.layout.proofs.Pairs.{pair-entry}
-use Rattle.layout.proofs.Laid.{Laid, coneRows, sound-laid, sound-total}
-use Rattle.layout.proofs.Starts.{length-written}
-use Rattle.reverse_standard.specs.Averages.{Below}
-
--- ---- the rows of H
-
--- those of a pattern's blocks are rows of its cone
-block-below : (p : Pattern) (base o : ℕ) → T (has o (join (λ c. map (pairRow base) (block p c)) (below (cliqueCount p))))
-    → o < base + triangle (p .vertexCount)
-block-below p base o h =
-    let (k, _, here) = has-join 0 (λ c. map (pairRow base) (block p c)) o (below (cliqueCount p)) .0 h in
-    at-clique (getD (below (cliqueCount p)) k 0) here
-  where
-    at-clique : (c : ℕ) → T (has o (map (pairRow base) (block p c))) → o < base + triangle (p .vertexCount)
-    at-clique c here =
-        let (t, l, e) = has-map (pair 0 0) (pairRow base) o (block p c) .0 here in
-        let (i, j, hi, hj, le, q, _) = pair-entry (cliqueVertices p c) t (pair 0 0) (sorted-rises p (members (cliqueAt p c))) l in
-        omega (
-          arith,
-          e ∙ ap (pairRow base) q,
-          pairIndex-le i j le,
-          triangle-column i j (p .vertexCount) le (sorted-bounded p (members (cliqueAt p c)) j hj),
-        )
-
-rows-below : (row : ℕ) (ps : List Part) → Laid row ps → (o : ℕ) → T (has o (standardRows ps)) → o < row + sum (map coneRows ps)
-rows-below row [] laid o h = absurd h
-rows-below row (whole i c r ∷ ps) laid o h = elim (has-append o (upFrom r (rowCount c)) (standardRows ps) .0 h) [
-  | inl k ↦ omega (arith, has-upFrom o r (rowCount c) .0 k, laid .0)
-  | inr k ↦ omega (arith, rows-below (row + rowCount c) ps (laid .1) o k)
-]
-rows-below row (cut i r k p ∷ ps) laid o h =
-    elim (has-append o (join (λ c. map (pairRow r) (block p c)) (below (cliqueCount p))) (standardRows ps) .0 h) [
-      | inl k ↦ omega (arith, block-below p r o k, laid .0)
-      | inr k ↦ omega (arith, rows-below (row + triangle (p .vertexCount)) ps (laid .2) o k)
-    ]
-
-pub standard-inside : {m : ℕ} {cones : List ℕ} {count : ℕ} {words : List ℕ} → Sound m cones count words
-    → Below m (standardRows (joinedParts cones count words))
-standard-inside {m} {cones} {count} {words} h k l =
-    let ps = joinedParts cones count words in
-    omega (arith, rows-below 0 ps (sound-laid h .0) (getD (standardRows ps) k 0) (has-getD (standardRows ps) k 0 l), sound-total h)
+use mathlib.Core.Path.{_≡_, refl, sym, ap, _∙_}
+use mathlib.Core.Bool.{Bool, true, false}
+use mathlib.Core.List.{List, _++_, map}
+use lib.ListN.{length, getD, take, drop, length-drop, length-map}
+use lib.Seq.{take-all}
+use lib.Ieee.{Float, add, binary64}
+use Rattle.layout.specs.Lists.{below}
+use Rattle.layout.specs.Problem.{zero64}
+use Rattle.layout.specs.Reverse.{columnCount}
+use Rattle.reverse_standard.proofs.Laws.{averages}
+use Rattle.reverse_blocks.specs.Joins.{Counts, Countable}
+use Rattle.reverse.specs.Parts.{wholeValues, zAveraged, zAveragedBy, writtenAt, CountsRows, Cleared}
 
 -- ---- parts of buffers
 
--- the first k numbers of ws are rows
-pub record Front (rows ws : List ℕ) (k : ℕ) : Type 0 where
-  pub is : take k ws ≡ rows
-  pub size : k ≡ length (take k ws)
-  pub inside : k ≤ length ws
+-- n values from `at` on were lent, and a call replaced all of them
+pub replaced : (ys old : List Float) (at n : ℕ) → length ys ≡ n → take at old ++ (ys ++ drop n (drop at old)) ≡ writtenAt at ys old
+replaced ys old at n e = ap (λ (k : ℕ). take at old ++ (ys ++ drop k (drop at old))) (sym e)
 
--- a call wrote rows to the front of old, which then was ws, and says how many they are
-pub front-written : (rows old ws : List ℕ) (k : ℕ) → length rows ≤ length old → k ≡ length rows → ws ≡ written rows old → Front rows ws k
-front-written rows old ws k room e f =
-    let front : take k ws ≡ rows = rw (e, f) (take-written rows old) in
-    record {
-      is = front;
-      size = e ∙ sym (ap length front);
-      inside = omega (arith, ap length f, length-written rows old room);
-    }
+-- all that is after the first m
+pub rest-whole : (m : ℕ) (xs : List Float) → take (length xs - m) (drop m xs) ≡ drop m xs
+rest-whole m xs = take-all (length xs - m) (drop m xs) (omega (arith, length-drop m xs))
 
-module _ {A : Type 0} where
-  -- all that is after the first m
-  pub rest-whole : (m : ℕ) (xs : List A) → take (length xs - m) (drop m xs) ≡ drop m xs
-  rest-whole m xs = take-all (length xs - m) (drop m xs) (omega (arith, length-drop m xs))
+pub length-whole : (standard : Bool) (vs : List Float) → length (wholeValues standard vs) ≡ length vs
+length-whole true vs = length-map vs (add binary64 zero64)
+length-whole false vs = refl
 
-  -- the first m were lent, and a call left ys there: what f says of their number
-  pub front-lent : (f : ℕ → List A) (ys old : List A) (m : ℕ) → m ≤ length old → length ys ≡ length (take m old)
-      → ys ≡ f (length (take m old)) → ys ++ drop m old ≡ written (f m) old
-  front-lent f ys old m room size e =
-      let lent : length (take m old) ≡ m = length-take-le m old room in
-      ap (λ (k : ℕ). ys ++ drop k old) (sym (size ∙ lent)) ∙ ap (λ (xs : List A). written xs old) (e ∙ ap f lent)
+-- ---- counts
+
+pub rows-kept : (standard : Bool) (n m : ℕ) (a b : List ℕ) → m ≤ n → length b ≡ length a → CountsRows standard n a → CountsRows standard m b
+rows-kept true n m a b h e room = omega (arith, room)
+rows-kept false n m a b h e room = tt
+
+pub countable : (standard : Bool) (n k : ℕ) (counts : List ℕ) → k ≤ 262144 → CountsRows standard n counts → Cleared standard n counts → Countable standard n k counts
+countable true n k counts h room clear = (room, λ o l. omega (arith, clear o l))
+countable false n k counts h room clear = tt
+
+-- the counts of os are in the table
+pub averaged-by : (standard : Bool) (os before counts : List ℕ) (ws : List Float) → CountsRows standard (length ws) counts → Cleared standard (length ws) before
+    → Counts standard os before counts → zAveragedBy standard counts ws ≡ zAveraged standard os ws
+averaged-by true os before counts ws room clear c = averages os counts ws (λ o l. omega (arith, c o (omega (arith, room)), clear o l))
+averaged-by false os before counts ws room clear c = refl

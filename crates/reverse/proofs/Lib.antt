@@ -1,1 +1,5 @@
 pub mod Laws
+pub mod Stretch
+pub mod Parts
+pub mod Averages
+pub mod Walk

@@ -1,3 +1,8 @@
+use mathlib.Core.Path.{ap, sym, _∙_}
+use mathlib.Core.List.{List}
+use lib.Ieee.{Float}
+use Rattle.layout.specs.Lists.{written}
+use Rattle.reverse.proofs.Walk.{compact-s, compact-z}
 use native.Mathlib.Omega.{arith}
 use borrow.Author.Needs.{needs}
 use Rattle.reverse.proofs.decomp_reverse_compact.Statement.{statement}
@@ -6,13 +11,14 @@ use Rattle.reverse.proofs.decomp_reverse_compact.Tie as tie
 copy-x-requires : tie.Need-copy-x-requires
 copy-x-requires c κs = search needs
 
-compact-few-requires : tie.Need-compact-few-requires
-compact-few-requires c κs =
-    let s = c .before .before .before .before .before .before .before .before .before .before .before .before .before .before .before in
-    (s .pre .0, (omega (arith, s .pre .0 .slacks), (s .pre .1 .2, s .pre .1 .3)))
+slice-aggregate-join-parts : tie.Need-slice-aggregate-join-parts
+slice-aggregate-join-parts c = search needs
 
-compact-many-requires : tie.Need-compact-many-requires
-compact-many-requires c κs = search needs
+join-parts-requires : tie.Need-join-parts-requires
+join-parts-requires c κs =
+    let s = c .before .before .before .before .before .before .before .before .before .before .before .before .before .before .before in
+    let j = s .pre .0 in
+    ((j .sound, j .few), ((j .slacks, omega (arith, j .slacks, j .duals)), (s .pre .1 .2, s .pre .1 .3, tt)))
 
 same-length : tie.Need-same-length
 same-length c = search needs
@@ -24,32 +30,27 @@ same-length-3 : tie.Need-same-length-3
 same-length-3 c = search needs
 
 returns : tie.Need-returns
-returns c = search needs
-
-same-length-4 : tie.Need-same-length-4
-same-length-4 c = search needs
-
-same-length-5 : tie.Need-same-length-5
-same-length-5 c = search needs
-
-same-length-6 : tie.Need-same-length-6
-same-length-6 c = search needs
-
-returns-2 : tie.Need-returns-2
-returns-2 c = search needs
+returns c =
+    let w = c .before .before .before .before .before in
+    let x = w .before .before .before .before .before .before in
+    let s = x .before .before .before .before .before .before .before .before .before .before in
+    let a = s .args in
+    let j = s .pre .0 in (
+      x .copy-x .ensures,
+      (
+        w .join-parts .ensures .0 ∙ ap (λ (xs : List Float). written xs (a .s-out .now)) (compact-s (j .sound) (a .s .now) (omega (arith, j .slacks))),
+        w .join-parts .ensures .1 ∙ ap (λ (xs : List Float). written xs (a .z-out .now)) (compact-z (j .sound) (a .z .now) (omega (arith, j .duals))),
+      ),
+    )
 
 pub decomp-reverse-compact-spec : {M : Type 1} → statement M
 decomp-reverse-compact-spec =
     tie.close
     (tie.spec
     copy-x-requires
-    compact-few-requires
-    compact-many-requires
+    slice-aggregate-join-parts
+    join-parts-requires
     same-length
     same-length-2
     same-length-3
-    returns
-    same-length-4
-    same-length-5
-    same-length-6
-    returns-2)
+    returns)

@@ -1,17 +1,17 @@
 use Prim.Native.Nat.{ℕ}
-use native.Mathlib.Omega.{arith}
 use lib.ListN.{length-replicate}
+use native.Mathlib.Omega.{arith}
 use borrow.Author.Needs.{needs}
 use Rattle.reverse.proofs.standard_many.Statement.{statement}
 use Rattle.reverse.proofs.standard_many.Tie as tie
 
-slice-aggregate-standard-s-and-z : tie.Need-slice-aggregate-standard-s-and-z
-slice-aggregate-standard-s-and-z c = search needs
+slice-aggregate-standard-by : tie.Need-slice-aggregate-standard-by
+slice-aggregate-standard-by c = search needs
 
-standard-s-and-z-requires : tie.Need-standard-s-and-z-requires
-standard-s-and-z-requires c κs =
+standard-by-requires : tie.Need-standard-by-requires
+standard-by-requires c κs =
     let s = c .before .before .before .before .before .before .before .before .before in
-    (s .pre .0, (omega (arith, s .pre .0 .few, length-replicate {A = ℕ} 262144 0), s .pre .1))
+    (s .pre .0, (s .pre .1 .0, s .pre .1 .1, λ n h g. omega (arith, length-replicate {A = ℕ} 32896 0)))
 
 same-length : tie.Need-same-length
 same-length c = search needs
@@ -25,9 +25,4 @@ returns c = search needs
 pub standard-many-spec : {M : Type 1} → statement M
 standard-many-spec =
     tie.close
-    (tie.spec
-    slice-aggregate-standard-s-and-z
-    standard-s-and-z-requires
-    same-length
-    same-length-2
-    returns)
+    (tie.spec slice-aggregate-standard-by standard-by-requires same-length same-length-2 returns)

@@ -1,0 +1,116 @@
+-- One output as the cones are walked, and what it holds at the end.
+use Prim.Native.Nat.{ℕ, _+_, _-_, _≤_, _<_}
+use native.Mathlib.Omega.{arith}
+use mathlib.Core.Path.{_≡_, refl, sym, ap, ap₂, _∙_}
+use mathlib.Core.Bool.{true, false}
+use mathlib.Core.List.{List, [], _∷_, _++_, map, append-assoc}
+use lib.ListN.{length, getD, take, drop, replicate, length-append, length-drop, take-append-drop}
+use lib.Seq.{length-take-le, take-at, take-append-add, drop-append-add, drop-drop}
+use lib.Ieee.{Float, nan}
+use Rattle.layout.specs.Lists.{sum, below, written}
+use Rattle.layout.specs.Problem.{zero64}
+use Rattle.layout.specs.Blocks.{Part, partRows, compactRows, standardRows, blockRowCount}
+use Rattle.layout.specs.Checks.{Sound}
+use Rattle.layout.specs.Answers.{joinedParts}
+use Rattle.layout.specs.Reverse.{addRows, putRows, addColumns, columnCount, averaged}
+use Rattle.layout.proofs.Keeps.{append-nil}
+use Rattle.layout.proofs.Joins.{map-same}
+use Rattle.layout.proofs.Starts.{length-written}
+use Rattle.layout.proofs.Laid.{coneRows, sound-laid, sound-total}
+use Rattle.reverse_standard.specs.Averages.{shared}
+use Rattle.reverse.specs.Parts.{sPart, zPart, valuesFrom, writtenAt}
+use Rattle.reverse.proofs.Parts.{zeros, s-standard, s-compact, z-compact}
+use Rattle.reverse.proofs.Averages.{z-standard}
+
+-- ---- the walk: the rows before `row` are joined, those of the parts ahead are still to come, and nothing from m on is written
+
+pub record Joins (f : Part → List Float → List Float) (m : ℕ) (full vs old : List Float) (ahead : List Part) (row t : ℕ) (out : List Float) : Type 0 where
+  pub size : length out ≡ length old
+  pub front : take row out ++ valuesFrom f ahead (drop t vs) ≡ full
+  pub rest : drop m out ≡ drop m old
+
+module _ (f : Part → List Float → List Float) (m : ℕ) (vs old : List Float) (room : m ≤ length old) where
+  pub joins-none : (ps : List Part) → Joins f m (valuesFrom f ps vs) vs old ps 0 0 old
+  joins-none ps = record { size = refl; front = refl; rest = refl }
+
+  -- the next part's rows were joined
+  pub joins-more : (full : List Float) (x : Part) (ps ahead : List Part) (row t n k : ℕ) (out new : List Float) → Joins f m full vs old ahead row t out → ahead ≡ x ∷ ps
+      → row + n ≤ m → k ≡ partRows x → length (f x (drop t vs)) ≡ n → new ≡ writtenAt row (f x (drop t vs)) out → Joins f m full vs old ps (row + n) (t + k) new
+  joins-more full x ps ahead row t n k out new h e fits used wide w = record {
+    size = ap length w ∙ length-append A (written xs (drop row out)) ∙ omega (arith, before, length-written xs (drop row out) (omega (arith, behind)), behind, h .size);
+    front =
+        ap (λ (r : List Float). r ++ later (drop (t + k) vs)) (ap (take (row + n)) w ∙ joined)
+        ∙ append-assoc A xs (later (drop (t + k) vs))
+        ∙ ap (λ (r : List Float). A ++ (xs ++ later r)) (sym (drop-drop k t vs) ∙ ap (λ (j : ℕ). drop j (drop t vs)) used)
+        ∙ ap (λ (qs : List Part). A ++ valuesFrom f qs (drop t vs)) (sym e) ∙ h .front;
+    rest = ap (drop m) w ∙ kept ∙ h .rest;
+  }
+    where
+      xs : List Float
+      xs = f x (drop t vs)
+
+      A : List Float
+      A = take row out
+
+      later : List Float → List Float
+      later = valuesFrom f ps
+
+      before : length A ≡ row
+      before = length-take-le row out (omega (arith, h .size))
+
+      behind : length (drop row out) ≡ length out - row
+      behind = length-drop row out
+
+      joined : take (row + n) (writtenAt row xs out) ≡ A ++ xs
+      joined =
+          ap (λ (k : ℕ). take (k + n) (A ++ written xs (drop row out))) (sym before) ∙ take-append-add A (written xs (drop row out)) n
+          ∙ ap (λ (r : List Float). A ++ r) (take-at xs (drop (length xs) (drop row out)) n wide)
+
+      kept : drop m (writtenAt row xs out) ≡ drop m out
+      kept =
+          let d : ℕ = m - (row + n) in
+          let one : m ≡ length A + (n + d) = omega (arith, before) in
+          let two : n + d ≡ length xs + d = omega (arith, wide) in
+          let three : row + (length xs + d) ≡ m = omega (arith, wide) in
+          ap (λ (k : ℕ). drop k (A ++ written xs (drop row out))) one ∙ drop-append-add A (written xs (drop row out)) (n + d)
+          ∙ ap (λ (k : ℕ). drop k (written xs (drop row out))) two ∙ drop-append-add xs (drop (length xs) (drop row out)) d
+          ∙ drop-drop d (length xs) (drop row out) ∙ drop-drop (length xs + d) row out
+          ∙ ap (λ (k : ℕ). drop k out) three
+
+  -- no part is left
+  pub joins-done : (full : List Float) (ahead : List Part) (row t : ℕ) (out : List Float) → Joins f m full vs old ahead row t out → ahead ≡ [] → row ≡ m
+      → out ≡ written full old
+  joins-done full ahead row t out h e r =
+      let all : take m out ≡ full =
+      sym (append-nil (take m out)) ∙ ap (λ (k : ℕ). take k out ++ []) (sym r) ∙ ap (λ (qs : List Part). take row out ++ valuesFrom f qs (drop t vs)) (sym e) ∙ h .front in
+      let wide : m ≡ length full = sym (length-take-le m out (omega (arith, h .size))) ∙ ap length all in
+      sym (take-append-drop m out) ∙ ap₂ _++_ all (h .rest ∙ ap (λ (k : ℕ). drop k old) wide)
+
+-- ---- the values of a sound problem's parts are those of the layout
+
+module _ {m : ℕ} {cones : List ℕ} {count : ℕ} {words : List ℕ} (h : Sound m cones count words) (vs : List Float)
+    (room : blockRowCount (joinedParts cones count words) ≤ length vs) where
+  abbrev ps : List Part
+  ps = joinedParts cones count words
+
+  rows : sum (map coneRows ps) ≡ m
+  rows = sound-total h
+
+  pub standard-s : valuesFrom (sPart true) (joinedParts cones count words) vs ≡ addColumns (standardRows (joinedParts cones count words)) vs (replicate m zero64)
+  standard-s = sym (s-standard 0 ps (sound-laid h .0) vs [] refl room) ∙ ap (λ (n : ℕ). addColumns (standardRows ps) vs (zeros n)) rows
+
+  pub standard-z : valuesFrom (zPart true) (joinedParts cones count words) vs
+      ≡ map (averaged (standardRows (joinedParts cones count words)) (addColumns (standardRows (joinedParts cones count words)) vs (replicate m zero64))) (below m)
+  standard-z =
+      let os = standardRows ps in
+      let ws = valuesFrom (sPart true) ps vs in
+      sym (z-standard 0 ps (sound-laid h .0) vs room)
+      ∙ map-same (λ o. shared (columnCount os (0 + o)) (getD ws o nan)) (averaged os ws) (below (sum (map coneRows ps)))
+      (λ o k. let e : 0 + o ≡ o = omega arith in ap (λ (q : ℕ). shared (columnCount os q) (getD ws o nan)) e)
+      ∙ ap₂ (λ (xs : List Float) (n : ℕ). map (averaged os xs) (below n)) standard-s rows
+
+  pub compact-s : valuesFrom (sPart false) (joinedParts cones count words) vs ≡ addRows (compactRows (joinedParts cones count words)) vs (replicate m zero64)
+  compact-s = sym (s-compact 0 0 ps (sound-laid h .0) vs [] refl room) ∙ ap (λ (n : ℕ). addRows (compactRows ps) vs (zeros n)) rows
+
+  pub compact-z : valuesFrom (zPart false) (joinedParts cones count words) vs ≡ putRows (compactRows (joinedParts cones count words)) vs (replicate m zero64)
+  compact-z = sym (z-compact 0 0 ps (sound-laid h .0) vs [] refl room) ∙ ap (λ (n : ℕ). putRows (compactRows ps) vs (zeros n)) rows

@@ -1,0 +1,40 @@
+use mathlib.Core.Path.{ap, sym, _∙_}
+use mathlib.Core.Bool.{Bool}
+use mathlib.Core.List.{List, _++_}
+use lib.ListN.{length, drop-of-length-le}
+use lib.Ieee.{Float}
+use Rattle.layout.proofs.Keeps.{append-nil}
+use Rattle.reverse.specs.Parts.{wholeValues}
+use native.Mathlib.Omega.{arith}
+use borrow.Author.Needs.{needs}
+use Rattle.reverse.proofs.whole_values.Statement.{statement}
+use Rattle.reverse.proofs.whole_values.Tie as tie
+
+sum-rows-requires : tie.Need-sum-rows-requires
+sum-rows-requires c κs = search needs
+
+copy-values-requires : tie.Need-copy-values-requires
+copy-values-requires c κs = search needs
+
+same-length : tie.Need-same-length
+same-length c = search needs
+
+returns : tie.Need-returns
+returns c = search needs
+
+same-length-2 : tie.Need-same-length-2
+same-length-2 c = search needs
+
+returns-2 : tie.Need-returns-2
+returns-2 c =
+    let e = c .before .before .before .before in
+    let s = e .before .before .before in
+    let vs = s .args .values .now in
+    c .before .before .copy-values .ensures
+    ∙ ap (λ (r : List Float). vs ++ r) (drop-of-length-le (s .args .out .now) {i = length vs} (omega (arith, s .pre))) ∙ append-nil vs
+    ∙ ap (λ (b : Bool). wholeValues b vs) (sym (e .if1 .left))
+
+pub whole-values-spec : {M : Type 1} → statement M
+whole-values-spec =
+    tie.close
+    (tie.spec sum-rows-requires copy-values-requires same-length returns same-length-2 returns-2)

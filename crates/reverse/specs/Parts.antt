@@ -1,0 +1,71 @@
+-- What the rows of each part hold once they are joined, part after part: true stands for the standard route, false for the
+-- compact one. A part's values are those from its first on.
+use Prim.Native.Nat.{ℕ, _≤_, _<_}
+use mathlib.Core.Path.{_≡_}
+use mathlib.Core.Bool.{Bool, true, false}
+use mathlib.Core.List.{List, [], _∷_, _++_, map}
+use lib.ListN.{length, getD, replicate, take, drop}
+use lib.Ieee.{Float, add, binary64}
+use Rattle.layout.specs.Lists.{below, written}
+use Rattle.layout.specs.Triangle.{triangle}
+use Rattle.layout.specs.Problem.{zero64}
+use Rattle.layout.specs.Cones.{rowCount}
+use Rattle.layout.specs.Patterns.{Pattern}
+use Rattle.layout.specs.Blocks.{Part, whole, cut, partRows}
+use Rattle.layout.specs.Reverse.{addColumns, averaged}
+use Rattle.reverse_standard.specs.Averages.{averagedBy}
+use Rattle.reverse_blocks.specs.Joins.{joinZ, ownRows}
+
+-- a whole cone's values: the standard route sums them from +0.0
+abbrev pub wholeValues : Bool → List Float → List Float
+wholeValues true vs = map (add binary64 zero64) vs
+wholeValues false vs = vs
+
+-- the sums on rows where the columns os stand, averaged on the standard route
+abbrev pub zAveraged : Bool → List ℕ → List Float → List Float
+zAveraged true os ws = map (averaged os ws) (below (length ws))
+zAveraged false os ws = ws
+
+-- the same by a table of counts
+abbrev pub zAveragedBy : Bool → List ℕ → List Float → List Float
+zAveragedBy true counts ws = map (averagedBy counts ws) (below (length ws))
+zAveragedBy false counts ws = ws
+
+-- s and z of the cone that a pattern cuts
+abbrev pub sCut : Bool → Pattern → List Float → List Float
+sCut standard p vs = addColumns (ownRows standard p) vs (replicate (triangle (p .vertexCount)) zero64)
+
+abbrev pub zCut : Bool → Pattern → List Float → List Float
+zCut standard p vs = zAveraged standard (ownRows standard p) (joinZ standard (ownRows standard p) vs (replicate (triangle (p .vertexCount)) zero64))
+
+abbrev pub sPart : Bool → Part → List Float → List Float
+sPart standard (whole i c row) vs = wholeValues standard (take (rowCount c) vs)
+sPart standard (cut i row k p) vs = sCut standard p vs
+
+abbrev pub zPart : Bool → Part → List Float → List Float
+zPart standard (whole i c row) vs = wholeValues standard (take (rowCount c) vs)
+zPart standard (cut i row k p) vs = zCut standard p vs
+
+-- part after part
+abbrev pub valuesFrom : (Part → List Float → List Float) → List Part → List Float → List Float
+valuesFrom f [] vs = []
+valuesFrom f (x ∷ ps) vs = f x vs ++ valuesFrom f ps (drop (partRows x) vs)
+
+-- what a buffer holds after xs was written to it from `at` on
+abbrev pub writtenAt : ℕ → List Float → List Float → List Float
+writtenAt at xs old = take at old ++ written xs (drop at old)
+
+-- the standard route has a count for each of a cone's n rows
+abbrev pub CountsRows : Bool → ℕ → List ℕ → Type 0
+CountsRows true n counts = n ≤ length counts
+CountsRows false n counts = Unit {0}
+
+-- and has counted none of them
+abbrev pub Cleared : Bool → ℕ → List ℕ → Type 0
+Cleared true n counts = (o : ℕ) → o < n → getD counts o 0 ≡ 0
+Cleared false n counts = Unit {0}
+
+-- there are counts for each cone that may be cut among m rows
+abbrev pub CountsCones : Bool → ℕ → List ℕ → Type 0
+CountsCones true m counts = (n : ℕ) → n ≤ m → n ≤ 32896 → n ≤ length counts
+CountsCones false m counts = Unit {0}

@@ -1,0 +1,135 @@
+-- Values joined entry by entry and list by list, the counts of the standard route, and the order of the cliques.
+use Prim.Native.Nat.{ℕ, suc, _+_, _-_, _≤_, _<_}
+use native.Mathlib.Numerals.{add-one}
+use native.Mathlib.Omega.{arith}
+use mathlib.Core.Path.{_≡_, refl, ap, sym, subst, _∙_}
+use mathlib.Core.Logic.{inl, inr}
+use mathlib.Core.Bool.{Bool, true, false}
+use mathlib.Core.List.{List, [], _∷_, _++_, reverse, reverse-cons}
+use lib.ListN.{length, getD, take, drop, set, length-reverse, List·getD-append}
+use lib.Seq.{take-suc, drop-cons, length-take-le, getD-append-seam, getD-set-same, getD-set-other}
+use lib.Dec.{eqb}
+use lib.Ieee.{Float, nan}
+use borrow.Author.Tests.{eqb-true, eqb-false}
+use Rattle.layout.specs.Lists.{join, walk}
+use Rattle.layout.specs.Patterns.{Pattern, cliqueCount}
+use Rattle.layout.specs.Blocks.{blockRows}
+use Rattle.layout.specs.Checks.{RightPattern}
+use Rattle.layout.specs.Reverse.{columnCount}
+use Rattle.layout.proofs.Tests.{lt-or-le}
+use Rattle.layout.proofs.Counting.{count-append}
+use Rattle.layout.proofs.Distinct.{length-keep}
+use Rattle.layout.proofs.Walks.{walk-take, walk-append}
+use Rattle.blocks.specs.Cliques.{rowsHere, Stands, Standing}
+use Rattle.blocks.proofs.Patterns.{standard-rows-count, original-rows-count}
+use Rattle.blocks.proofs.Offsets.{StandAt, rows-up, rows-down}
+use Rattle.reverse_blocks.specs.Joins.{zValue, zAt, Counts, Countable, inOrder, ownRows}
+
+-- what a turn stores in z
+pub z-stored : (standard : Bool) (o : ℕ) (v : Float) (ws : List Float) → set ws o (zValue standard (getD ws o nan) v) ≡ zAt standard o v ws
+z-stored true o v ws = refl
+z-stored false o v ws = refl
+
+-- ---- walks, as loops make them
+
+module _ {A B S : Type 0} (f : A → B → S → S) where
+  -- one element more
+  pub walk-one : (xs : List A) (vs : List B) (s : S) (i : ℕ) (a : A) (b : B) → i < length xs → i < length vs
+      → f (getD xs i a) (getD vs i b) (walk f (take i xs) vs s) ≡ walk f (take (i + 1) xs) vs s
+  walk-one xs vs s i a b h l =
+      let done = walk f (take i xs) vs s in
+      let here : drop (length (take i xs)) vs ≡ getD vs i b ∷ drop (suc i) vs =
+      ap (λ (n : ℕ). drop n vs) (length-take-le i xs (omega arith)) ∙ drop-cons vs i b l in
+      sym (ap (λ (ys : List A). walk f ys vs s) (ap (λ (n : ℕ). take n xs) (add-one i) ∙ take-suc xs i a h)
+      ∙ walk-append f (take i xs) (getD xs i a ∷ []) vs s
+      ∙ ap (λ (ws : List B). walk f (getD xs i a ∷ []) ws done) here)
+
+  -- a list more, walked with the part of the values after those used
+  pub walk-more : (xs ys : List A) (vs : List B) (s : S) (t k : ℕ) → t ≡ length xs → length ys ≤ k
+      → walk f ys (take k (drop t vs)) (walk f xs vs s) ≡ walk f (xs ++ ys) vs s
+  walk-more xs ys vs s t k e h =
+      walk-take f ys (drop t vs) (walk f xs vs s) k h
+      ∙ ap (λ (n : ℕ). walk f ys (drop n vs) (walk f xs vs s)) e
+      ∙ sym (walk-append f xs ys vs s)
+
+-- ---- counts
+
+pub counts-none : (standard : Bool) (counts : List ℕ) → Counts standard [] counts counts
+counts-none true counts = λ o l. omega arith
+counts-none false counts = tt
+
+pub counts-more : (standard : Bool) (xs ys a b c : List ℕ) → length c ≤ length b → Counts standard xs a b → Counts standard ys b c
+    → Counts standard (xs ++ ys) a c
+counts-more true xs ys a b c n h g = λ o l. omega (arith, h o (omega arith), g o l, count-append (eqb o) xs ys)
+counts-more false xs ys a b c n h g = tt
+
+-- one column on row o
+pub counts-one : (counts : List ℕ) (o : ℕ) → o < length counts → Counts true (o ∷ []) counts (set counts o (getD counts o 0 + 1))
+counts-one counts o l q m = pick (eqb q o) refl
+  where
+    pick : (b : Bool) → eqb q o ≡ b → getD (set counts o (getD counts o 0 + 1)) q 0 ≡ getD counts q 0 + columnCount (o ∷ []) q
+    pick true e =
+        let same : q ≡ o = eqb-true q o e in
+        let here : columnCount (o ∷ []) q ≡ 1 = rw e in
+        ap (λ (x : ℕ). getD (set counts o (getD counts o 0 + 1)) x 0) same ∙ getD-set-same counts o (getD counts o 0 + 1) 0 l
+        ∙ omega (arith, ap (λ (x : ℕ). getD counts x 0) same, here)
+    pick false e =
+        let here : columnCount (o ∷ []) q ≡ 0 = rw e in
+        getD-set-other counts o q (getD counts o 0 + 1) 0 (eqb-false q o e) ∙ omega (arith, here)
+
+-- fewer rows, and fewer to count
+pub countable-less : (standard : Bool) (n m k l : ℕ) (counts : List ℕ) → m ≤ n → l ≤ k → Countable standard n k counts → Countable standard m l counts
+countable-less true n m k l counts h g c = (omega (arith, c .0), λ o q. omega (arith, c .1 o (omega arith)))
+countable-less false n m k l counts h g c = tt
+
+-- those of xs are counted
+pub countable-left : (standard : Bool) (n k l : ℕ) (xs a b : List ℕ) → length b ≡ length a → length xs + l ≤ k → Counts standard xs a b
+    → Countable standard n k a → Countable standard n l b
+countable-left true n k l xs a b e h g c =
+    (omega (arith, c .0), λ o q. omega (arith, c .1 o q, g o (omega (arith, c .0)), length-keep (eqb o) xs))
+countable-left false n k l xs a b e h g c = tt
+
+-- ---- the cliques in the order of the route
+
+pub reverse-at : (xs : List ℕ) (i : ℕ) → i < length xs → getD (reverse xs) i 0 ≡ getD xs (length xs - 1 - i) 0
+reverse-at [] i h = absurd (omega arith)
+reverse-at (x ∷ xs) i h =
+    ap (λ (ys : List ℕ). getD ys i 0) (reverse-cons x xs)
+    ∙ elim (lt-or-le i (length xs)) [
+      | inl l ↦
+          List·getD-append (reverse xs) (x ∷ []) 0 i (omega (arith, length-reverse xs)) ∙ reverse-at xs i l
+          ∙ ap (λ (k : ℕ). getD (x ∷ xs) k 0) (behind l)
+      | inr g ↦
+          ap (λ (k : ℕ). getD (reverse xs ++ (x ∷ [])) k 0) (last g) ∙ getD-append-seam (reverse xs) x [] 0
+          ∙ ap (λ (k : ℕ). getD (x ∷ xs) k 0) (first g)
+    ]
+  where
+    behind : i < length xs → suc (length xs - 1 - i) ≡ length (x ∷ xs) - 1 - i
+    behind l = omega arith
+
+    last : length xs ≤ i → i ≡ length (reverse xs)
+    last g = omega (arith, length-reverse xs)
+
+    first : length xs ≤ i → 0 ≡ length (x ∷ xs) - 1 - i
+    first g = omega arith
+
+pub length-order : (standard : Bool) (os : List ℕ) → length (inOrder standard os) ≡ length os
+length-order true os = refl
+length-order false os = length-reverse os
+
+-- each stands among the offsets
+pub standing-order : (standard : Bool) (ws ordering os : List ℕ) → Standing ws ordering os → Standing ws ordering (inOrder standard os)
+standing-order true ws ordering os h c l = h c l
+standing-order false ws ordering os h c l =
+    let m : c < length os = omega (arith, length-reverse os) in
+    subst (Stands ws ordering) (sym (reverse-at os c m)) (h (length os - 1 - c) (omega arith))
+
+-- a pattern's rows by the offsets of its cliques
+pub rows-order : (standard : Bool) (p : Pattern) → RightPattern p → (ws os : List ℕ) (k : ℕ) → cliqueCount p ≡ k → k ≤ length os → StandAt ws (p .cliques) os
+    → join (rowsHere 0 ws (p .ordering)) (inOrder standard (take k os)) ≡ ownRows standard p
+rows-order true p ok ws os k count room st = rows-up p ok ws os k count room st 0
+rows-order false p ok ws os k count room st = rows-down p ok ws os k count room st 0 0
+
+pub length-own : (standard : Bool) (p : Pattern) → RightPattern p → length (ownRows standard p) ≡ blockRows p
+length-own true p ok = standard-rows-count p ok 0
+length-own false p ok = original-rows-count p ok 0 0

@@ -1,0 +1,61 @@
+-- How each route joins block values over the rows of a cone: true stands for the standard route, false for the compact one.
+-- s adds on both: that is layout's `addColumns`.
+use Prim.Native.Nat.{ℕ, suc, _+_, _≤_, _<_}
+use mathlib.Core.Path.{_≡_}
+use mathlib.Core.Bool.{Bool, true, false}
+use mathlib.Core.List.{List, map, reverse}
+use lib.ListN.{length, getD}
+use lib.Ieee.{Float, add, binary64}
+use Rattle.layout.specs.Lists.{walk}
+use Rattle.layout.specs.Triangle.{triangle}
+use Rattle.layout.specs.Patterns.{Pattern}
+use Rattle.layout.specs.Blocks.{pairs, pairRow, originalRow, patternRows}
+use Rattle.layout.specs.Reverse.{addAt, putAt, columnCount}
+use Rattle.blocks.specs.Columns.{columnPairs}
+use Rattle.blocks.specs.Codes.{standardPatternRows}
+
+-- ---- z: the standard route adds too, the compact one keeps the last
+
+abbrev pub zValue : Bool → Float → Float → Float
+zValue true old v = add binary64 old v
+zValue false old v = v
+
+abbrev pub zAt : Bool → ℕ → Float → List Float → List Float
+zAt true o v ws = addAt o v ws
+zAt false o v ws = putAt o v ws
+
+abbrev pub joinZ : Bool → List ℕ → List Float → List Float → List Float
+joinZ standard os vs ws = walk (zAt standard) os vs ws
+
+-- ---- counts: the standard route counts the columns on each row
+
+-- the counts grew by those of os
+abbrev pub Counts : Bool → List ℕ → List ℕ → List ℕ → Type 0
+Counts true os old new = (o : ℕ) → o < length new → getD new o 0 ≡ getD old o 0 + columnCount os o
+Counts false os old new = Unit {0}
+
+-- each row below n has a count, to which k more can be added
+abbrev pub Countable : Bool → ℕ → ℕ → List ℕ → Type 0
+Countable true n k counts = (n ≤ length counts) × ((o : ℕ) → o < n → getD counts o 0 + k < 4294967296)
+Countable false n k counts = Unit {0}
+
+-- ---- rows, from the cone's first on
+
+abbrev pub columnRows : List ℕ → ℕ → List ℕ
+columnRows vs j = map (pairRow 0) (columnPairs vs j)
+
+abbrev pub blockRowsOf : List ℕ → List ℕ
+blockRowsOf vs = map (pairRow 0) (pairs vs)
+
+-- each column of the block ends below row n
+abbrev pub Within : ℕ → List ℕ → Type 0
+Within n vs = (k : ℕ) → k < length vs → triangle (suc (getD vs k 0)) ≤ n
+
+-- the cliques in the order of the route
+abbrev pub inOrder : Bool → List ℕ → List ℕ
+inOrder true os = os
+inOrder false os = reverse os
+
+abbrev pub ownRows : Bool → Pattern → List ℕ
+ownRows true p = standardPatternRows p 0
+ownRows false p = map originalRow (patternRows p 0 0)

@@ -1,0 +1,203 @@
+// The blocks of a pattern joined over its cone's rows, straight from their columns: s adds, z adds on the standard route
+// and keeps the last on the compact one.
+ghost use mathlib.Core.Path.{_≡_};
+ghost use mathlib.Core.List.{[], _∷_};
+ghost use Prim.Native.Nat.{suc, _≤_, _<_};
+ghost use lib.ListN.{length, getD};
+ghost use lib.Dec.{T};
+ghost use Rattle.layout.specs.Lists.{join, rises};
+ghost use Rattle.layout.specs.Triangle.{triangle};
+ghost use Rattle.layout.specs.Blocks.{blockRows};
+ghost use Rattle.layout.specs.Checks.{RightPattern};
+ghost use Rattle.layout.specs.Reverse.{addColumns};
+ghost use Rattle.supernode_tree.specs.Reads.{patternAt};
+ghost use Rattle.blocks.specs.Cliques.{Standing, rowsHere};
+ghost use Rattle.reverse_blocks.specs.Joins.{zValue, joinZ, Counts, Countable, columnRows, blockRowsOf, Within, inOrder, ownRows};
+use supernode_tree::Pattern;
+use supernode_tree::PatternRead;
+use supernode_tree::clique_offsets;
+
+// ---- a block
+
+// z on a row where old stands.
+fn z_value(standard: bool, old: f64, v: f64) -> f64
+    ensures { λ r. ⌜ r ≡ zValue (standard) old v ⌝ }
+{
+    if standard {
+        return old + v;
+    }
+    v
+}
+
+// The standard route counts a column on row o.
+fn count_column(standard: bool, counts: &mut [u32], o: usize)
+    requires { ⌜ Countable (standard) (suc o) 1 (now counts) ⌝ }
+    ensures { λ _. ⌜ Counts (standard) (o ∷ []) (now (counts .entry)) (now (counts .exit)) ⌝ }
+{
+    if standard {
+        counts[o] += 1;
+    }
+}
+
+// Column j of the block over sorted vertices.
+fn join_column(
+    standard: bool,
+    vertices: &[u32],
+    j: usize,
+    s: &[f64],
+    z: &[f64],
+    s_out: &mut [f64],
+    z_out: &mut [f64],
+    counts: &mut [u32],
+)
+    requires { ⌜ T (rises (now vertices)) × (j < length (now vertices)) × (j < length (now s)) × (j < length (now z)) ⌝ }
+    requires { ⌜ (triangle (suc (getD (now vertices) j 0)) ≤ length (now «s_out»)) × (length (now «z_out») ≡ length (now «s_out»)) × (length (now «s_out») ≤ 65536) ⌝ }
+    requires { ⌜ Countable (standard) (length (now «s_out»)) (suc j) (now counts) ⌝ }
+    ensures { λ _. ⌜ now («s_out» .exit) ≡ addColumns (columnRows (now (vertices .entry)) j) (now (s .entry)) (now («s_out» .entry)) ⌝ }
+    ensures { λ _. ⌜ now («z_out» .exit) ≡ joinZ (standard) (columnRows (now (vertices .entry)) j) (now (z .entry)) (now («z_out» .entry)) ⌝ }
+    ensures { λ _. ⌜ Counts (standard) (columnRows (now (vertices .entry)) j) (now (counts .entry)) (now (counts .exit)) ⌝ }
+{
+    let c = vertices[j];
+    let row = c * (c + 1) / 2;
+    let mut i = 0;
+    while i <= j {
+        let o = (row + vertices[i]) as usize;
+        s_out[o] = s_out[o] + s[i];
+        z_out[o] = z_value(standard, z_out[o], z[i]);
+        count_column(standard, &mut *counts, o);
+        i += 1;
+    }
+}
+
+// The block, column by column; how many entries.
+fn join_block(
+    standard: bool,
+    vertices: &[u32],
+    s: &[f64],
+    z: &[f64],
+    s_out: &mut [f64],
+    z_out: &mut [f64],
+    counts: &mut [u32],
+) -> usize
+    requires { ⌜ T (rises (now vertices)) × Within (length (now «s_out»)) (now vertices) ⌝ }
+    requires { ⌜ (triangle (length (now vertices)) ≤ length (now s)) × (triangle (length (now vertices)) ≤ length (now z)) ⌝ }
+    requires { ⌜ (length (now «z_out») ≡ length (now «s_out»)) × (length (now «s_out») ≤ 65536) ⌝ }
+    requires { ⌜ Countable (standard) (length (now «s_out»)) (triangle (length (now vertices))) (now counts) ⌝ }
+    ensures { λ r. ⌜ r ≡ triangle (length (now (vertices .entry))) ⌝ }
+    ensures { λ _. ⌜ now («s_out» .exit) ≡ addColumns (blockRowsOf (now (vertices .entry))) (now (s .entry)) (now («s_out» .entry)) ⌝ }
+    ensures { λ _. ⌜ now («z_out» .exit) ≡ joinZ (standard) (blockRowsOf (now (vertices .entry))) (now (z .entry)) (now («z_out» .entry)) ⌝ }
+    ensures { λ _. ⌜ Counts (standard) (blockRowsOf (now (vertices .entry))) (now (counts .entry)) (now (counts .exit)) ⌝ }
+{
+    let mut t = 0;
+    let mut j = 0;
+    while j < vertices.len() {
+        join_column(
+            standard,
+            vertices,
+            j,
+            &s[t..],
+            &z[t..],
+            &mut *s_out,
+            &mut *z_out,
+            &mut *counts,
+        );
+        t += j + 1;
+        j += 1;
+    }
+    t
+}
+
+// ---- a pattern
+
+// The offset of the route's clique i: the standard route goes from first to last, the compact one from last to first.
+fn offset_at(standard: bool, offsets: &[usize], i: usize) -> usize
+    requires { ⌜ i < length (now offsets) ⌝ }
+    ensures { λ r. ⌜ r ≡ getD (inOrder standard (now (offsets .entry))) i 0 ⌝ }
+{
+    if standard {
+        return offsets[i];
+    }
+    offsets[offsets.len() - 1 - i]
+}
+
+// The blocks of the cliques at some offsets, in the order of the route; how many entries.
+fn join_cliques(
+    standard: bool,
+    words: &[u32],
+    ordering: &[u32],
+    offsets: &[usize],
+    s: &[f64],
+    z: &[f64],
+    s_out: &mut [f64],
+    z_out: &mut [f64],
+    counts: &mut [u32],
+) -> usize
+    requires { ⌜ Standing (now words) (now ordering) (now offsets) × (triangle (length (now ordering)) ≤ length (now «s_out»)) ⌝ }
+    requires { ⌜ (length (join (rowsHere 0 (now words) (now ordering)) (inOrder standard (now offsets))) ≤ length (now s)) × (length (now z) ≡ length (now s)) ⌝ }
+    requires { ⌜ (length (now «z_out») ≡ length (now «s_out»)) × (length (now «s_out») ≤ 65536) ⌝ }
+    requires { ⌜ Countable standard (length (now «s_out»)) (length (join (rowsHere 0 (now words) (now ordering)) (inOrder standard (now offsets)))) (now counts) ⌝ }
+    ensures { λ r. ⌜ r ≡ length (join (rowsHere 0 (now (words .entry)) (now (ordering .entry))) (inOrder standard (now (offsets .entry)))) ⌝ }
+    ensures { λ _. ⌜ now («s_out» .exit) ≡ addColumns (join (rowsHere 0 (now (words .entry)) (now (ordering .entry))) (inOrder standard (now (offsets .entry)))) (now (s .entry)) (now («s_out» .entry)) ⌝ }
+    ensures { λ _. ⌜ now («z_out» .exit) ≡ joinZ standard (join (rowsHere 0 (now (words .entry)) (now (ordering .entry))) (inOrder standard (now (offsets .entry)))) (now (z .entry)) (now («z_out» .entry)) ⌝ }
+    ensures { λ _. ⌜ Counts standard (join (rowsHere 0 (now (words .entry)) (now (ordering .entry))) (inOrder standard (now (offsets .entry)))) (now (counts .entry)) (now (counts .exit)) ⌝ }
+{
+    let mut vertices = [0u32; 256];
+    let mut t = 0;
+    let mut i = 0;
+    while i < offsets.len() {
+        let at = offset_at(standard, offsets, i);
+        let k = blocks::clique_vertices(words, ordering, at, &mut vertices);
+        t += join_block(
+            standard,
+            &vertices[..k],
+            &s[t..],
+            &z[t..],
+            &mut *s_out,
+            &mut *z_out,
+            &mut *counts,
+        );
+        i += 1;
+    }
+    t
+}
+
+// The blocks of the pattern at an offset; how many entries.
+pub fn join_pattern(
+    standard: bool,
+    words: &[u32],
+    at: usize,
+    s: &[f64],
+    z: &[f64],
+    s_out: &mut [f64],
+    z_out: &mut [f64],
+    counts: &mut [u32],
+) -> usize
+    requires { ⌜ RightPattern (patternAt (now words) at) × (patternAt (now words) at .vertexCount ≤ 256) ⌝ }
+    requires { ⌜ (triangle (patternAt (now words) at .vertexCount) ≤ length (now «s_out»)) × (length (now «z_out») ≡ length (now «s_out»)) × (length (now «s_out») ≤ 65536) ⌝ }
+    requires { ⌜ (blockRows (patternAt (now words) at) ≤ length (now s)) × (length (now z) ≡ length (now s)) ⌝ }
+    requires { ⌜ Countable standard (length (now «s_out»)) (blockRows (patternAt (now words) at)) (now counts) ⌝ }
+    ensures { λ r. ⌜ r ≡ blockRows (patternAt (now (words .entry)) at) ⌝ }
+    ensures { λ _. ⌜ now («s_out» .exit) ≡ addColumns (ownRows standard (patternAt (now (words .entry)) at)) (now (s .entry)) (now («s_out» .entry)) ⌝ }
+    ensures { λ _. ⌜ now («z_out» .exit) ≡ joinZ standard (ownRows standard (patternAt (now (words .entry)) at)) (now (z .entry)) (now («z_out» .entry)) ⌝ }
+    ensures { λ _. ⌜ Counts standard (ownRows standard (patternAt (now (words .entry)) at)) (now (counts .entry)) (now (counts .exit)) ⌝ }
+{
+    let PatternRead::Pattern(p) = Pattern::read(words, at) else {
+        return 0;
+    };
+    let mut offsets = [0usize; 256];
+    clique_offsets(words, p.cliques, p.clique_count, &mut offsets);
+    let a = p.ordering;
+    let e = p.cliques;
+    let k = p.clique_count as usize;
+    join_cliques(
+        standard,
+        words,
+        &words[a..e],
+        &offsets[..k],
+        s,
+        z,
+        s_out,
+        z_out,
+        counts,
+    )
+}
