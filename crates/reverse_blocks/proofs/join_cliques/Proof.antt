@@ -14,7 +14,7 @@ use Rattle.layout.proofs.Pairs.{length-pairs}
 use Rattle.blocks.specs.Cliques.{verticesHere, rowsHere, Stands}
 use Rattle.blocks.proofs.Cliques.{vertices-rise, vertices-few, vertices-below}
 use Rattle.blocks.proofs.Orders.{up-more, up-room}
-use Rattle.blocks.proofs.Sifting.{take-none}
+use Rattle.layout.proofs.Buffers.{take-none}
 use Rattle.reverse_blocks.specs.Joins.{zAt, joinZ, Counts, Countable, blockRowsOf, Within, inOrder}
 use Rattle.reverse_blocks.proofs.Laws.{walk-more, counts-none, counts-more, countable-left, length-order, standing-order}
 use native.Mathlib.Omega.{arith}

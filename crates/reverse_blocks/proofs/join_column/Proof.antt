@@ -9,7 +9,7 @@ use lib.Ieee.{Float, nan, add, binary64}
 use Rattle.layout.specs.Reverse.{addAt, addColumns}
 use Rattle.layout.specs.Blocks.{pairRow}
 use Rattle.blocks.proofs.Columns.{rises-le, length-column, row-at}
-use Rattle.blocks.proofs.Sifting.{take-none}
+use Rattle.layout.proofs.Buffers.{take-none}
 use Rattle.reverse_blocks.specs.Joins.{zValue, zAt, joinZ, Counts, columnRows}
 use Rattle.reverse_blocks.proofs.Laws.{z-stored, walk-one, counts-none, counts-more, countable-less, countable-left}
 use native.Mathlib.Omega.{arith}

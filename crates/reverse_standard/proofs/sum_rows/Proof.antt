@@ -7,7 +7,7 @@ use Rattle.layout.specs.Lists.{written}
 use Rattle.layout.specs.Problem.{zero64}
 use Rattle.layout.proofs.Members.{getD-map}
 use Rattle.layout.proofs.Keeps.{append-nil}
-use Rattle.csc.proofs.Writing.{copy-more, copy-done}
+use Rattle.layout.proofs.Buffers.{copy-more, copy-done}
 use native.Mathlib.Omega.{arith}
 use borrow.Author.Needs.{needs}
 use Rattle.reverse_standard.proofs.sum_rows.Statement.{statement}
