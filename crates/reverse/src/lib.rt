@@ -361,16 +361,5 @@ pub fn decomp_reverse_compact(
 {
     copy_x(n, x, x_out);
     let mut none = [0u32; 1];
-    join_parts(
-        false,
-        m,
-        cones,
-        count,
-        words,
-        s,
-        z,
-        s_out,
-        z_out,
-        &mut none,
-    );
+    join_parts(false, m, cones, count, words, s, z, s_out, z_out, &mut none);
 }
