@@ -24,7 +24,7 @@ use Rattle.layout.proofs.Walks.{walk-same}
 use Rattle.layout.proofs.Laid.{Laid, coneRows}
 use Rattle.reverse_standard.specs.Averages.{shared}
 use Rattle.reverse_blocks.specs.Joins.{zAt, joinZ, ownRows}
-use Rattle.reverse.specs.Parts.{sPart, zPart, sCut, valuesFrom}
+use Rattle.reverse_cones.specs.Parts.{sPart, zPart, sCut, valuesFrom}
 use Rattle.reverse.proofs.Stretch.{rows-shifted, rows-inside}
 use Rattle.reverse.proofs.Parts.{zeros, laid-first, laid-rest, standardPart, standard-more, s-size, length-s-cut}
 

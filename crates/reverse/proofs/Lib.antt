@@ -1,4 +1,3 @@
-pub mod Laws
 pub mod Stretch
 pub mod Parts
 pub mod Averages

@@ -26,8 +26,8 @@ use Rattle.layout.proofs.Laid.{Laid, coneRows, sound-laid, sound-total}
 use Rattle.blocks.specs.Codes.{standardPatternRows}
 use Rattle.blocks.proofs.Patterns.{original-rows, standard-rows-count}
 use Rattle.reverse_blocks.specs.Joins.{joinZ, ownRows}
-use Rattle.reverse.specs.Parts.{wholeValues, sCut, zCut, sPart, zPart, valuesFrom}
-use Rattle.reverse.proofs.Laws.{length-whole}
+use Rattle.reverse_cones.specs.Parts.{wholeValues, sCut, zCut, sPart, zPart, valuesFrom}
+use Rattle.reverse_cones.proofs.Laws.{length-whole}
 use Rattle.reverse.proofs.Stretch.{joinAt, shifted, fresh, pairRows, rows-shifted, rows-inside, adds-all}
 
 -- ---- any joining that goes part by part

@@ -18,7 +18,7 @@ use Rattle.layout.proofs.Joins.{map-same}
 use Rattle.layout.proofs.Starts.{length-written}
 use Rattle.layout.proofs.Laid.{coneRows, sound-laid, sound-total}
 use Rattle.reverse_standard.specs.Averages.{shared}
-use Rattle.reverse.specs.Parts.{sPart, zPart, valuesFrom, writtenAt}
+use Rattle.reverse_cones.specs.Parts.{sPart, zPart, valuesFrom, writtenAt}
 use Rattle.reverse.proofs.Parts.{zeros, s-standard, s-compact, z-compact}
 use Rattle.reverse.proofs.Averages.{z-standard}
 

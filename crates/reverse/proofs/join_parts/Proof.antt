@@ -17,8 +17,8 @@ use Rattle.layout.proofs.Triangles.{triangle-mono}
 use Rattle.supernode_tree.specs.Reads.{patternAt}
 use Rattle.parts.specs.Ahead.{ahead, Stands, meets, Knows}
 use Rattle.parts.specs.declared.Met.the-variants.{Whole, Cut}
-use Rattle.reverse.specs.Parts.{wholeValues, sPart, zPart, valuesFrom, writtenAt, CountsRows, CountsCones}
-use Rattle.reverse.proofs.Laws.{length-whole}
+use Rattle.reverse_cones.specs.Parts.{wholeValues, sPart, zPart, valuesFrom, writtenAt, CountsRows, CountsCones}
+use Rattle.reverse_cones.proofs.Laws.{length-whole}
 use Rattle.reverse.proofs.Parts.{length-s-cut, length-z-cut}
 use Rattle.reverse.proofs.Walk.{Joins, joins-none, joins-more, joins-done}
 use native.Mathlib.Omega.{arith}

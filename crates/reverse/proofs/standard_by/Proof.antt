@@ -7,8 +7,8 @@ use lib.Ieee.{Float}
 use Rattle.layout.specs.Lists.{written}
 use Rattle.layout.specs.Blocks.{blockRowCount}
 use Rattle.layout.specs.Answers.{joinedParts}
-use Rattle.reverse.specs.Parts.{sPart, zPart, valuesFrom}
-use Rattle.reverse.proofs.Laws.{rest-whole}
+use Rattle.reverse_cones.specs.Parts.{sPart, zPart, valuesFrom}
+use Rattle.reverse_cones.proofs.Laws.{rest-whole}
 use Rattle.reverse.proofs.Walk.{standard-s, standard-z}
 use native.Mathlib.Omega.{arith}
 use borrow.Author.Needs.{needs}

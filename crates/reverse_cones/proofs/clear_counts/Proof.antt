@@ -4,11 +4,11 @@ use mathlib.Core.List.{List}
 use Prim.Native.Nat.{ℕ, _≤_}
 use lib.ListN.{length, getD, replicate, length-replicate, getD-replicate}
 use Rattle.layout.proofs.Starts.{written-front}
-use Rattle.reverse.specs.Parts.{CountsRows, Cleared}
+use Rattle.reverse_cones.specs.Parts.{CountsRows, Cleared}
 use native.Mathlib.Omega.{arith}
 use borrow.Author.Needs.{needs}
-use Rattle.reverse.proofs.clear_counts.Statement.{statement}
-use Rattle.reverse.proofs.clear_counts.Tie as tie
+use Rattle.reverse_cones.proofs.clear_counts.Statement.{statement}
+use Rattle.reverse_cones.proofs.clear_counts.Tie as tie
 
 room : (t : tie.Then1) → let a = t .before .before .args in a .n ≤ length (a .counts .now)
 room t = let s = t .before .before in subst (λ (b : Bool). CountsRows b (s .args .n) (s .args .counts .now)) (t .if1 .taken) (s .pre)

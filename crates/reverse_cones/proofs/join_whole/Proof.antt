@@ -5,12 +5,12 @@ use lib.ListN.{length, take, drop, length-drop}
 use lib.Seq.{length-take-le}
 use lib.Ieee.{Float}
 use Rattle.layout.specs.Lists.{part}
-use Rattle.reverse.specs.Parts.{wholeValues, writtenAt}
-use Rattle.reverse.proofs.Laws.{replaced, length-whole}
+use Rattle.reverse_cones.specs.Parts.{wholeValues, writtenAt}
+use Rattle.reverse_cones.proofs.Laws.{replaced, length-whole}
 use native.Mathlib.Omega.{arith}
 use borrow.Author.Needs.{needs}
-use Rattle.reverse.proofs.join_whole.Statement.{statement}
-use Rattle.reverse.proofs.join_whole.Tie as tie
+use Rattle.reverse_cones.proofs.join_whole.Statement.{statement}
+use Rattle.reverse_cones.proofs.join_whole.Tie as tie
 
 add-e : tie.Need-add-e
 add-e c = search needs

@@ -12,7 +12,7 @@ use Rattle.layout.specs.Problem.{zero64}
 use Rattle.layout.specs.Reverse.{columnCount}
 use Rattle.reverse_standard.proofs.Laws.{averages}
 use Rattle.reverse_blocks.specs.Joins.{Counts, Countable}
-use Rattle.reverse.specs.Parts.{wholeValues, zAveraged, zAveragedBy, writtenAt, CountsRows, Cleared}
+use Rattle.reverse_cones.specs.Parts.{wholeValues, zAveraged, zAveragedBy, writtenAt, CountsRows, Cleared}
 
 -- ---- parts of buffers
 

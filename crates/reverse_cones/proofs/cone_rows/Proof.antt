@@ -8,8 +8,8 @@ use Rattle.supernode_tree.specs.Reads.{patternAt}
 use Rattle.blocks.proofs.Offsets.{not-short, pattern-here}
 use native.Mathlib.Omega.{arith}
 use borrow.Author.Needs.{needs}
-use Rattle.reverse.proofs.cone_rows.Statement.{statement}
-use Rattle.reverse.proofs.cone_rows.Tie as tie
+use Rattle.reverse_cones.proofs.cone_rows.Statement.{statement}
+use Rattle.reverse_cones.proofs.cone_rows.Tie as tie
 
 read-requires : tie.Need-read-requires
 read-requires c κs = search needs

@@ -4,11 +4,11 @@ use mathlib.Core.List.{List, _++_}
 use lib.ListN.{length, drop-of-length-le}
 use lib.Ieee.{Float}
 use Rattle.layout.proofs.Keeps.{append-nil}
-use Rattle.reverse.specs.Parts.{wholeValues}
+use Rattle.reverse_cones.specs.Parts.{wholeValues}
 use native.Mathlib.Omega.{arith}
 use borrow.Author.Needs.{needs}
-use Rattle.reverse.proofs.whole_values.Statement.{statement}
-use Rattle.reverse.proofs.whole_values.Tie as tie
+use Rattle.reverse_cones.proofs.whole_values.Statement.{statement}
+use Rattle.reverse_cones.proofs.whole_values.Tie as tie
 
 sum-rows-requires : tie.Need-sum-rows-requires
 sum-rows-requires c κs = search needs

@@ -6,12 +6,12 @@ use lib.Seq.{length-take-le}
 use lib.Ieee.{Float}
 use Rattle.layout.specs.Patterns.{Pattern}
 use Rattle.supernode_tree.specs.Reads.{patternAt}
-use Rattle.reverse.specs.Parts.{sCut, zCut}
-use Rattle.reverse.proofs.Laws.{rest-whole, replaced, rows-kept}
+use Rattle.reverse_cones.specs.Parts.{sCut, zCut}
+use Rattle.reverse_cones.proofs.Laws.{rest-whole, replaced, rows-kept}
 use native.Mathlib.Omega.{arith}
 use borrow.Author.Needs.{needs}
-use Rattle.reverse.proofs.join_cut.Statement.{statement}
-use Rattle.reverse.proofs.join_cut.Tie as tie
+use Rattle.reverse_cones.proofs.join_cut.Statement.{statement}
+use Rattle.reverse_cones.proofs.join_cut.Tie as tie
 
 abbrev here : tie.Start → Pattern
 here s = patternAt (s .args .words .now) (s .args .at)

@@ -12,12 +12,12 @@ use Rattle.layout.proofs.Triangles.{triangle-mono}
 use Rattle.supernode_tree.specs.Reads.{patternAt}
 use Rattle.csc.proofs.Writing.{filled}
 use Rattle.reverse_blocks.specs.Joins.{Countable, joinZ, ownRows}
-use Rattle.reverse.specs.Parts.{zAveraged, CountsRows, Cleared}
-use Rattle.reverse.proofs.Laws.{rows-kept, countable, averaged-by}
+use Rattle.reverse_cones.specs.Parts.{zAveraged, CountsRows, Cleared}
+use Rattle.reverse_cones.proofs.Laws.{rows-kept, countable, averaged-by}
 use native.Mathlib.Omega.{arith}
 use borrow.Author.Needs.{needs}
-use Rattle.reverse.proofs.join_rows.Statement.{statement}
-use Rattle.reverse.proofs.join_rows.Tie as tie
+use Rattle.reverse_cones.proofs.join_rows.Statement.{statement}
+use Rattle.reverse_cones.proofs.join_rows.Tie as tie
 
 abbrev here : tie.Start → Pattern
 here s = patternAt (s .args .words .now) (s .args .at)
