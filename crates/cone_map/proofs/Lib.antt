@@ -1,0 +1,7 @@
+pub mod Entries
+pub mod Walking
+-- for the walks by hand
+pub mod Counted
+pub mod Calling
+pub mod Locals
+pub mod Problem

@@ -1,0 +1,157 @@
+-- The walk over a problem's map: the entries from a place on, the place after it, and comparisons.
+use Prim.Native.Nat.{ℕ, zero, suc, _-_, _<_, _≤_}
+use native.Mathlib.Nat.{not-suc-le-zero}
+use native.Mathlib.Omega.{arith}
+use mathlib.Core.Path.{_≡_, refl, sym, ap, ap₂, _∙_}
+use mathlib.Core.Bool.{Bool, true, false, cond, not, _&&_}
+use mathlib.Core.List.{List, [], _∷_, _++_, map, reverse}
+use lib.ListN.{length, getD, take, drop, set, length-drop, length-take, length-map}
+use lib.Seq.{drop-cons, take-suc, take-all, length-take-le}
+use lib.Dec.{T, eqb}
+use Rattle.layout.specs.Lists.{all, below, written}
+use Rattle.layout.specs.Patterns.{Pattern, cliqueCount}
+use Rattle.layout.specs.Checks.{treeRight, parentRight}
+use Rattle.layout.specs.Compact.{MapEntry, blockOf, coneMap}
+use Rattle.layout.specs.Answers.{output}
+use Rattle.layout.proofs.Tests.{and-iff, not-iff}
+use Rattle.layout.proofs.Joins.{reverse-below}
+use Rattle.layout.proofs.Keeps.{map-append}
+use Rattle.layout.proofs.Starts.{length-written}
+use Rattle.layout.proofs.Buffers.{set-written}
+use Rattle.parts.specs.Ahead.{ahead}
+use Rattle.cone_map.specs.declared.MapPlace.{MapPlace}
+use Rattle.cone_map.specs.declared.ConeMapEntry.{ConeMapEntry}
+use Rattle.cone_map.specs.declared.TreeAndClique.{TreeAndClique}
+use Rattle.cone_map.specs.declared.TreeAndClique.the-variants.{None, In}
+use Rattle.cone_map.specs.Entries.{meant, structOf, patternWord, cliqueWord, sameEntry, sameMap}
+use Rattle.cone_map.specs.Walking.{blocksAfter, entriesFrom, unlessRefused, Compares}
+use Rattle.cone_map.proofs.Entries.{struct-meant}
+
+-- the blocks after an entry, by its words
+after-words : (i : ℕ) (t : TreeAndClique) → blocksAfter i t ≡ map (blockOf i (patternWord t)) (reverse (below (cliqueWord t)))
+after-words i None = refl
+after-words i (In k c) = refl
+
+-- of an entry with a clique there is one block more
+pub after-more : (i k c : ℕ) → 0 < c → map (blockOf i k) (reverse (below c)) ≡ blockOf i k (c - 1) ∷ map (blockOf i k) (reverse (below (c - 1)))
+after-more i k zero h = absurd (not-suc-le-zero h)
+after-more i k (suc c) h = let e : suc c - 1 ≡ c = omega arith in rw e (ap (map (blockOf i k)) (reverse-below c))
+
+-- a pattern that passed check 6 has a clique
+pub some-clique : (p : Pattern) → T (treeRight p) → 0 < cliqueCount p
+some-clique p h = go (cliqueCount p) (not-iff (eqb (cliqueCount p) 0) .0 (and-iff (not (eqb (cliqueCount p) 0)) (all (parentRight p) (below (cliqueCount p))) .0 h .0))
+  where
+    go : (n : ℕ) → (T (eqb n 0) → ⊥) → 0 < n
+    go zero f = absurd (f tt)
+    go (suc n) f = omega arith
+
+-- ---- refusals
+
+pub accepted : {A : Type 0} (r : ℕ) (xs : List A) → r ≡ 0 → unlessRefused r xs ≡ xs
+accepted zero xs e = refl
+accepted (suc r) xs e = absurd (omega arith)
+
+pub refused : {A : Type 0} (r : ℕ) (xs : List A) → (r ≡ 0 → ⊥) → unlessRefused r xs ≡ []
+refused zero xs n = absurd (n refl)
+refused (suc r) xs n = refl
+
+-- ---- places
+
+module _ (cones words : List ℕ) (c : MapPlace) where
+  abbrev i : ℕ
+  i = c .entry .«orig_index»
+
+  abbrev t : TreeAndClique
+  t = c .entry .«tree_and_clique»
+
+  abbrev rest : List MapEntry
+  rest = coneMap (ahead cones words (c .place))
+
+  pub none-here : c .here ≡ false → entriesFrom cones words c ≡ []
+  none-here h = rw h
+
+  after : c .here ≡ true → drop 1 (entriesFrom cones words c) ≡ blocksAfter i t ++ rest
+  after h = rw h
+
+  -- a clique of the entry's cone comes next
+  pub block-next : (p n : ℕ) → c .here ≡ true → p ≡ patternWord t → n ≡ cliqueWord t → 0 < n
+      → blockOf i p (n - 1) ∷ (map (blockOf i p) (reverse (below (n - 1))) ++ rest) ≡ drop 1 (entriesFrom cones words c)
+  block-next p n h e f l =
+      sym
+      (after h ∙ ap (λ (es : List MapEntry). es ++ rest)
+      (after-words i t ∙ ap₂ (λ (q m : ℕ). map (blockOf i q) (reverse (below m))) (sym e) (sym f) ∙ after-more i p n l))
+
+  -- or the next cone
+  pub cone-next : c .here ≡ true → cliqueWord t ≤ 0 → rest ≡ drop 1 (entriesFrom cones words c)
+  cone-next h l =
+      let e : cliqueWord t ≡ 0 = omega arith in
+      sym (after h ∙ ap (λ (es : List MapEntry). es ++ rest) (after-words i t ∙ ap (λ (m : ℕ). map (blockOf i (patternWord t)) (reverse (below m))) e))
+
+-- the place after, with what the comparison found
+pub compares : (cones words : List ℕ) (c r : MapPlace) (e : ConeMapEntry)
+    → r .same ≡ (c .same && (c .here && sameEntry (meant e) (meant (c .entry)))) → entriesFrom cones words r ≡ drop 1 (entriesFrom cones words c)
+    → Compares cones words c e r
+compares cones words c r e s f es =
+    ap₂ (λ (b : Bool) (l : List MapEntry). b && sameMap es l) s f ∙ go (c .same) (c .here) (meant (c .entry)) _
+  where
+    go : (a h : Bool) (x : MapEntry) (l : List MapEntry)
+        → ((a && (h && sameEntry (meant e) x)) && sameMap es (drop 1 (cond h (x ∷ l) []))) ≡ (a && sameMap (meant e ∷ es) (cond h (x ∷ l) []))
+    go true true x l = refl
+    go true false x l = refl
+    go false h x l = refl
+
+-- ---- a walk that stands before entry k of es
+
+module _ (cones words : List ℕ) (c : MapPlace) (es : List MapEntry) (k : ℕ) (e : entriesFrom cones words c ≡ drop k es) where
+  pub here-before : k < length es → c .here ≡ true
+  here-before l = go (c .here) refl
+    where
+      go : (h : Bool) → c .here ≡ h → c .here ≡ true
+      go true f = f
+      go false f = absurd (omega (arith, ap length (sym (none-here cones words c f) ∙ e), length-drop k es))
+
+  pub entry-before : (l : k < length es) → getD es k (meant (c .entry)) ≡ meant (c .entry)
+  entry-before l =
+      ap (λ (xs : List MapEntry). getD xs 0 (meant (c .entry))) (sym (drop-cons es k (meant (c .entry)) l) ∙ sym e)
+      ∙ ap (λ (h : Bool). getD (cond h (meant (c .entry) ∷ (blocksAfter (c .entry .«orig_index») (c .entry .«tree_and_clique») ++ coneMap (ahead cones words (c .place)))) []) 0 (meant (c .entry))) (here-before l)
+
+  pub next-before : (r : MapPlace) → k < length es → entriesFrom cones words r ≡ drop 1 (entriesFrom cones words c) → entriesFrom cones words r ≡ drop (suc k) es
+  next-before r l f = f ∙ ap (drop 1) (e ∙ drop-cons es k (meant (c .entry)) l)
+
+  pub here-end : length es ≤ k → c .here ≡ false
+  here-end l = go (c .here) refl
+    where
+      go : (h : Bool) → c .here ≡ h → c .here ≡ false
+      go true f =
+          absurd (omega (
+            arith,
+            length-drop k es,
+            ap length (sym e ∙ ap (λ (h : Bool). cond h (meant (c .entry) ∷ (blocksAfter (c .entry .«orig_index») (c .entry .«tree_and_clique») ++ coneMap (ahead cones words (c .place)))) []) f),
+          ))
+      go false f = f
+
+-- ---- entries written one after the other
+
+module _ (es : List MapEntry) (ys : List ConeMapEntry) (room : length es ≤ length ys) where
+  abbrev pub filled : ℕ → List ConeMapEntry
+  filled k = written (map structOf (take k es)) ys
+
+  pub length-filled : (k : ℕ) → length (filled k) ≡ length ys
+  length-filled k = length-written (map structOf (take k es)) ys (omega (arith, length-map (take k es) structOf, length-take k es))
+
+  pub fill-more : (k : ℕ) (e : ConeMapEntry) → k < length es → getD es k (meant e) ≡ meant e → set (filled k) k e ≡ filled (suc k)
+  fill-more k e l f =
+      set-written (map structOf (take k es)) ys e k (sym (length-map (take k es) structOf ∙ length-take-le k es (omega arith))) (omega arith)
+      ∙ ap (λ (xs : List ConeMapEntry). written xs ys)
+      (sym (ap (map structOf) (take-suc es k (meant e) l) ∙ map-append structOf (take k es) (getD es k (meant e) ∷ [])
+      ∙ ap (λ (x : ConeMapEntry). map structOf (take k es) ++ (x ∷ [])) (ap structOf f ∙ struct-meant e)))
+
+-- all of them, or nothing of a refused problem
+pub fill-all : (r : ℕ) (es : List MapEntry) (ys : List ConeMapEntry)
+    → written (map structOf (take (length (unlessRefused r es)) (unlessRefused r es))) ys ≡ output r (map structOf es) ys
+fill-all zero es ys = ap (λ (xs : List MapEntry). written (map structOf xs) ys) (take-all (length es) es (omega arith))
+fill-all (suc r) es ys = refl
+
+pub room-for : (r : ℕ) (es : List MapEntry) (n : ℕ) → (r ≡ 0 → length es ≤ n) → length (unlessRefused r es) ≤ n
+room-for zero es n h = h refl
+room-for (suc r) es n h = omega arith
