@@ -5,3 +5,4 @@ pub mod Counted
 pub mod Calling
 pub mod Locals
 pub mod Problem
+pub mod Starting

@@ -2,7 +2,7 @@
 -- the entry, and freed together at the return. It says nothing of the crate.
 --     env ls bs        the environment of locals ls at the blocks bs
 --     locals E vs      the items: local i holds value i of vs, or is room where vs has none
---     enters           a function is entered: the body runs from its locals, of which the parameters hold the arguments
+--     enters           a function is entered: the body runs from its locals, which stand last in the context, and of which the parameters hold the arguments
 --     free-all         its locals, which stand last in the context, are freed
 use Prim.Native.Nat.{ℕ, zero, suc}
 use mathlib.Core.Path.{_≡_, refl, sym, ap, subst}
@@ -18,7 +18,7 @@ use base.Logic.{SProp, ent, sep, via, comm∗, assoc∗, monoL, monoR}
 use base.Fml.{fat, froom, fdies}
 use prog.Wp.{Heap, Env, Calls, Loops, WpFn}
 use ghost.Atoms.{Atoms}
-use types.Kit.{Given, Item, ‵, ⋆, ++⊢, ⊢++, nth, put, Goal, prop, runs, atRet, allocs, passes, frees, Seq, Step, step, by, _$_}
+use types.Kit.{Given, Item, ‵, ⋆, ++⊢, ⊢++, nth, put, Goal, prop, runs, atRet, allocs, params′, passes, frees, Seq, Step, step, by, _$_}
 use types.Run.{init, forget, enter, alloc1, alloc0, params1, pass1, pass0, free1, free0}
 
 abbrev pub Blocks : List Local → Type 0
@@ -70,6 +70,11 @@ module _ {M : Type 1} (𝓤 : URA M) (H : Heap 𝓤) (A : Atoms 𝓤) where
       (via 𝓤 (sep 𝓤 (⋆ 𝓤 H A two) (⋆ 𝓤 H A (Δ ++ Γ))) (monoR 𝓤 (⋆ 𝓤 H A two) (via 𝓤 (sep 𝓤 (⋆ 𝓤 H A Δ) (⋆ 𝓤 H A Γ)) (comm∗ 𝓤 (⋆ 𝓤 H A Γ) (⋆ 𝓤 H A Δ)) (++⊢ 𝓤 H A Δ Γ)))
       (++⊢ 𝓤 H A two (Δ ++ Γ))))))
 
+  turned : (Δ Γ : List (Item 𝓤)) → ent 𝓤 (⋆ 𝓤 H A (Δ ++ Γ)) (⋆ 𝓤 H A (Γ ++ Δ))
+  turned Δ Γ =
+      via 𝓤 (sep 𝓤 (⋆ 𝓤 H A Δ) (⋆ 𝓤 H A Γ)) (⊢++ 𝓤 H A Δ Γ)
+      (via 𝓤 (sep 𝓤 (⋆ 𝓤 H A Γ) (⋆ 𝓤 H A Δ)) (comm∗ 𝓤 (⋆ 𝓤 H A Δ) (⋆ 𝓤 H A Γ)) (++⊢ 𝓤 H A Γ Δ))
+
 -- ---- the entry
 module _ {M : Type 1} {𝓤 : URA M} {H : Heap 𝓤} {A : Atoms 𝓤} {K : Type 0} {W : Given 𝓤 H A} where
   alloc-all : K → (ls : List Local) (Γ : List (Item 𝓤)) (Kt : Env 𝓤 H → Goal 𝓤 H) → ((bs : Blocks ls) → Seq K W (locals (env ls bs) [] ++ Γ) (Kt (env ls bs))) → Seq K W Γ (allocs ls Kt)
@@ -92,16 +97,17 @@ module _ {M : Type 1} {𝓤 : URA M} {H : Heap 𝓤} {A : Atoms 𝓤} {K : Type 
       (pass-all t (Δ ++ (full ∷ dies ∷ [])) E vs Γ G (f .1)
       (subst (λ (l : List (Item 𝓤)). Seq K W l G) (sym (append-assoc Δ (full ∷ dies ∷ []) (locals E (map some vs) ++ Γ))) s)))
 
-  enter-all : K → (E : List (Ty × ℕ)) (vs : List Val) (Γ : List (Item 𝓤)) (G : Goal 𝓤 H) → Fits E vs → Seq K W (locals E (none ∷ map some vs) ++ Γ) G → Seq K W (locals E [] ++ Γ) (types.Kit.params′ E vs G)
+  enter-all : K → (E : List (Ty × ℕ)) (vs : List Val) (Γ : List (Item 𝓤)) (G : Goal 𝓤 H) → Fits E vs → Seq K W (locals E (none ∷ map some vs) ++ Γ) G → Seq K W (locals E [] ++ Γ) (params′ E vs G)
   enter-all t [] vs Γ G f s = absurd f
   enter-all t (e ∷ E) vs Γ G f s = params1 t $ pass-all t (‵ (froom (e .0) (e .1) zero) ∷ ‵ (fdies (e .0) (e .1)) ∷ []) E vs Γ G f s
 
   pub enters : K → (C : Calls 𝓤 H) (Λ : Loops 𝓤 H) (f : Fn) (vs : List Val) (Kf : Val → SProp 𝓤) (Γ : List (Item 𝓤)) → ((bs : Blocks (f .locals)) → Fits (env (f .locals) bs) vs)
-      → ((bs : Blocks (f .locals)) → Seq K W (locals (env (f .locals) bs) (none ∷ map some vs) ++ Γ) (runs C Λ (env (f .locals) bs) (f .body) (atRet (env (f .locals) bs) Kf)))
+      → ((bs : Blocks (f .locals)) → Seq K W (Γ ++ locals (env (f .locals) bs) (none ∷ map some vs)) (runs C Λ (env (f .locals) bs) (f .body) (atRet (env (f .locals) bs) Kf)))
       → Seq K W Γ (prop (WpFn 𝓤 H C Λ f vs Kf))
   enters t C Λ f vs Kf Γ fits k =
-      enter t C Λ f vs Kf $ alloc-all t (f .locals) Γ (λ E. types.Kit.params′ E vs (runs C Λ E (f .body) (atRet E Kf)))
-      (λ bs. enter-all t (env (f .locals) bs) vs Γ (runs C Λ (env (f .locals) bs) (f .body) (atRet (env (f .locals) bs) Kf)) (fits bs) (k bs))
+      enter t C Λ f vs Kf $ alloc-all t (f .locals) Γ (λ E. params′ E vs (runs C Λ E (f .body) (atRet E Kf)))
+      (λ bs. enter-all t (env (f .locals) bs) vs Γ (runs C Λ (env (f .locals) bs) (f .body) (atRet (env (f .locals) bs) Kf)) (fits bs)
+      (by t (via 𝓤 (⋆ 𝓤 H A (Γ ++ locals (env (f .locals) bs) (none ∷ map some vs))) (turned 𝓤 H A (locals (env (f .locals) bs) (none ∷ map some vs)) Γ) (k bs .prf))))
 
 -- ---- the return
 free-first : {M : Type 1} {𝓤 : URA M} {H : Heap 𝓤} {A : Atoms 𝓤} {K : Type 0} {W : Given 𝓤 H A} {Γ : List (Item 𝓤)} {G : Goal 𝓤 H} → K → (E : Env 𝓤 H) (vs : List (Option Val))
@@ -113,7 +119,4 @@ free-first t (e ∷ E) (some v ∷ vs) = step (λ s. forget t 0 refl $ free1 t $
 
 module _ {M : Type 1} {𝓤 : URA M} {H : Heap 𝓤} {A : Atoms 𝓤} {K : Type 0} {W : Given 𝓤 H A} {G : Goal 𝓤 H} where
   pub free-all : K → (Γ : List (Item 𝓤)) (E : Env 𝓤 H) (vs : List (Option Val)) → Step K W Γ G (Γ ++ locals E vs) (frees E G)
-  free-all t Γ E vs = step (λ s. by t
-      (via 𝓤 (⋆ 𝓤 H A (locals E vs ++ Γ))
-      (via 𝓤 (sep 𝓤 (⋆ 𝓤 H A (locals E vs)) (⋆ 𝓤 H A Γ)) (via 𝓤 (sep 𝓤 (⋆ 𝓤 H A Γ) (⋆ 𝓤 H A (locals E vs))) (⊢++ 𝓤 H A Γ (locals E vs)) (comm∗ 𝓤 (⋆ 𝓤 H A Γ) (⋆ 𝓤 H A (locals E vs)))) (++⊢ 𝓤 H A (locals E vs) Γ))
-      ((free-first t E vs $ s) .prf)))
+  free-all t Γ E vs = step (λ s. by t (via 𝓤 (⋆ 𝓤 H A (locals E vs ++ Γ)) (turned 𝓤 H A Γ (locals E vs)) ((free-first t E vs $ s) .prf)))

@@ -5,7 +5,7 @@ use native.Mathlib.Omega.{arith}
 use mathlib.Core.Path.{_≡_, refl, sym, ap, ap₂, _∙_}
 use mathlib.Core.Bool.{Bool, true, false, cond, not, _&&_}
 use mathlib.Core.List.{List, [], _∷_, _++_, map, reverse}
-use lib.ListN.{length, getD, take, drop, set, length-drop, length-take, length-map}
+use lib.ListN.{length, getD, take, drop, set, length-drop, length-take, length-map, drop-of-length-le}
 use lib.Seq.{drop-cons, take-suc, take-all, length-take-le}
 use lib.Dec.{T, eqb}
 use Rattle.layout.specs.Lists.{all, below, written}
@@ -24,7 +24,7 @@ use Rattle.cone_map.specs.declared.ConeMapEntry.{ConeMapEntry}
 use Rattle.cone_map.specs.declared.TreeAndClique.{TreeAndClique}
 use Rattle.cone_map.specs.declared.TreeAndClique.the-variants.{None, In}
 use Rattle.cone_map.specs.Entries.{meant, structOf, patternWord, cliqueWord, sameEntry, sameMap}
-use Rattle.cone_map.specs.Walking.{blocksAfter, entriesFrom, unlessRefused, Compares}
+use Rattle.cone_map.specs.Walking.{blocksAfter, entriesFrom, unlessRefused, agreed, Compares}
 use Rattle.cone_map.proofs.Entries.{struct-meant}
 
 -- the blocks after an entry, by its words
@@ -155,3 +155,21 @@ fill-all (suc r) es ys = refl
 pub room-for : (r : ℕ) (es : List MapEntry) (n : ℕ) → (r ≡ 0 → length es ≤ n) → length (unlessRefused r es) ≤ n
 room-for zero es n h = h refl
 room-for (suc r) es n h = omega arith
+
+-- ---- entries compared one after the other
+
+module _ (cones words : List ℕ) (ys : List ConeMapEntry) (k : ℕ) (c : MapPlace) where
+  pub agree-start : (es : List MapEntry) → entriesFrom cones words c ≡ es → c .same ≡ true → agreed cones words c (map meant ys) ≡ sameMap (map meant ys) es
+  agree-start es e s = ap₂ (λ (b : Bool) (l : List MapEntry). b && sameMap (map meant ys) l) s e
+
+  pub agree-next : (r : MapPlace) (d : ConeMapEntry) (b : Bool) → k < length ys → Compares cones words c (getD ys k d) r → agreed cones words c (map meant (drop k ys)) ≡ b
+      → agreed cones words r (map meant (drop (suc k) ys)) ≡ b
+  agree-next r d b l h e = h (map meant (drop (suc k) ys)) ∙ ap (λ (xs : List ConeMapEntry). agreed cones words c (map meant xs)) (sym (drop-cons ys k d l)) ∙ e
+
+  pub agree-end : (b : Bool) → length ys ≤ k → agreed cones words c (map meant (drop k ys)) ≡ b → (c .same && not (c .here)) ≡ b
+  agree-end b l e =
+      none-left (c .here) (meant (c .entry)) _ ∙ ap (λ (xs : List ConeMapEntry). agreed cones words c (map meant xs)) (sym (drop-of-length-le ys l)) ∙ e
+    where
+      none-left : (h : Bool) (x : MapEntry) (xs : List MapEntry) → (c .same && not h) ≡ (c .same && sameMap [] (cond h (x ∷ xs) []))
+      none-left true x xs = refl
+      none-left false x xs = refl

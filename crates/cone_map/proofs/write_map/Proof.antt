@@ -56,13 +56,14 @@ use Rattle.cone_map.specs.Walking.{entriesFrom, unlessRefused, Valid}
 use Rattle.cone_map.proofs.Walking.{here-before, entry-before, next-before, here-end, filled, length-filled, fill-more, fill-all, room-for}
 use Rattle.cone_map.proofs.Counted.{counted}
 use Rattle.cone_map.proofs.Locals.{locals, enters, free-all}
+use Rattle.cone_map.proofs.Starting as starting
+use Rattle.cone_map.proofs.Starting.{only}
 use Rattle.cone_map.proofs.Problem as problem
 use Rattle.cone_map.proofs.Problem.{mach, number}
 use Rattle.cone_map.proofs.ConeMapEntry as T
 use Rattle.cone_map.proofs.ConeMapEntry.Laws as T′
 use Rattle.cone_map.proofs.MapPlace as P
 use Rattle.cone_map.proofs.MapPlace.Laws as P′
-use Rattle.cone_map.proofs.MapPlace.start as start
 use Rattle.cone_map.proofs.MapPlace.start.Symbol as start-def
 use Rattle.cone_map.proofs.MapPlace.start.Symbol.{name as #start}
 use Rattle.cone_map.proofs.MapPlace.start.Met as start-thm
@@ -81,11 +82,8 @@ stayed = (
   (stay-none (λ _. u32) yes, (stay-none-slice (0 ∷ []) tt (plain (λ _. u32)) yes, (stay-none (λ _. u32) yes, (stay-none-slice (1 ∷ []) tt (plain (λ _. u32)) yes, (stay-slice (2 ∷ []) tt (plain (λ _. T.the-row)), tt))))),
 )
 
--- the callees' contracts
+-- the callee's contract, beside `start`'s
 module _ {M : Type 1} (𝓤 : URA M) (H : Heap 𝓤) (A : Atoms 𝓤) (mem : Memory → SProp 𝓤) (run : Routine → Fun 𝓤) where
-  abbrev Start : Contract 𝓤
-  Start = tripleOf 𝓤 H A start.signature (start.spec 𝓤 H A mem run)
-
   abbrev Next : Contract 𝓤
   Next = tripleOf 𝓤 H A next.signature (next.spec 𝓤 H A mem run)
 
@@ -98,9 +96,6 @@ module _ {M : Type 1} (𝓤 : URA M) (H : Heap 𝓤) (A : Atoms 𝓤) (W : Given
 
   abbrev ev : Val
   ev = sliceVal (b, o) (length ys)
-
-  abbrev only : RefT (List ℕ) → Val
-  only x = sliceVal (x .ptr) (length (x .now))
 
   abbrev x : ℕ × (ℕ × (RefT (List ℕ) × (ℕ × (RefT (List ℕ) × (RefT (List ConeMapEntry) × Unit {0})))))
   x = (r, (m, (cones, (count, (words, (entries, tt))))))
@@ -116,7 +111,7 @@ module _ {M : Type 1} (𝓤 : URA M) (H : Heap 𝓤) (A : Atoms 𝓤) (W : Given
   full = coneMap (joinedParts (cones .now) count (words .now))
 
   abbrev es : List MapEntry
-  es = unlessRefused r full
+  es = starting.entriesOf 𝓤 H A W mem run κ₀ κ₁ q₀ q₁ r m cones count words fr fm fc (λ e. given e .0)
 
   fits : length es ≤ length ys
   fits = room-for r full (length ys) (λ e. given e .1)
@@ -149,17 +144,6 @@ module _ {M : Type 1} (𝓤 : URA M) (H : Heap 𝓤) (A : Atoms 𝓤) (W : Given
       nothing ! $ move ! (1 ∷ 2 ∷ 0 ∷ []) $ fjoin ! $ pureI ! (at-slice T.the-row y (ev ∷ [])) (tt, (tt, tt)) (ap (λ (j : ℕ). sliceVal (b, o) j ∷ []) (sym (len n)), subst (Room T.the-row) (sym (len n)) room) $ fjoin ! $ fjoin ! $
       move ! (1 ∷ 2 ∷ 0 ∷ []) $ problem.gather κ₀ κ₁ q₀ q₁ cones words ! r m count fr fm fc $ frame ! $ feqI ! (List Val) (vunit ∷ []) (vunit ∷ []) refl $ done !
 
-  abbrev to-start : Start 𝓤 H A mem run .Ghost
-  to-start = (((κ₀, (κ₁, tt)), (q₀, (q₁, tt)), tt, (r, (m, (cones, (count, (words, tt))))), (vint w32 r ∷ [], (vint w32 m ∷ [], (only cones ∷ [], (vint w32 count ∷ [], (only words ∷ [], tt)))))), tt)
-
-  asks-start : ent 𝓤 (⋆ 𝓤 H A Both) (Start 𝓤 H A mem run .pre to-start)
-  asks-start =
-      qed W Both ∵ says ! (λ e. given e .0) $ problem.tokens κ₀ κ₁ q₀ q₁ cones words ! $ nothing ! $ move ! (1 ∷ 2 ∷ 0 ∷ []) $ problem.gather κ₀ κ₁ q₀ q₁ cones words ! r m count fr fm fc $ done !
-
-  said-start : (c : MapPlace) → ent 𝓤 (ensured 𝓤 H A start.ended (start.clauses 𝓤 H A mem run) (κ₀, (κ₁, tt)) (r, (m, (cones, (count, (words, tt))))) tt c)
-      (fact 𝓤 ((entriesFrom (cones .now) (words .now) c ≡ es) × Valid m (cones .now) (words .now) c × (c .same ≡ true)))
-  said-start c = exE 𝓤 _ (λ us. snd∗ 𝓤 (sem 𝓤 H A (lasts start.ended (κ₀, (κ₁, tt)) (r, (m, (cones, (count, (words, tt))))) us)) (fact 𝓤 ((entriesFrom (cones .now) (words .now) c ≡ es) × Valid m (cones .now) (words .now) c × (c .same ≡ true))))
-
   abbrev to-next : MapPlace → Next 𝓤 H A mem run .Ghost
   to-next c = (((κ₀, (κ₁, tt)), (q₀, (q₁, tt)), tt, (c, (m, (cones, (words, tt)))), (mach c ∷ [], (vint w32 m ∷ [], (only cones ∷ [], (only words ∷ [], tt))))), tt)
 
@@ -183,7 +167,7 @@ module _ {M : Type 1} (𝓤 : URA M) (H : Heap 𝓤) (A : Atoms 𝓤) (W : Given
   abbrev State : ℕ → Type 0
   State k = (c : MapPlace) × (entriesFrom (cones .now) (words .now) c ≡ dropped k es) × Valid m (cones .now) (words .now) c × Is P.the-row c (mach c ∷ [])
 
-  module _ (𝓣 : Tables 𝓤 H) (known-start : Triple 𝓤 (𝓣 .C #start) (Start 𝓤 H A mem run)) (known-next : Triple 𝓤 (𝓣 .C #next) (Next 𝓤 H A mem run)) (l₀ l₁ l₂ l₃ l₄ l₅ l₆ l₇ l₈ l₉ l₁₀ l₁₁ : ℕ) where
+  module _ (𝓣 : Tables 𝓤 H) (known-start : Triple 𝓤 (𝓣 .C #start) (starting.Start 𝓤 H A W mem run)) (known-next : Triple 𝓤 (𝓣 .C #next) (Next 𝓤 H A mem run)) (l₀ l₁ l₂ l₃ l₄ l₅ l₆ l₇ l₈ l₉ l₁₀ l₁₁ : ℕ) where
     abbrev C : Calls 𝓤 H
     C = 𝓣 .C
 
@@ -193,21 +177,17 @@ module _ {M : Type 1} (𝓤 : URA M) (H : Heap 𝓤) (A : Atoms 𝓤) (W : Given
     abbrev esTy : Ty
     esTy = sliceTy (tyRef (named 2) mut (pointee (T.the-row .written)))
 
-    abbrev wsTy : ℕ → Ty
-    wsTy i = sliceTy (tyRef (named i) imm (tyInt w32))
-
     abbrev word : Ty
     word = tyInt w64
 
-    abbrev half : Ty
-    half = tyInt w32
+    abbrev E : List (Ty × ℕ)
+    E = (esTy, l₆) ∷ (P′.mir, l₇) ∷ (word, l₈) ∷ (tyBool, l₉) ∷ (word, l₁₀) ∷ (tyPtr, l₁₁) ∷ []
 
     abbrev En : Env 𝓤 H
-    En = (tyUnit, l₀) ∷ (half, l₁) ∷ (half, l₂) ∷ (wsTy 0, l₃) ∷ (half, l₄) ∷ (wsTy 1, l₅) ∷ (esTy, l₆) ∷ (P′.mir, l₇) ∷ (word, l₈) ∷ (tyBool, l₉) ∷ (word, l₁₀) ∷ (tyPtr, l₁₁) ∷ []
+    En = starting.Env-of 𝓤 H A W mem run κ₀ κ₁ q₀ q₁ r m cones count words fr fm fc (λ e. given e .0) tyUnit l₀ l₁ l₂ l₃ l₄ l₅ E
 
-    -- the locals with the arguments and more
     abbrev Local : List (Option Val) → List (Item 𝓤)
-    Local vs = locals En (none ∷ some (vint w32 r) ∷ some (vint w32 m) ∷ some (only cones) ∷ some (vint w32 count) ∷ some (only words) ∷ some ev ∷ vs)
+    Local vs = starting.Local 𝓤 H A W mem run κ₀ κ₁ q₀ q₁ r m cones count words fr fm fc (λ e. given e .0) tyUnit l₀ l₁ l₂ l₃ l₄ l₅ E (some ev ∷ vs)
 
     -- k entries are written
     abbrev At : (k : ℕ) → State k → List (Item 𝓤)
@@ -270,28 +250,24 @@ module _ {M : Type 1} (𝓤 : URA M) (H : Heap 𝓤) (A : Atoms 𝓤) (W : Given
     loops : (s : State 0) → ent 𝓤 (⋆ 𝓤 H A (At 0 s)) (Wp 𝓤 H C Λ En (loop code.Mir.turn-1) Left)
     loops s = counted 𝓤 H A W 𝓣 En code.Mir.turn-1 Left n State At more ends s
 
-    body : ent 𝓤 (⋆ 𝓤 H A (Local [] ++ Owned)) (Wp 𝓤 H C Λ En code.Mir.t-1 (atReturn 𝓤 H En Post))
+    body : ent 𝓤 (⋆ 𝓤 H A (Owned ++ Local [])) (Wp 𝓤 H C Λ En code.Mir.t-1 (atReturn 𝓤 H En Post))
     body =
-        qed W (Local [] ++ Owned) ∵ exec ! C Λ En code.Mir.t-1 (atRet En Post) $
-        move ! (24 ∷ 25 ∷ []) $ split3 ! $ move ! (3 ∷ []) $ problem.scatter κ₀ κ₁ q₀ q₁ cones words ! $ move ! (3 ∷ 4 ∷ 0 ∷ 1 ∷ []) $
+        qed W (Owned ++ Local []) ∵ exec ! C Λ En code.Mir.t-1 (atRet En Post) $
+        starting.begins 𝓤 H A W mem run κ₀ κ₁ q₀ q₁ r m cones count words fr fm fc (λ e. given e .0) tyUnit l₀ l₁ l₂ l₃ l₄ l₅ E 𝓣 known-start (some ev ∷ []) (‵ (flft κ₂ q₂) ⊛ ‵ ftrue) _ _ _ _ (λ c told is.
         -- [the tokens; the slices; what entries owns; its token; _0; …]: local i at 6 + 2 * i
-        problem.calls-over κ₀ κ₁ q₀ q₁ cones words ! (fmOf 𝓤 H (W .laws) 𝓣) (Start 𝓤 H A mem run) known-start to-start asks-start
-        (ensured 𝓤 H A start.ended (start.clauses 𝓤 H A mem run) (κ₀, (κ₁, tt)) (r, (m, (cones, (count, (words, tt))))) tt)
-        (λ c. (entriesFrom (cones .now) (words .now) c ≡ es) × Valid m (cones .now) (words .now) c × (c .same ≡ true)) (λ u. id⊢ 𝓤 _) said-start
-        (and-then ! (load ! (from ! (stop !)) (look ! 7 refl)) (and-then ! (load ! (from ! (stop !)) (look ! 9 refl)) (and-then ! (load ! (from ! (stop !)) (look ! 11 refl)) (and-then ! (load ! (from ! (stop !)) (look ! 13 refl)) (and-then ! (load ! (from ! (stop !)) (look ! 15 refl)) (no-more !)))))) (λ c told is.
         land ! (from ! (stop !)) (init ! 20 refl (LL.lawful P.the-type P′.the-laws 𝓤 H A W .typed c _ is .0)) $
         assigns ! (of-opd ! (lit ! tt)) (from ! (stop !)) (init ! 22 refl (tt, record { fits = lit< tt })) $
         move ! (4 ∷ []) $ fsplit ! $ fsplit ! $ drop ! $ fsplit ! $ move ! (7 ∷ []) $ split ! $ move ! (2 ∷ 3 ∷ 0 ∷ []) $ opens-slice ! tt T.the-row ys b o $ move ! (4 ∷ []) $ drop ! $ move ! (4 ∷ []) $ drop ! $
         move ! (4 ∷ 5 ∷ 6 ∷ 7 ∷ []) $ by ! (loops (c, told .0, told .1, is)))
 
-  walk : (𝓣 : Tables 𝓤 H) → Triple 𝓤 (𝓣 .C #start) (Start 𝓤 H A mem run) → Triple 𝓤 (𝓣 .C #next) (Next 𝓤 H A mem run) → ent 𝓤 (onEntry 𝓤 H A write.signature (κ₀, (κ₁, (κ₂, tt))) (q₀, (q₁, (q₂, tt))) x at) (WpFn 𝓤 H (𝓣 .C) (𝓣 .Λ) code.function args Post)
+  walk : (𝓣 : Tables 𝓤 H) → Triple 𝓤 (𝓣 .C #start) (starting.Start 𝓤 H A W mem run) → Triple 𝓤 (𝓣 .C #next) (Next 𝓤 H A mem run) → ent 𝓤 (onEntry 𝓤 H A write.signature (κ₀, (κ₁, (κ₂, tt))) (q₀, (q₁, (q₂, tt))) x at) (WpFn 𝓤 H (𝓣 .C) (𝓣 .Λ) code.function args Post)
   walk 𝓣 known-start known-next =
       qed W Owned ∵ enters ! (𝓣 .C) (𝓣 .Λ) code.function args Post Owned
       (λ bs. ((tt, record { fits = fr }), ((tt, record { fits = fm }), ((tt, (tt, (record { fits = croom }, tt))), ((tt, record { fits = fc }), ((tt, (tt, (record { fits = wroom }, tt))), ((tt, (tt, (record { fits = room .0 }, tt))), tt)))))))
       (λ bs. by ! (body 𝓣 known-start known-next (bs .0) (bs .1 .0) (bs .1 .1 .0) (bs .1 .1 .1 .0) (bs .1 .1 .1 .1 .0) (bs .1 .1 .1 .1 .1 .0) (bs .1 .1 .1 .1 .1 .1 .0) (bs .1 .1 .1 .1 .1 .1 .1 .0) (bs .1 .1 .1 .1 .1 .1 .1 .1 .0)
       (bs .1 .1 .1 .1 .1 .1 .1 .1 .1 .0) (bs .1 .1 .1 .1 .1 .1 .1 .1 .1 .1 .0) (bs .1 .1 .1 .1 .1 .1 .1 .1 .1 .1 .1 .0)))
 
-module _ {M : Type 1} (𝓤 : URA M) (H : Heap 𝓤) (A : Atoms 𝓤) (W : Given 𝓤 H A) (mem : Memory → SProp 𝓤) (run : Routine → Fun 𝓤) (𝓣 : Tables 𝓤 H) (known-start : Triple 𝓤 (𝓣 .C #start) (Start 𝓤 H A mem run))
+module _ {M : Type 1} (𝓤 : URA M) (H : Heap 𝓤) (A : Atoms 𝓤) (W : Given 𝓤 H A) (mem : Memory → SProp 𝓤) (run : Routine → Fun 𝓤) (𝓣 : Tables 𝓤 H) (known-start : Triple 𝓤 (𝓣 .C #start) (starting.Start 𝓤 H A W mem run))
     (known-next : Triple 𝓤 (𝓣 .C #next) (Next 𝓤 H A mem run)) where
   write-walks : Walks 𝓤 H A write.ended stayed (WpFn 𝓤 H (𝓣 .C) (𝓣 .Λ) code.function) (write.clauses 𝓤 H A mem run)
   write-walks = walked 𝓤 H A write.ended stayed (write.clauses 𝓤 H A mem run) (WpFn 𝓤 H (𝓣 .C) (𝓣 .Λ) code.function)
@@ -315,5 +291,5 @@ write-map-spec 𝓤 H 𝓜 𝓖 𝓡 =
     entered 𝓤 H (tripleOf 𝓤 H (𝓖 .A) write.signature (write.spec 𝓤 H (𝓖 .A) (𝓜 .mem) (𝓡 .run)))
     (tables 𝓤 H 𝓜 𝓡 code.env .C) (tables 𝓤 H 𝓜 𝓡 code.env .Λ) #write code.function (code.unfolded 𝓤 H 𝓜 𝓡)
     (write-meets 𝓤 H (𝓖 .A) (givenOf 𝓤 H 𝓜 𝓖) (𝓜 .mem) (𝓡 .run) (tablesOf 𝓤 H 𝓜 (tables 𝓤 H 𝓜 𝓡 code.env))
-    (cited 𝓤 H (Start 𝓤 H (𝓖 .A) (𝓜 .mem) (𝓡 .run)) 𝓜 𝓡 code.env #start start-def.routine code.calls-cone-map·MapPlace·start (start-thm.met 𝓤 H 𝓜 𝓖 𝓡))
+    (cited 𝓤 H (starting.Start 𝓤 H (𝓖 .A) (givenOf 𝓤 H 𝓜 𝓖) (𝓜 .mem) (𝓡 .run)) 𝓜 𝓡 code.env #start start-def.routine code.calls-cone-map·MapPlace·start (start-thm.met 𝓤 H 𝓜 𝓖 𝓡))
     (cited 𝓤 H (Next 𝓤 H (𝓖 .A) (𝓜 .mem) (𝓡 .run)) 𝓜 𝓡 code.env #next next-def.routine code.calls-cone-map·MapPlace·next (next-thm.met 𝓤 H 𝓜 𝓖 𝓡)))
