@@ -1,10 +1,9 @@
 -- The cone map's entries: what a struct stands for among layout's, how words read as entries, and when two maps are the same.
 use Prim.Native.Nat.{ℕ, _+_, _*_}
 use mathlib.Core.Bool.{Bool, true, false, cond, _&&_}
-use mathlib.Core.List.{List, [], _∷_, map}
+use mathlib.Core.List.{List, [], _∷_}
 use lib.ListN.{getD}
 use lib.Dec.{eqb}
-use Rattle.layout.specs.Lists.{below}
 use Rattle.layout.specs.Compact.{MapEntry, wholeCone, blockOf, noPatternNumber}
 use Rattle.cone_map.specs.declared.ConeMapEntry.{ConeMapEntry}
 use Rattle.cone_map.specs.declared.TreeAndClique.{TreeAndClique}
@@ -38,10 +37,6 @@ readEntry ws k =
     let i = getD ws (k * 3) 0 in
     let pattern = getD ws (k * 3 + 1) 0 in
     cond (eqb pattern noPatternNumber) (wholeCone i) (blockOf i pattern (getD ws (k * 3 + 2) 0))
-
--- the first n
-abbrev pub readMap : ℕ → List ℕ → List MapEntry
-readMap n ws = map (readEntry ws) (below n)
 
 -- ---- the same entry, and the same map
 

@@ -1,16 +1,14 @@
-// The cone map as entry structs. The two functions over a slice of entries, `write_map` and `same_map`, are proved by hand; what they do for
-// one entry is in the functions that they call.
+// An entry of the cone map as a struct, and the walk over a problem's map, entry by entry.
 ghost use mathlib.Core.Path.{_≡_};
 ghost use mathlib.Core.Bool.{true, false, not, _&&_};
-ghost use mathlib.Core.List.{map};
 ghost use Prim.Native.Nat.{_+_, _*_, _≤_};
 ghost use lib.ListN.{length, drop};
 ghost use Rattle.layout.specs.Lists.{written};
 ghost use Rattle.layout.specs.Checks.{Sound};
 ghost use Rattle.layout.specs.Compact.{entryWords, coneMap};
-ghost use Rattle.layout.specs.Answers.{joinedParts, output};
+ghost use Rattle.layout.specs.Answers.{joinedParts};
 ghost use Rattle.parts.specs.Ahead.{ahead, Stands};
-ghost use Rattle.cone_map.specs.Entries.{placed, meant, structOf, patternWord, cliqueWord, readEntry, sameEntry, sameMap};
+ghost use Rattle.cone_map.specs.Entries.{placed, meant, structOf, patternWord, cliqueWord, readEntry, sameEntry};
 ghost use Rattle.cone_map.specs.Walking.{entriesFrom, unlessRefused, Valid, Compares};
 use parts::Met;
 use parts::Place;
@@ -200,7 +198,7 @@ impl MapPlace {
     }
 
     // The first entry of a problem's map; a refused problem has none.
-    fn start(refused: u32, m: u32, cones: &[u32], count: u32, words: &[u32]) -> MapPlace
+    pub fn start(refused: u32, m: u32, cones: &[u32], count: u32, words: &[u32]) -> MapPlace
         requires { ⌜ (refused ≡ 0 → Sound m (now cones) count (now words)) ⌝ }
         ensures { λ r. ⌜ (entriesFrom (now (cones .entry)) (now (words .entry)) r ≡ unlessRefused refused (coneMap (joinedParts (now (cones .entry)) count (now (words .entry))))) × Valid m (now (cones .entry)) (now (words .entry)) r × (r .same ≡ true) ⌝ }
     {
@@ -212,7 +210,7 @@ impl MapPlace {
     }
 
     // The place after the entry.
-    fn next(self, m: u32, cones: &[u32], words: &[u32]) -> MapPlace
+    pub fn next(self, m: u32, cones: &[u32], words: &[u32]) -> MapPlace
         requires { ⌜ Valid m (now cones) (now words) self ⌝ }
         ensures { λ r. ⌜ (entriesFrom (now (cones .entry)) (now (words .entry)) r ≡ drop 1 (entriesFrom (now (cones .entry)) (now (words .entry)) self)) × Valid m (now (cones .entry)) (now (words .entry)) r ⌝ }
     {
@@ -222,12 +220,14 @@ impl MapPlace {
             let left = at.clique_word();
             let place = self.place;
             if 0 < left {
+                let pattern = at.pattern_word();
+                let clique = left - 1;
                 return MapPlace {
                     here: true,
                     same: true,
                     entry: ConeMapEntry {
                         orig_index: entry.orig_index,
-                        tree_and_clique: TreeAndClique::In(at.pattern_word(), left - 1),
+                        tree_and_clique: TreeAndClique::In(pattern, clique),
                     },
                     place: place,
                 };
@@ -250,7 +250,7 @@ impl MapPlace {
     }
 
     // The place after the entry, which is compared.
-    fn compare(self, entry: ConeMapEntry, m: u32, cones: &[u32], words: &[u32]) -> MapPlace
+    pub fn compare(self, entry: ConeMapEntry, m: u32, cones: &[u32], words: &[u32]) -> MapPlace
         requires { ⌜ Valid m (now cones) (now words) self ⌝ }
         ensures { λ r. ⌜ Compares (now (cones .entry)) (now (words .entry)) self entry r × Valid m (now (cones .entry)) (now (words .entry)) r ⌝ }
     {
@@ -266,7 +266,7 @@ impl MapPlace {
     }
 
     // Whether each entry was the one that it was compared with, and none is left.
-    fn all_agreed(self) -> bool
+    pub fn all_agreed(self) -> bool
         ensures { λ r. ⌜ r ≡ (self .same && not (self .here)) ⌝ }
     {
         if self.same {
@@ -274,48 +274,4 @@ impl MapPlace {
         }
         false
     }
-}
-
-// ---- over slices of entries
-
-// Writes the map of a problem; of a refused one nothing.
-pub fn write_map(
-    refused: u32,
-    m: u32,
-    cones: &[u32],
-    count: u32,
-    words: &[u32],
-    entries: &mut [ConeMapEntry],
-)
-    requires { ⌜ (refused ≡ 0 → Sound m (now cones) count (now words) × (length (coneMap (joinedParts (now cones) count (now words))) ≤ length (now entries))) ⌝ }
-    ensures { λ _. ⌜ now (entries .exit) ≡ output refused (map structOf (coneMap (joinedParts (now (cones .entry)) count (now (words .entry))))) (now (entries .entry)) ⌝ }
-{
-    let mut at = MapPlace::start(refused, m, cones, count, words);
-    let mut k = 0;
-    while at.here {
-        entries[k] = at.entry;
-        at = at.next(m, cones, words);
-        k += 1;
-    }
-}
-
-// Whether the entries are the map of a problem; of a refused one nothing is said.
-pub fn same_map(
-    refused: u32,
-    m: u32,
-    cones: &[u32],
-    count: u32,
-    words: &[u32],
-    entries: &[ConeMapEntry],
-) -> bool
-    requires { ⌜ (refused ≡ 0 → Sound m (now cones) count (now words)) ⌝ }
-    ensures { λ r. ⌜ (refused ≡ 0 → r ≡ sameMap (map meant (now (entries .entry))) (coneMap (joinedParts (now (cones .entry)) count (now (words .entry))))) ⌝ }
-{
-    let mut at = MapPlace::start(refused, m, cones, count, words);
-    let mut k = 0;
-    while k < entries.len() {
-        at = at.compare(entries[k], m, cones, words);
-        k += 1;
-    }
-    at.all_agreed()
 }

@@ -20,8 +20,8 @@ clique-word-requires c κs = search needs
 pattern-word-requires : tie.Need-pattern-word-requires
 pattern-word-requires c κs = search needs
 
-sub-t12 : tie.Need-sub-t12
-sub-t12 c = search needs
+sub-clique : tie.Need-sub-clique
+sub-clique c = search needs
 
 returns : tie.Need-returns
 returns c =
@@ -57,7 +57,7 @@ next-spec =
     (tie.spec
     clique-word-requires
     pattern-word-requires
-    sub-t12
+    sub-clique
     returns
     first-requires
     returns-2

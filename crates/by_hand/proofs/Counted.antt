@@ -1,5 +1,5 @@
 -- A loop that is left after n turns, as the walks by hand have it: what holds before turn k, with a state that has its facts at k, and what a turn
--- makes of it. It says nothing of the crate.
+-- makes of it.
 use mathlib.Core.Path.{_≡_, subst}
 use Prim.Native.Nat.{ℕ, zero, suc, _+_, _<_}
 use mathlib.Core.List.{List}

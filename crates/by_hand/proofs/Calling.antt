@@ -1,5 +1,5 @@
 -- A call of a function whose result is plain data, in a walk by hand: once it has returned, its result's machine value is written out, with what
--- its `ensures` says. It says nothing of the crate.
+-- its `ensures` says.
 use mathlib.Core.Path.{_≡_, refl, ap}
 use Prim.Native.Nat.{ℕ}
 use mathlib.Core.List.{List, [], _∷_}

@@ -1,5 +1,5 @@
 -- A function's locals in a walk by hand: each with what it holds, or as room, and that it dies. They are made and given the arguments together at
--- the entry, and freed together at the return. It says nothing of the crate.
+-- the entry, and freed together at the return.
 --     env ls bs        the environment of locals ls at the blocks bs
 --     locals E vs      the items: local i holds value i of vs, or is room where vs has none
 --     enters           a function is entered: the body runs from its locals, which stand last in the context, and of which the parameters hold the arguments

@@ -1,0 +1,4 @@
+pub mod Counted
+pub mod Calling
+pub mod Locals
+pub mod Params
