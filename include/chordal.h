@@ -1,7 +1,12 @@
 /* The chordal cut and join of semidefinite problems: the calls of libdoor.a, which `rt staticlib door` makes.
  *
  * Each call returns 0 where it is done, and otherwise the number of the first check that fails; its outputs then hold
- * what they held. A slice is a pointer and a length; an output longer than its result keeps its rest.
+ * what they held. A slice is a pointer, never null, and a length; an output longer than its result keeps its rest.
+ * No output may overlap another argument. Whatever the tables hold, a call reads and writes within their lengths and
+ * ends. It fits a thread with 2 MB of stack, and calls on several threads do not meet.
+ *
+ * A route is 0 standard, 1 compact. The no-parent mark of a pattern, and the mark of a cone map's entry that has no
+ * pattern, is CHORDAL_NONE.
  */
 #ifndef CHORDAL_H
 #define CHORDAL_H
@@ -13,36 +18,41 @@
 extern "C" {
 #endif
 
+#define CHORDAL_NONE UINT32_C(4294967295)
+
 enum chordal_refusal {
     CHORDAL_DONE = 0,
-    CHORDAL_BOUND = 1,       /* a bound is exceeded, or the route is neither 0 nor 1 */
-    CHORDAL_STARTS = 2,      /* starts of A or P, or rows that are not as many as values */
-    CHORDAL_ROWS = 3,        /* rows in a column do not strictly rise, or lie outside */
+    CHORDAL_BOUND = 1,       /* a bound is exceeded: n or m 65,536, entries of A or P 262,144, cones 1,024, a size in a
+                                record 65,536, a PSD size 256, an index 255 (32,895 back); or the route is no route */
+    CHORDAL_STARTS = 2,      /* starts of A or P that are not n + 1 numbers from 0 to the number of values, never falling,
+                                or rows that are not as many as values */
+    CHORDAL_ROWS = 3,        /* rows in a column of A or P do not strictly rise, or lie outside */
     CHORDAL_CONES = 4,       /* a cone record, the cones' rows, or the length of alphas, q or b */
     CHORDAL_PATTERNS = 5,    /* pattern words, orig_index, vertex count or ordering; no permutation */
     CHORDAL_TREE = 6,        /* no clique, a parent that is not later, a last clique with parent or separator */
-    CHORDAL_CLIQUES = 7,     /* snodes that do not hold each vertex once, or a separator */
+    CHORDAL_CLIQUES = 7,     /* snodes that do not hold each vertex once or an empty one, a separator that repeats a
+                                member or has one that its parent's clique does not hold */
     CHORDAL_NO_COLUMNS = 8,  /* the compact route with n = 0 */
     CHORDAL_UNCOVERED = 9,   /* compact: an entry of A or a b unequal to zero in a row that no clique covers */
     CHORDAL_TOO_LARGE = 10,  /* more than 262,144 augmented rows or, compact, 131,072 overlaps */
     CHORDAL_SHORT = 11,      /* an output is too short */
-    CHORDAL_SOLUTION = 12    /* a solution's lengths, or the cone map */
+    CHORDAL_SOLUTION = 12    /* a solution's lengths, or the cone map, are not those that the problem gives */
 };
 
-/* out[0]: the index of the pair (i, j) in the packed upper triangle. */
+/* out[0]: the index of the pair (i, j) in the packed upper triangle. Refusals 1, 11. */
 uint32_t chordal_pair_index(uint32_t i, uint32_t j, uint32_t *out, size_t out_len);
 
-/* out[0], out[1]: row and column of an index. */
+/* out[0], out[1]: row and column of an index. Refusals 1, 11. */
 uint32_t chordal_pair_back(uint32_t index, uint32_t *out, size_t out_len);
 
-/* out[w]: the place of w in the permutation p. */
+/* out[w]: the place of w in the permutation p. Refusals 5, 11. */
 uint32_t chordal_inverse(const uint32_t *p, size_t p_len, uint32_t *out, size_t out_len);
 
-/* One pattern's words with its vertices numbered by rising clique. */
+/* One pattern's words with its vertices numbered by rising clique. Refusals 5 to 7, 11. */
 uint32_t chordal_renumber(const uint32_t *words, size_t words_len, uint32_t *out, size_t out_len);
 
 /* The lengths of the cut's eleven outputs: p starts, p rows, p values, q, a starts, a rows, a values, b, cones, alphas,
- * map. Route 0 is standard, 1 compact. */
+ * map. Refusals 1 to 11. */
 uint32_t chordal_sizes(
     uint32_t route, uint32_t n, uint32_t m,
     const uint32_t *p_starts, size_t p_starts_len, const uint32_t *p_rows, size_t p_rows_len,
@@ -53,7 +63,35 @@ uint32_t chordal_sizes(
     uint32_t pattern_count, const uint32_t *pattern_words, size_t pattern_words_len,
     uint32_t *out, size_t out_len);
 
-/* out[0]: 1 where n, m, cone records and pattern words of two problems agree, else 0. */
+/* The augmented problem. The map has three words for each cone: orig_index, pattern number or CHORDAL_NONE, clique
+ * number or 0; it is empty on the standard route. Refusals 1 to 11. */
+uint32_t chordal_cut(
+    uint32_t route, uint32_t n, uint32_t m,
+    const uint32_t *p_starts, size_t p_starts_len, const uint32_t *p_rows, size_t p_rows_len,
+    const double *p_values, size_t p_values_len, const double *q, size_t q_len,
+    const uint32_t *a_starts, size_t a_starts_len, const uint32_t *a_rows, size_t a_rows_len,
+    const double *a_values, size_t a_values_len, const double *b, size_t b_len,
+    const uint32_t *cones, size_t cones_len, const double *alphas, size_t alphas_len,
+    uint32_t pattern_count, const uint32_t *pattern_words, size_t pattern_words_len,
+    uint32_t *p_starts_out, size_t p_starts_out_len, uint32_t *p_rows_out, size_t p_rows_out_len,
+    double *p_values_out, size_t p_values_out_len, double *q_out, size_t q_out_len,
+    uint32_t *a_starts_out, size_t a_starts_out_len, uint32_t *a_rows_out, size_t a_rows_out_len,
+    double *a_values_out, size_t a_values_out_len, double *b_out, size_t b_out_len,
+    uint32_t *cones_out, size_t cones_out_len, double *alphas_out, size_t alphas_out_len,
+    uint32_t *map_out, size_t map_out_len);
+
+/* The original problem's solution from the augmented one's: n, m and m values, and tau and kappa, which are 1. Cones and
+ * patterns are the original ones, the map is the cut's; the standard route reads none. Refusals 1, 4 to 8, 10 to 12. */
+uint32_t chordal_join(
+    uint32_t route, uint32_t n, uint32_t m,
+    const uint32_t *cones, size_t cones_len,
+    uint32_t pattern_count, const uint32_t *pattern_words, size_t pattern_words_len,
+    const double *x, size_t x_len, const double *s, size_t s_len, const double *z, size_t z_len,
+    double tau, double kappa, const uint32_t *map, size_t map_len,
+    double *x_out, size_t x_out_len, double *s_out, size_t s_out_len, double *z_out, size_t z_out_len,
+    double *scalars_out, size_t scalars_out_len);
+
+/* out[0]: 1 where n, m, cone records and pattern words of two problems agree, else 0. Refusals 1 to 7, 11. */
 uint32_t chordal_same_layout(
     uint32_t n, uint32_t m,
     const uint32_t *p_starts, size_t p_starts_len, const uint32_t *p_rows, size_t p_rows_len,

@@ -1,6 +1,7 @@
 //! The plain reading against clarabel's own files, on one problem and one solution.
 
-use crate::expected::{self, JoinInput};
+use crate::expected;
+pub use crate::expected::join_input;
 use crate::problem::*;
 use crate::report::*;
 use reference::door::{Prepared, Tables, Vars};
@@ -21,17 +22,6 @@ pub fn tables(p: &Problem) -> Tables<'_> {
         alphas: &p.alphas,
         pattern_count: p.pattern_count,
         pattern_words: &p.pattern_words,
-    }
-}
-
-pub fn join_input<'a>(p: &'a Problem, solution: &'a Solution) -> JoinInput<'a> {
-    JoinInput {
-        n: p.n,
-        m: p.m,
-        cones: &p.cones,
-        pattern_count: p.pattern_count,
-        pattern_words: &p.pattern_words,
-        solution,
     }
 }
 

@@ -207,7 +207,7 @@ fn rows_right(m: u32, c: &Columns) -> bool {
 }
 
 fn cones_read(m: u32, words: &[u32]) -> bool {
-    words.len() % 3 == 0
+    words.len().is_multiple_of(3)
         && records(words).iter().all(Cone::reads)
         && records(words).iter().map(Cone::rows).sum::<u64>() == m as u64
 }
@@ -630,6 +630,17 @@ pub struct JoinInput<'a> {
     pub pattern_count: u32,
     pub pattern_words: &'a [u32],
     pub solution: &'a Solution,
+}
+
+pub fn join_input<'a>(p: &'a Problem, solution: &'a Solution) -> JoinInput<'a> {
+    JoinInput {
+        n: p.n,
+        m: p.m,
+        cones: &p.cones,
+        pattern_count: p.pattern_count,
+        pattern_words: &p.pattern_words,
+        solution,
+    }
 }
 
 /// `rooms` are those of x, s, z and the two scalars.

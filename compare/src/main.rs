@@ -55,26 +55,6 @@ fn case_problem(d: &mut Draws, scale: Scale) -> Problem {
     p
 }
 
-fn damaged_solution(d: &mut Draws, solution: &mut Solution) {
-    match d.below(6) {
-        0 => solution.x.push(0.0),
-        1 => {
-            solution.x.pop();
-        }
-        2 => solution.s.push(0.0),
-        3 => {
-            solution.z.pop();
-        }
-        4 => solution.map.push(0),
-        _ => {
-            if !solution.map.is_empty() {
-                let at = d.below(solution.map.len());
-                solution.map[at] = solution.map[at].wrapping_add(1 + d.below(2) as u32);
-            }
-        }
-    }
-}
-
 fn case(report: &mut Report, o: &Options, index: u64, scale: Scale) {
     let mut d = case_draws(o.seed, index);
     let p = case_problem(&mut d, scale);
@@ -87,7 +67,7 @@ fn case(report: &mut Report, o: &Options, index: u64, scale: Scale) {
             door::compare_cut(report, &mut d, route, &p);
             let mut solution = solution;
             if d.chance(20) {
-                damaged_solution(&mut d, &mut solution);
+                random::damage_solution(&mut d, &mut solution);
             }
             door::compare_join(report, &mut d, route, &p, &solution);
         }

@@ -486,6 +486,27 @@ fn damage_pattern(d: &mut Draws, patterns: &mut Vec<Pattern>, k: usize, check: u
     }
 }
 
+/// One fault in a solution's lengths or in its cone map.
+pub fn damage_solution(d: &mut Draws, solution: &mut Solution) {
+    match d.below(6) {
+        0 => solution.x.push(0.0),
+        1 => {
+            solution.x.pop();
+        }
+        2 => solution.s.push(0.0),
+        3 => {
+            solution.z.pop();
+        }
+        4 => solution.map.push(0),
+        _ => {
+            if !solution.map.is_empty() {
+                let at = d.below(solution.map.len());
+                solution.map[at] = solution.map[at].wrapping_add(1 + d.below(2) as u32);
+            }
+        }
+    }
+}
+
 /// Several problems around each bound of checks 1 and 10, on both sides of it.
 pub fn at_limits() -> Vec<(String, Problem)> {
     let empty = |n: u32| Columns { starts: vec![0; n as usize + 1], ..Columns::default() };

@@ -1,12 +1,12 @@
 -- What a caller of the writers cites: the tables of the cut by the parts' own lists, and what the checks say of the lengths.
-use Prim.Native.Nat.{ℕ, _+_, _-_, _≤_}
+use Prim.Native.Nat.{ℕ, suc, _+_, _-_, _≤_}
 use native.Mathlib.Omega.{arith}
 use mathlib.Core.Path.{_≡_, refl, sym, ap, _∙_}
 use mathlib.Core.List.{List, [], _∷_, _++_}
 use lib.ListN.{length, take, drop, set, replicate, length-set, length-replicate}
 use lib.Dec.{T, lit<}
 use Rattle.layout.specs.Lists.{written}
-use Rattle.layout.specs.Problem.{Problem, Csc, standard}
+use Rattle.layout.specs.Problem.{Problem, Csc, Route, standard}
 use Rattle.layout.specs.Blocks.{Part, standardRows, blockRowCount}
 use Rattle.layout.specs.Checks.{Sound, layout, refusal, checks, startsRight}
 use Rattle.layout.specs.Standard.{standardA}
@@ -58,11 +58,11 @@ module _ {m : ℕ} {cones : List ℕ} {count : ℕ} {words : List ℕ} (h : Soun
 pub front : (xs old new : List ℕ) (k : ℕ) → k ≡ length xs → new ≡ written xs old → take k new ≡ xs
 front xs old new k e w = ap (λ (n : ℕ). take n new) e ∙ ap (take (length xs)) w ∙ take-written xs old
 
--- ---- a problem that the standard route accepts
+-- ---- a problem that a route accepts
 
-module _ (p : Problem) (ok : refusal standard p ≡ 0) where
+module _ (route : Route) (p : Problem) (ok : refusal route p ≡ 0) where
   starts : T (startsRight (p .n) (p .A)) × T (startsRight (p .n) (p .P))
-  starts = and-iff (startsRight (p .n) (p .A)) (startsRight (p .n) (p .P)) .0 (passed 0 1 (checks standard p) ok (lit< tt))
+  starts = and-iff (startsRight (p .n) (p .A)) (startsRight (p .n) (p .P)) .0 (passed 0 1 (checks route p) ok (lit< tt))
 
   pub right-A : RightStarts (p .n) (p .A)
   right-A = starts-right (p .n) (p .A) (starts .0)
@@ -70,24 +70,34 @@ module _ (p : Problem) (ok : refusal standard p ≡ 0) where
   pub starts-P : T (startsRight (p .n) (p .P))
   starts-P = starts .1
 
-  pub right-P : RightStarts (p .n) (p .P)
+  right-P : RightStarts (p .n) (p .P)
   right-P = starts-right (p .n) (p .P) starts-P
 
-  pub length-q : length (p .q) ≡ p .n
-  length-q = (simp (and-iff, eqb-iff) at (passed 0 3 (checks standard p) ok (lit< tt))) .0 .1
+  length-q : length (p .q) ≡ p .n
+  length-q = (simp (and-iff, eqb-iff) at (passed 0 3 (checks route p) ok (lit< tt))) .0 .1
 
   pub length-b : length (p .b) ≡ p .m
-  length-b = (simp (and-iff, eqb-iff) at (passed 0 3 (checks standard p) ok (lit< tt))) .1
+  length-b = (simp (and-iff, eqb-iff) at (passed 0 3 (checks route p) ok (lit< tt))) .1
 
   pub few-entries : length (p .A .values) ≤ 262144
-  few-entries = (simp (and-iff, leb-iff) at (passed 0 0 (checks standard p) ok (lit< tt))) .0 .0 .1
+  few-entries = (simp (and-iff, leb-iff) at (passed 0 0 (checks route p) ok (lit< tt))) .0 .0 .1
 
+  -- what `write_p` asks, by the sizes of its outputs
+  pub rooms-P : (k starts rows values costs : ℕ)
+      → (suc (p .n + k) ≤ starts) × (length (p .P .values) ≤ rows) × (length (p .P .values) ≤ values) × (p .n + k ≤ costs)
+      → (length (p .P .starts) + k ≤ starts) × (length (p .P .rows) ≤ rows) × (length (p .P .values) ≤ values) × (length (p .q) + k ≤ costs)
+  rooms-P k starts rows values costs r =
+      (omega (arith, right-P .count, r .0), omega (arith, right-P .even, r .1), r .2, omega (arith, length-q, r .3))
+
+-- ---- a problem that the standard route accepts
+
+module _ (p : Problem) (ok : refusal standard p ≡ 0) where
   pub few-rows : p .m + blockRowCount (layout p) ≤ 262144
   few-rows = leb-iff (p .m + blockRowCount (layout p)) 262144 .0 (passed 0 9 (checks standard p) ok (lit< tt))
 
   -- A beside H is the standard cut's A
   beside : besideH (p .A) (p .m) (standardRows (layout p)) ≡ standardA p
-  beside = beside-standard p (starts .0)
+  beside = beside-standard p (starts standard p ok .0)
 
   module _ (k : ℕ) (e : k ≡ blockRowCount (layout p)) where
     columns : k ≡ length (standardRows (layout p))

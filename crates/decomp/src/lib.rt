@@ -1,9 +1,9 @@
-// The public calls on either route: 0 standard, 1 compact.
+// The sizes on either route, and the refusals of the cut: 0 standard, 1 compact.
 ghost use mathlib.Core.Path.{_≡_};
 ghost use lib.ListN.{length};
 ghost use Rattle.layout.specs.Problem.{problem};
 ghost use Rattle.layout.specs.Checks.{refusal};
-ghost use Rattle.layout.specs.Answers.{output, onRoute, routeOf, sizesRefusal, sizes as sizesOf};
+ghost use Rattle.layout.specs.Answers.{output, onRoute, routeOf, roomy, sizesRefusal, sizes as sizesOf, cutRefusal};
 
 // Checks 1 to 10 in order: the number of the first that fails, or 0. Any number but 0 names the compact route.
 fn refuse(
@@ -112,4 +112,70 @@ pub fn sizes(
         out,
     );
     0
+}
+
+// Check 11 of several outputs: what each needs, and the room that it has.
+fn rooms_right(needs: &[u32], rooms: &[usize]) -> bool
+    ensures { λ r. ⌜ r ≡ roomy (now (needs .entry)) (now (rooms .entry)) ⌝ }
+{
+    let mut i = 0;
+    while i < needs.len() {
+        if rooms.len() <= i {
+            return false;
+        }
+        if rooms[i] < needs[i] as usize {
+            return false;
+        }
+        i += 1;
+    }
+    true
+}
+
+// Checks 1 to 11 of the cut in order: the number of the first that fails, or 0.
+pub fn refuse_cut(
+    route: u32,
+    n: u32,
+    m: u32,
+    p_starts: &[u32],
+    p_rows: &[u32],
+    p_values: &[f64],
+    q: &[f64],
+    a_starts: &[u32],
+    a_rows: &[u32],
+    a_values: &[f64],
+    b: &[f64],
+    cones: &[u32],
+    alphas: &[f64],
+    count: u32,
+    words: &[u32],
+    rooms: &[usize],
+) -> u32
+    ensures { λ r. ⌜ r ≡ onRoute route (λ rt. cutRefusal rt (problem n m (now («p_starts» .entry)) (now («p_rows» .entry)) (now («p_values» .entry)) (now (q .entry)) (now («a_starts» .entry)) (now («a_rows» .entry)) (now («a_values» .entry)) (now (b .entry)) (now (cones .entry)) (now (alphas .entry)) count (now (words .entry))) (now (rooms .entry))) ⌝ }
+{
+    let mut needs = [0u32; 11];
+    let r = sizes(
+        route,
+        n,
+        m,
+        p_starts,
+        p_rows,
+        p_values,
+        q,
+        a_starts,
+        a_rows,
+        a_values,
+        b,
+        cones,
+        alphas,
+        count,
+        words,
+        &mut needs,
+    );
+    if r != 0 {
+        return r;
+    }
+    if rooms_right(&needs, rooms) {
+        return 0;
+    }
+    11
 }

@@ -11,7 +11,7 @@ use Rattle.layout.specs.Blocks.{blockRowCount}
 use Rattle.layout.specs.Checks.{layout}
 use Rattle.layout.specs.Compact.{extendedP}
 use Rattle.layout.proofs.Accepted.{accepted-sound}
-use Rattle.augment.proofs.Laws.{starts-P, right-P, right-A, length-q, length-b, few-entries, few-rows, starts-A, rows-A, values-A}
+use Rattle.augment.proofs.Laws.{starts-P, rooms-P, right-A, length-b, few-entries, few-rows, starts-A, rows-A, values-A}
 use Rattle.augment.proofs.decomp_augment_standard.Statement.{statement}
 use Rattle.augment.proofs.decomp_augment_standard.Tie as tie
 
@@ -23,40 +23,28 @@ cutOf s =
     (s .args .cones .now) (s .args .alphas .now) (s .args .count) (s .args .words .now)
 
 -- what the writers ask
-rooms-P : (s : tie.Start) → (length (s .args .p-starts .now) + s .args .k ≤ length (s .args .p-starts-out .now))
-    × (length (s .args .p-rows .now) ≤ length (s .args .p-rows-out .now))
-    × (length (s .args .p-values .now) ≤ length (s .args .p-values-out .now))
-    × (length (s .args .q .now) + s .args .k ≤ length (s .args .q-out .now))
-rooms-P s =
-    let r = s .pre .1 .1 .0 in (
-      omega (arith, right-P (cutOf s) (s .pre .0) .count, r .0),
-      omega (arith, right-P (cutOf s) (s .pre .0) .even, r .1),
-      r .2,
-      omega (arith, length-q (cutOf s) (s .pre .0), r .3),
-    )
-
 rooms-A : (s : tie.Start) → (length (s .args .a-starts .now) + s .args .k ≤ length (s .args .a-starts-out .now))
     × (length (s .args .a-rows .now) + 2 * s .args .k ≤ length (s .args .a-rows-out .now))
     × (length (s .args .a-values .now) + 2 * s .args .k ≤ length (s .args .a-values-out .now))
     × (length (s .args .b .now) + s .args .k ≤ length (s .args .b-out .now))
 rooms-A s =
     let r = s .pre .1 .1 .1 .0 in (
-      omega (arith, right-A (cutOf s) (s .pre .0) .count, r .0),
-      omega (arith, right-A (cutOf s) (s .pre .0) .even, r .1),
+      omega (arith, right-A standard (cutOf s) (s .pre .0) .count, r .0),
+      omega (arith, right-A standard (cutOf s) (s .pre .0) .even, r .1),
       r .2,
-      omega (arith, length-b (cutOf s) (s .pre .0), r .3),
+      omega (arith, length-b standard (cutOf s) (s .pre .0), r .3),
     )
 
 few : (s : tie.Start) → s .args .m + s .args .k ≤ 262144
 few s = omega (arith, few-rows (cutOf s) (s .pre .0), s .pre .1 .0)
 
 write-p-requires : tie.Need-write-p-requires
-write-p-requires c κs = let s = c .before .before .before .before .before .before .before .before .before .before .before .before .before .before .before .before .before .before .before .before .before .before .before .before .before in (starts-P (cutOf s) (s .pre .0), rooms-P s)
+write-p-requires c κs = let s = c .before .before .before .before .before .before .before .before .before .before .before .before .before .before .before .before .before .before .before .before .before .before .before .before .before in (starts-P standard (cutOf s) (s .pre .0), rooms-P standard (cutOf s) (s .pre .0) (s .args .k) _ _ _ _ (s .pre .1 .1 .0))
 
 write-standard-a-requires : tie.Need-write-standard-a-requires
 write-standard-a-requires c κs =
     let s = c .before .before .before .before .before .before .before .before .before .before .before .before .before .before .before .before .before .before .before .before .before .before .before .before .before .before .before .before .before .before .before .before .before .before .before .before .before .before in
-    (accepted-sound standard (cutOf s) (s .pre .0), ((s .pre .1 .0, few s, few-entries (cutOf s) (s .pre .0)), rooms-A s))
+    (accepted-sound standard (cutOf s) (s .pre .0), ((s .pre .1 .0, few s, few-entries standard (cutOf s) (s .pre .0)), rooms-A s))
 
 write-standard-cones-requires : tie.Need-write-standard-cones-requires
 write-standard-cones-requires c κs =

@@ -1,0 +1,122 @@
+/* Three projectors, one seam: cut and joined on both routes through the door, printed and held to what must come out.
+ *
+ * One unknown and a PSD cone of dimension 3 with the cliques {0, 1} and {1, 2}: row 2, the pair (1, 1), is in both.
+ */
+#include "chordal.h"
+
+#include <stdio.h>
+#include <stdlib.h>
+#include <string.h>
+
+#define N 1
+#define M 6
+
+/* a table as pointer and length; tables without entries have a pointer too */
+#define ALL(table) (table), sizeof(table) / sizeof((table)[0])
+#define NO_WORDS no_words, 0
+#define NO_VALUES no_values, 0
+
+static const uint32_t no_words[1] = {0};
+static const double no_values[1] = {0};
+
+static const uint32_t p_starts[] = {0, 0};
+static const double q[] = {0};
+static const uint32_t a_starts[] = {0, 5};
+static const uint32_t a_rows[] = {0, 1, 2, 4, 5};
+static const double a_values[] = {10, 20, 30, 40, 50};
+static double b[M] = {1, 2, 3, 0, 4, 5};
+static const uint32_t cones[] = {6, 3, 0};
+/* orig_index, vertices, cliques; ordering; then parent, snode and separator of each clique */
+static const uint32_t pattern_words[] = {0, 3, 2, 0, 1, 2, 1, 1, 1, 0, 1, CHORDAL_NONE, 2, 0, 1, 2};
+
+#define PROBLEM                                                                                                      \
+    N, M, ALL(p_starts), NO_WORDS, NO_VALUES, ALL(q), ALL(a_starts), ALL(a_rows), ALL(a_values), ALL(b), ALL(cones), \
+        NO_VALUES, 1, ALL(pattern_words)
+
+/* what the cut writes: eleven tables, in the order of chordal_sizes */
+enum { P_STARTS, P_ROWS, P_VALUES, Q, A_STARTS, A_ROWS, A_VALUES, B, CONES, ALPHAS, MAP, TABLES };
+static const size_t element[TABLES] = {4, 4, 8, 8, 4, 4, 8, 8, 4, 8, 4};
+
+static void print_values(const char *name, const double *values, size_t count) {
+    printf("  %s:", name);
+    for (size_t k = 0; k < count; k++) printf(" %g", values[k]);
+    printf("\n");
+}
+
+static void print_columns(const uint32_t *starts, const uint32_t *rows, const double *values, size_t columns) {
+    for (size_t c = 0; c < columns; c++) {
+        printf("  column %zu:", c);
+        for (size_t k = starts[c]; k < starts[c + 1]; k++)
+            printf("%s %g at row %u", k > starts[c] ? "," : "", values[k], (unsigned)rows[k]);
+        printf("\n");
+    }
+}
+
+static int equal(const char *what, const double *got, const double *want, size_t count) {
+    if (memcmp(got, want, count * sizeof *got) == 0) return 1;
+    printf("  %s: not what must come out\n", what);
+    return 0;
+}
+
+static int run(uint32_t route, const double *solved, const double *joined_s, const double *joined_z) {
+    uint32_t size[TABLES];
+    void *table[TABLES];
+    int right = 0;
+
+    printf("%s route\n", route ? "compact" : "standard");
+    uint32_t refusal = chordal_sizes(route, PROBLEM, size, TABLES);
+    if (refusal != CHORDAL_DONE) {
+        printf("  refused, number %u\n", (unsigned)refusal);
+        return 0;
+    }
+    for (int k = 0; k < TABLES; k++) {
+        table[k] = malloc((size[k] + 1) * element[k]);
+        if (!table[k]) abort();
+    }
+    refusal = chordal_cut(route, PROBLEM,
+                          table[P_STARTS], size[P_STARTS], table[P_ROWS], size[P_ROWS], table[P_VALUES], size[P_VALUES],
+                          table[Q], size[Q], table[A_STARTS], size[A_STARTS], table[A_ROWS], size[A_ROWS],
+                          table[A_VALUES], size[A_VALUES], table[B], size[B], table[CONES], size[CONES],
+                          table[ALPHAS], size[ALPHAS], table[MAP], size[MAP]);
+    if (refusal == CHORDAL_DONE) {
+        printf("  %d rows and %d columns become %u and %u\n", M, N, (unsigned)size[B], (unsigned)size[Q]);
+        print_columns(table[A_STARTS], table[A_ROWS], table[A_VALUES], size[Q]);
+        print_values("b", table[B], size[B]);
+
+        /* here the solver solves; these values show which rows are joined */
+        double x[7] = {0.5}, x_out[N], s[M], z[M], scalars[2];
+        print_values("solved s and z", solved, size[B]);
+        refusal = chordal_join(route, N, M, ALL(cones), 1, ALL(pattern_words), x, size[Q], solved, size[B],
+                               solved, size[B], 1, 0, table[MAP], size[MAP],
+                               ALL(x_out), ALL(s), ALL(z), ALL(scalars));
+        if (refusal == CHORDAL_DONE) {
+            print_values("joined s", s, M);
+            print_values("joined z", z, M);
+            right = equal("s", s, joined_s, M) & equal("z", z, joined_z, M) & equal("x", x_out, x, N);
+        }
+    }
+    if (refusal != CHORDAL_DONE) printf("  refused, number %u\n", (unsigned)refusal);
+    for (int k = 0; k < TABLES; k++) free(table[k]);
+    return right;
+}
+
+int main(void) {
+    static const double standard_solved[] = {0, 0, 0, 0, 0, 0, 1, 2, 7, 3, 4, 5};
+    static const double compact_solved[] = {3, 4, 5, 1, 2, 7};
+    static const double s[] = {1, 2, 10, 0, 4, 5};
+    static const double standard_z[] = {1, 2, 5, 0, 4, 5};
+    static const double compact_z[] = {1, 2, 7, 0, 4, 5};
+
+    int right = run(0, standard_solved, s, standard_z);
+    right &= run(1, compact_solved, s, compact_z);
+
+    /* no clique covers row 3, the pair (0, 2) */
+    uint32_t size[TABLES];
+    b[3] = 1;
+    uint32_t refusal = chordal_sizes(1, PROBLEM, size, TABLES);
+    printf("a value of b in row 3: refused, number %u\n", (unsigned)refusal);
+    right &= refusal == CHORDAL_UNCOVERED;
+
+    printf(right ? "all as it must be\n" : "something is wrong\n");
+    return right ? EXIT_SUCCESS : EXIT_FAILURE;
+}

@@ -1,0 +1,42 @@
+-- Demand 3 in terms of what a compact cut leaves at the front of its outputs.
+use Prim.Native.Nat.{ℕ, _<_}
+use mathlib.Core.Path.{_≡_}
+use mathlib.Core.List.{List}
+use lib.ListN.{length, getD, take}
+use lib.IntN.{ℤ, pos, _+ℤ_, _*ℤ_}
+use lib.Ieee.{Float, nan}
+use Rattle.layout.specs.Problem.{Problem, Csc, compact}
+use Rattle.layout.specs.Blocks.{overlapCount, blockRowCount}
+use Rattle.layout.specs.Checks.{layout}
+use Rattle.layout.specs.Equations.{count, unit, at, columnsTerm, MeetsOriginal, slackSums, ExactlyOne}
+use Rattle.layout.specs.Answers.{sizes}
+
+-- the front of an output, as long as the sizes say for the output with this number
+abbrev pub front : {A : Type 0} → Problem → ℕ → List A → List A
+front p i out = take (getD (sizes compact p) i 0) out
+
+-- the written A: outputs 4, 5 and 6 are its starts, rows and values
+abbrev pub frontA : Problem → List ℕ → List ℕ → List Float → Csc
+frontA p starts rows values = record {
+  starts = front p 4 starts;
+  rows = front p 5 rows;
+  values = front p 6 values;
+}
+
+-- the equations of a matrix and a right side: the columns before n times x, those from n on times y, and the slack
+abbrev pub Meets : Csc → List Float → Problem → ℕ → List ℤ → List ℤ → List ℤ → Type 0
+Meets A b p d x y s =
+    (r : ℕ) → r < length b
+    → (columnsTerm count r A 0 x +ℤ columnsTerm unit r A (p .n) y) +ℤ at s r ≡ pos d *ℤ count (getD b r nan)
+
+-- demand 3 for the written A and b: there is a slack for each row of b, and an added unknown for each overlap
+pub record SameSolutionsAs (p : Problem) (A : Csc) (b : List Float) : Type 0 where
+  pub solved : (d : ℕ) → 0 < d → (x s : List ℤ) → length x ≡ p .n → length s ≡ length b
+      → MeetsOriginal p d x (slackSums p s)
+      → ExactlyOne (overlapCount (layout p)) (λ y. Meets A b p d x y s)
+  pub unsolved : (d : ℕ) → 0 < d → (x s : List ℤ) → length x ≡ p .n → length s ≡ length b
+      → (MeetsOriginal p d x (slackSums p s) → ⊥)
+      → (y : List ℤ) → length y ≡ overlapCount (layout p) → Meets A b p d x y s → ⊥
+  pub reached : (d : ℕ) → 0 < d → (x s : List ℤ) → length x ≡ p .n → length s ≡ p .m
+      → MeetsOriginal p d x s
+      → (t : List ℤ) × (length t ≡ length b) × (slackSums p t ≡ s)

@@ -1,0 +1,109 @@
+-- A list of words compared part by part: with the entries of a pattern's cliques, and with those of the parts ahead.
+use Prim.Native.Nat.{ℕ, _+_, _-_, _≤_, _<_}
+use native.Mathlib.Numerals.{add-one}
+use native.Mathlib.Omega.{arith}
+use mathlib.Core.Path.{_≡_, refl, ap, sym, _∙_}
+use mathlib.Core.Bool.{Bool, true, false, _&&_, and-assoc, and-true as all-of}
+use mathlib.Core.Logic.{_⊎_, inl, inr}
+use mathlib.Core.List.{List, [], _∷_, _++_, map, reverse}
+use lib.ListN.{length, getD, drop, length-drop, drop-of-length-le}
+use lib.Seq.{drop-cons, drop-drop}
+use lib.Dec.{eqb}
+use borrow.Author.Tests.{eq-eqb, ne-eqb}
+use Rattle.layout.specs.Lists.{below, sameNumbers}
+use Rattle.layout.specs.Blocks.{Part}
+use Rattle.layout.specs.Compact.{blockOf, entryWords, mapPart, coneMap, mapWords}
+use Rattle.layout.proofs.Tests.{lt-or-le}
+use Rattle.layout.proofs.Joins.{reverse-below}
+use Rattle.layout.proofs.Starts.{join-append}
+use Rattle.utils.proofs.Tests.{and-true, and-false, and-right, differ}
+use Rattle.decomp_reverse.specs.Begins.{begins}
+
+-- ---- a list that begins with another
+
+begins-short : (xs ys : List ℕ) → length xs < length ys → begins xs ys ≡ false
+begins-short xs [] h = absurd (omega arith)
+begins-short [] (y ∷ ys) h = refl
+begins-short (x ∷ xs) (y ∷ ys) h = and-right (eqb x y) (begins xs ys) (begins-short xs ys (omega arith))
+
+-- the words from t on are too few for ys
+pub too-few : (ws : List ℕ) (t : ℕ) (ys : List ℕ) → length ws - t < length ys → begins (drop t ws) ys ≡ false
+too-few ws t ys h = begins-short (drop t ws) ys (omega (arith, length-drop t ws))
+
+-- they hold ys
+pub inside : (ws : List ℕ) (t : ℕ) (ys : List ℕ) → t ≤ length ws → begins (drop t ws) ys ≡ true → t + length ys ≤ length ws
+inside ws t ys l e = elim (lt-or-le (length (drop t ws)) (length ys)) [
+  | inl h ↦ absurd (differ (begins (drop t ws) ys) e (begins-short (drop t ws) ys h))
+  | inr h ↦ omega (arith, length-drop t ws)
+]
+
+-- word by word
+pub word-hit : (ws : List ℕ) (t y : ℕ) (ys : List ℕ) → t < length ws → getD ws t 0 ≡ y
+    → begins (drop t ws) (y ∷ ys) ≡ begins (drop (t + 1) ws) ys
+word-hit ws t y ys h e = rw (add-one, drop-cons ws t 0 h, eq-eqb (getD ws t 0) y e)
+
+pub word-miss : (ws : List ℕ) (t y : ℕ) (ys : List ℕ) → t < length ws → (getD ws t 0 ≡ y → ⊥) → begins (drop t ws) (y ∷ ys) ≡ false
+word-miss ws t y ys h n = rw (drop-cons ws t 0 h, ne-eqb (getD ws t 0) y n)
+
+pub last-word : (ws : List ℕ) (t y : ℕ) → t < length ws → begins (drop t ws) (y ∷ []) ≡ eqb (getD ws t 0) y
+last-word ws t y h = rw (drop-cons ws t 0 h) (all-of (eqb (getD ws t 0) y))
+
+-- part by part: a test f that goes on word by word, as `begins` and `sameNumbers` do
+module _ (f : List ℕ → List ℕ → Bool) (short : (y : ℕ) (ys : List ℕ) → f [] (y ∷ ys) ≡ false)
+    (word : (x y : ℕ) (xs ys : List ℕ) → f (x ∷ xs) (y ∷ ys) ≡ (eqb x y && f xs ys)) where
+  part : (xs ys zs : List ℕ) → f xs (ys ++ zs) ≡ (begins xs ys && f (drop (length ys) xs) zs)
+  part xs [] zs = refl
+  part [] (y ∷ ys) zs = short y (ys ++ zs)
+  part (x ∷ xs) (y ∷ ys) zs =
+      word x y xs (ys ++ zs) ∙ ap (λ (b : Bool). eqb x y && b) (part xs ys zs)
+      ∙ sym (and-assoc (eqb x y) (begins xs ys) (f (drop (length ys) xs) zs))
+
+  part-hit : (ws : List ℕ) (t : ℕ) (ys zs : List ℕ) → begins (drop t ws) ys ≡ true → f (drop t ws) (ys ++ zs) ≡ f (drop (t + length ys) ws) zs
+  part-hit ws t ys zs e =
+      part (drop t ws) ys zs ∙ and-true (begins (drop t ws) ys) (f (drop (length ys) (drop t ws)) zs) e
+      ∙ ap (λ (l : List ℕ). f l zs) (drop-drop (length ys) t ws)
+
+  part-miss : (ws : List ℕ) (t : ℕ) (ys zs : List ℕ) → begins (drop t ws) ys ≡ false → f (drop t ws) (ys ++ zs) ≡ false
+  part-miss ws t ys zs e = part (drop t ws) ys zs ∙ and-false (begins (drop t ws) ys) (f (drop (length ys) (drop t ws)) zs) e
+
+-- ---- the cliques of a pattern, from the last to the first
+
+-- the words of the entries of c cliques
+abbrev pub blockWords : ℕ → ℕ → ℕ → List ℕ
+blockWords i k c = mapWords (map (blockOf i k) (reverse (below c)))
+
+module _ (ws : List ℕ) (t i k c : ℕ) where
+  pub block-hit : begins (drop t ws) (i ∷ k ∷ c ∷ []) ≡ true → begins (drop t ws) (blockWords i k (c + 1)) ≡ begins (drop (t + 3) ws) (blockWords i k c)
+  block-hit e =
+      rw (add-one, reverse-below)
+      (part-hit begins (λ y ys. refl) (λ x y xs ys. refl) ws t (i ∷ k ∷ c ∷ []) (blockWords i k c) e)
+
+  pub block-miss : begins (drop t ws) (i ∷ k ∷ c ∷ []) ≡ false → begins (drop t ws) (blockWords i k (c + 1)) ≡ false
+  block-miss e =
+      rw (add-one, reverse-below)
+      (part-miss begins (λ y ys. refl) (λ x y xs ys. refl) ws t (i ∷ k ∷ c ∷ []) (blockWords i k c) e)
+
+-- ---- the parts ahead
+
+module _ (ws : List ℕ) (t : ℕ) (x : Part) (before later : List Part) (e : before ≡ x ∷ later) where
+  opened : mapWords (coneMap before) ≡ mapWords (mapPart x) ++ mapWords (coneMap later)
+  opened = ap (λ (ps : List Part). mapWords (coneMap ps)) e ∙ join-append entryWords (mapPart x) (coneMap later)
+
+  pub entries-hit : begins (drop t ws) (mapWords (mapPart x)) ≡ true
+      → sameNumbers (drop t ws) (mapWords (coneMap before)) ≡ sameNumbers (drop (t + length (mapWords (mapPart x))) ws) (mapWords (coneMap later))
+  entries-hit h =
+      ap (sameNumbers (drop t ws)) opened
+      ∙ part-hit sameNumbers (λ y ys. refl) (λ u y us ys. refl) ws t (mapWords (mapPart x)) (mapWords (coneMap later)) h
+
+  pub entries-miss : begins (drop t ws) (mapWords (mapPart x)) ≡ false → sameNumbers (drop t ws) (mapWords (coneMap before)) ≡ false
+  entries-miss h =
+      ap (sameNumbers (drop t ws)) opened
+      ∙ part-miss sameNumbers (λ y ys. refl) (λ u y us ys. refl) ws t (mapWords (mapPart x)) (mapWords (coneMap later)) h
+
+pub entries-end : (ws : List ℕ) (t : ℕ) (before : List Part) → before ≡ [] → t ≤ length ws
+    → sameNumbers (drop t ws) (mapWords (coneMap before)) ≡ eqb t (length ws)
+entries-end ws t before e l = ap (λ (ps : List Part). sameNumbers (drop t ws) (mapWords (coneMap ps))) e ∙ at-end (lt-or-le t (length ws))
+  where
+    at-end : (t < length ws) ⊎ (length ws ≤ t) → sameNumbers (drop t ws) [] ≡ eqb t (length ws)
+    at-end (inl h) = rw (drop-cons ws t 0 h, ne-eqb t (length ws) (λ q. omega arith))
+    at-end (inr h) = rw (drop-of-length-le ws h, eq-eqb t (length ws) (omega arith))

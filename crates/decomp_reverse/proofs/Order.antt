@@ -1,0 +1,109 @@
+-- A joining's refusals in order, and what one that is refused nothing is given.
+use Prim.Native.Nat.{ℕ, zero, suc, _+_, _≤_}
+use native.Mathlib.Omega.{arith}
+use mathlib.Core.Path.{_≡_, refl, sym, subst, _∙_}
+use mathlib.Core.Bool.{Bool, true, false, cond, _&&_}
+use mathlib.Core.List.{List, [], _∷_}
+use lib.ListN.{length, take}
+use lib.Dec.{T, eqb, lit<}
+use lib.Ieee.{Float}
+use Rattle.layout.specs.Problem.{Route, standard, compact, Solution, solution, one64}
+use Rattle.layout.specs.Blocks.{Part, blockRowCount, overlapCount}
+use Rattle.layout.specs.Checks.{Sound, firstFailing}
+use Rattle.layout.specs.Answers.{orElse, roomy, joinedParts, joinChecks, joinRefusal, joined, solutionFits, mapRight, scalars, routeOf}
+use Rattle.layout.proofs.Tests.{and-iff, leb-iff, eqb-iff}
+use Rattle.layout.proofs.Accepted.{passed}
+use Rattle.checks.specs.Order.{joinedRefusal}
+use Rattle.checks.proofs.Order.{joined-then-route, first-given, both-zero}
+use Rattle.checks.proofs.Checked.{joined-sound}
+use Rattle.chordal_info.specs.Routes.{joinRouteChecks}
+use Rattle.chordal_info.proofs.Sizes.{rows-fit, rows-few}
+use Rattle.reverse.specs.Joined.{Joinable, joinedOf}
+
+-- the answer at each place
+pub join-order : (a : ℕ) (room fit : Bool) →
+    let x = orElse a (orElse (cond room 0 11) (cond fit 0 12)) in
+    ((a ≡ 0 → ⊥) → x ≡ a) × (a ≡ 0 → room ≡ false → x ≡ 11) × (a ≡ 0 → room ≡ true → fit ≡ false → x ≡ 12)
+    × (a ≡ 0 → room ≡ true → fit ≡ true → x ≡ 0)
+join-order a room fit = (
+  λ h. first-given a (orElse (cond room 0 11) (cond fit 0 12)) h,
+  λ e f. rw (e, f),
+  λ e f g. rw (e, f, g),
+  λ e f g. rw (e, f, g),
+)
+
+-- what checks 1 to 10 say
+pub checks-passed : (route : Route) (n m : ℕ) (cones : List ℕ) (count : ℕ) (words : List ℕ) → joinChecks route n m cones count words ≡ 0
+    → Sound m cones count words × (blockRowCount (joinedParts cones count words) ≤ 262144)
+checks-passed route n m cones count words e =
+    let ps = joinedParts cones count words in
+    let last = joinRouteChecks route n m ps in
+    let (seven, later) = both-zero (joinedRefusal n m cones count words) (firstFailing 8 last) (sym (joined-then-route route n m cones count words) ∙ e) in (
+      joined-sound n m cones count words seven,
+      rows-few route m (blockRowCount ps) (overlapCount ps) (subst T (sym (rows-fit route m ps)) (passed 7 2 last later (lit< tt))),
+    )
+
+-- ---- a solution's lengths from counts, by the route's number
+
+module _ (n m : ℕ) where
+  pub standard-fits : (route rows : ℕ) (ps : List Part) (sol : Solution) → route ≡ 0 → rows ≡ blockRowCount ps
+      → (eqb (length (sol .x)) (n + rows) && eqb (length (sol .s)) (m + rows) && eqb (length (sol .z)) (m + rows))
+      ≡ solutionFits (routeOf route) n m ps sol
+  standard-fits route rows ps sol e f = rw (e, f)
+
+  pub compact-fits : (route rows overlaps : ℕ) (ps : List Part) (sol : Solution) → (route ≡ 0 → ⊥) → rows ≡ blockRowCount ps
+      → overlaps ≡ overlapCount ps
+      → (eqb (length (sol .x)) (n + overlaps) && eqb (length (sol .s)) rows && eqb (length (sol .z)) rows)
+      ≡ solutionFits (routeOf route) n m ps sol
+  compact-fits zero rows overlaps ps sol h e f = absurd (h refl)
+  compact-fits (suc route) rows overlaps ps sol h e f = rw (e, f)
+
+-- ---- nothing is refused
+
+-- what is given where nothing is refused: a solution that can be joined, and room for it
+pub record Accepted (route : Route) (n m : ℕ) (cones : List ℕ) (count : ℕ) (words : List ℕ) (sol : Solution) (x s z k : ℕ) : Type 0 where
+  pub joinable : Joinable route m cones count words (sol .s) (sol .z)
+  pub columns : n ≤ length (sol .x)
+  pub room-x : n ≤ x
+  pub room-s : m ≤ s
+  pub room-z : m ≤ z
+  pub room-scalars : 2 ≤ k
+
+pub join-accepted : (route : Route) (n m : ℕ) (cones : List ℕ) (count : ℕ) (words : List ℕ) (sol : Solution) (entries : List ℕ) (x s z k : ℕ)
+    → joinRefusal route n m cones count words sol entries (x ∷ s ∷ z ∷ k ∷ []) ≡ 0
+    → Accepted route n m cones count words sol x s z k
+join-accepted route n m cones count words sol entries x s z k e =
+    let ps = joinedParts cones count words in
+    let room : Bool = roomy (n ∷ m ∷ m ∷ 2 ∷ []) (x ∷ s ∷ z ∷ k ∷ []) in
+    let fits : Bool = solutionFits route n m ps sol in
+    let fit : Bool = fits && mapRight route ps entries in
+    let (ten, rest) = both-zero (joinChecks route n m cones count words) (orElse (cond room 0 11) (cond fit 0 12)) e in
+    let (eleven, twelve) = both-zero (cond room 0 11) (cond fit 0 12) rest in
+    let rooms = simp (and-iff, leb-iff) at (passed 10 0 (room ∷ []) eleven (lit< tt)) in
+    let lengths = simp (and-iff, eqb-iff) at (and-iff fits (mapRight route ps entries) .0 (passed 11 0 (fit ∷ []) twelve (lit< tt)) .0) in
+    let (sound, few) = checks-passed route n m cones count words ten in
+    record {
+      joinable = record { sound = sound; few = few; slacks = lengths .0 .1; duals = lengths .1 };
+      columns = omega (arith, lengths .0 .0);
+      room-x = rooms .0;
+      room-s = rooms .1 .0;
+      room-z = rooms .1 .1 .0;
+      room-scalars = rooms .1 .1 .1 .0;
+    }
+
+-- ---- what is joined
+
+module _ (n m : ℕ) (cones : List ℕ) (count : ℕ) (words : List ℕ) (x s z : List Float) (tau kappa : Float) where
+  abbrev whole : Route → Solution
+  whole route = joined route n m (joinedParts cones count words) (solution x s z tau kappa)
+
+  -- x takes no part in s and z, nor do τ and κ
+  pub joined-parts : (route : Route)
+      → (take n x ≡ whole route .x) × (joinedOf route m cones count words s z .s ≡ whole route .s)
+      × (joinedOf route m cones count words s z .z ≡ whole route .z)
+  joined-parts standard = (refl, refl, refl)
+  joined-parts compact = (refl, refl, refl)
+
+  pub joined-scalars : (route : Route) (t k : Float) → t ≡ one64 → k ≡ one64 → (t ∷ k ∷ []) ≡ scalars (whole route)
+  joined-scalars standard t k e f = rw (e, f)
+  joined-scalars compact t k e f = rw (e, f)

@@ -1,0 +1,117 @@
+use Prim.Native.Nat.{ℕ}
+use mathlib.Core.Path.{_≡_, refl, sym, ap, _∙_}
+use mathlib.Core.List.{List, [], _∷_}
+use lib.ListN.{length}
+use lib.Ieee.{Float}
+use Rattle.layout.specs.Lists.{written}
+use Rattle.layout.specs.Problem.{Route, solution}
+use Rattle.layout.specs.Answers.{output, routeOf, onRoute, joinRefusal}
+use Rattle.decomp.proofs.Answers.{no-route, on-route, kept}
+use Rattle.decomp_reverse.proofs.Order.{Accepted, join-accepted, joined-parts, joined-scalars}
+use borrow.Author.Needs.{needs}
+use Rattle.decomp_reverse.proofs.join.Statement.{statement}
+use Rattle.decomp_reverse.proofs.join.Tie as tie
+
+returns : tie.Need-returns
+returns c = (sym (no-route _ _ (c .if1 .taken)), (refl, (refl, (refl, refl))))
+
+abbrev start : tie.Else1 → tie.Start
+start c = c .before .before .before .before .before .before .before .before .before .before .before
+
+-- the number on a route
+abbrev refused : tie.Start → Route → ℕ
+refused s rt =
+    let a = s .args in
+    joinRefusal rt (a .n) (a .m) (a .cones .now) (a .count) (a .words .now) (solution (a .x .now) (a .s .now) (a .z .now) (a .tau) (a .kappa)) (a .map .now)
+    (length (a .x-out .now) ∷ length (a .s-out .now) ∷ length (a .z-out .now) ∷ length (a .scalars-out .now) ∷ [])
+
+numbered : (c : tie.Else1) → let s = start c in onRoute (s .args .route) (refused s) ≡ refused s (routeOf (s .args .route))
+numbered c = on-route (start c .args .route) (refused (start c)) (c .if1 .left)
+
+refuse-join-requires : tie.Need-refuse-join-requires
+refuse-join-requires c κs = search needs
+
+returns-2 : tie.Need-returns-2
+returns-2 c =
+    let k = c .before in
+    let a = start (k .before) .args in
+    let keeps : (old new : List Float) → old ≡ output (k .refuse-join .result) new old = λ old new. kept (k .refuse-join .result) new old (c .if2 .taken) in
+    (k .refuse-join .ensures ∙ sym (numbered (k .before)), (keeps _ _, (keeps _ _, (keeps _ _, keeps _ _))))
+
+-- nothing was refused
+none : (c : tie.Else2) → let s = start (c .before .before) in refused s (routeOf (s .args .route)) ≡ 0
+none c = sym (c .before .refuse-join .ensures) ∙ c .if2 .left
+
+accepted : (c : tie.Else2)
+    → let a = start (c .before .before) .args in
+    Accepted (routeOf (a .route)) (a .n) (a .m) (a .cones .now) (a .count) (a .words .now) (solution (a .x .now) (a .s .now) (a .z .now) (a .tau) (a .kappa))
+    (length (a .x-out .now)) (length (a .s-out .now)) (length (a .z-out .now)) (length (a .scalars-out .now))
+accepted c =
+    let a = start (c .before .before) .args in
+    join-accepted (routeOf (a .route)) (a .n) (a .m) (a .cones .now) (a .count) (a .words .now) (solution (a .x .now) (a .s .now) (a .z .now) (a .tau) (a .kappa)) (a .map .now)
+    (length (a .x-out .now)) (length (a .s-out .now)) (length (a .z-out .now)) (length (a .scalars-out .now)) (none c)
+
+decomp-reverse-requires : tie.Need-decomp-reverse-requires
+decomp-reverse-requires c κs =
+    let g = accepted (c .before .before .before) in
+    (g .joinable, (g .columns, g .room-x, g .room-s, g .room-z))
+
+joined-requires : tie.Need-joined-requires
+joined-requires c κs = search needs
+
+write-scalars-requires : tie.Need-write-scalars-requires
+write-scalars-requires c κs =
+    let d = c .before .before .before .before .before .before .before .before in
+    accepted (d .before .before .before .before) .room-scalars
+
+same-length : tie.Need-same-length
+same-length c = search needs
+
+same-length-2 : tie.Need-same-length-2
+same-length-2 c = search needs
+
+same-length-3 : tie.Need-same-length-3
+same-length-3 c = search needs
+
+same-length-4 : tie.Need-same-length-4
+same-length-4 c = search needs
+
+returns-3 : tie.Need-returns-3
+returns-3 c =
+    let w = c .before .before in
+    let j = w .before .before .joined in
+    let d = w .before .before .before .before .before .before .before .before .before in
+    let l = d .before .before .before .before in
+    let a = start (l .before .before) .args in
+    let rt = routeOf (a .route) in
+    let put : (old xs ys : List Float) → xs ≡ ys → written xs old ≡ written ys old = λ old xs ys e. ap (λ (l : List Float). written l old) e in
+    let e = d .decomp-reverse .ensures in
+    let parts = joined-parts (a .n) (a .m) (a .cones .now) (a .count) (a .words .now) (a .x .now) (a .s .now) (a .z .now) (a .tau) (a .kappa) rt in
+    let scalars =
+    joined-scalars (a .n) (a .m) (a .cones .now) (a .count) (a .words .now) (a .x .now) (a .s .now) (a .z .now) (a .tau) (a .kappa) rt
+    (j .result .tau) (j .result .kappa) (j .ensures .0) (j .ensures .1) in (
+      sym (numbered (l .before .before) ∙ none l),
+      (
+        e .0 ∙ put (a .x-out .now) _ _ (parts .0),
+        (
+          e .1 .0 ∙ put (a .s-out .now) _ _ (parts .1),
+          (e .1 .1 ∙ put (a .z-out .now) _ _ (parts .2), w .write-scalars .ensures ∙ put (a .scalars-out .now) _ _ scalars),
+        ),
+      ),
+    )
+
+pub join-spec : {M : Type 1} → statement M
+join-spec =
+    tie.close
+    (tie.spec
+    returns
+    refuse-join-requires
+    returns-2
+    decomp-reverse-requires
+    joined-requires
+    write-scalars-requires
+    same-length
+    same-length-2
+    same-length-3
+    same-length-4
+    returns-3)

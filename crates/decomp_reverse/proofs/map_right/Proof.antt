@@ -1,0 +1,269 @@
+use Prim.Native.Nat.{ℕ, _+_, _*_, _≤_, _<_}
+use mathlib.Core.Path.{_≡_, sym, ap, subst, _∙_}
+use mathlib.Core.Bool.{true}
+use mathlib.Core.List.{List, _∷_}
+use lib.ListN.{length, getD, drop}
+use borrow.Author.Tests.{not-true, not-false}
+use Rattle.layout.specs.Lists.{sameNumbers}
+use Rattle.layout.specs.Cones.{records}
+use Rattle.layout.specs.Blocks.{Part, whole, cut}
+use Rattle.layout.specs.Checks.{noCone}
+use Rattle.layout.specs.Compact.{coneMap, mapPart, mapWords}
+use Rattle.layout.specs.Answers.{joinedParts}
+use Rattle.supernode_tree.specs.Reads.{patternAt}
+use Rattle.parts.specs.Ahead.{ahead, Stands, meets, Knows}
+use Rattle.parts.specs.declared.Met.the-variants.{Whole, Cut}
+use Rattle.tables.proofs.Cones.{map-words}
+use Rattle.decomp_reverse.specs.Begins.{begins}
+use Rattle.decomp_reverse.proofs.Entries.{inside, blockWords, entries-hit, entries-miss, entries-end}
+use native.Mathlib.Omega.{arith}
+use borrow.Author.Needs.{needs}
+use Rattle.decomp_reverse.proofs.map_right.Statement.{statement}
+use Rattle.decomp_reverse.proofs.map_right.Tie as tie
+
+abbrev Inv-loop : tie.InvT-loop
+Inv-loop m cones count words entries place₀ t₀ place t =
+    (t ≤ length entries) × Stands m cones words place
+    × (sameNumbers (drop t entries) (mapWords (coneMap (ahead cones words place))) ≡ sameNumbers entries (mapWords (coneMap (joinedParts cones count words))))
+
+abbrev μ-loop : tie.MeasureT-loop
+μ-loop m cones count words entries place₀ t₀ place t = length (ahead cones words place)
+
+abbrev start : tie.At-loop Inv-loop μ-loop → tie.Start Inv-loop μ-loop
+start l = l .before .before .before .before .before
+
+small : (s : tie.Start Inv-loop μ-loop) → length (s .args .entries .now) < 18446744073709551616
+small s = omega arith
+
+abbrev aheadOf : tie.At-loop Inv-loop μ-loop → List Part
+aheadOf l = let a = start l .args in ahead (a .cones .now) (a .words .now) (l .loop .place)
+
+-- ---- a whole cone was met
+
+abbrev turn : tie.After-met Inv-loop μ-loop → tie.At-loop Inv-loop μ-loop
+turn k = k .before .before .before
+
+abbrev wholeOf : tie.After-met Inv-loop μ-loop → Part
+wholeOf k =
+    let q = turn k .loop .place in
+    whole (q .cone) (getD (records (start (turn k) .args .cones .now)) (q .cone) noCone) (q .row)
+
+met-whole : (k : tie.After-met Inv-loop μ-loop)
+    → let a = start (turn k) .args in
+    aheadOf (turn k) ≡ wholeOf k ∷ ahead (a .cones .now) (a .words .now) (k .met .given .0 .1 .0)
+met-whole k =
+    let a = start (turn k) .args in
+    k .before .before .next .ensures .0 ∙ ap (meets (a .cones .now) (a .words .now) (turn k .loop .place)) (k .met .given .1)
+
+knows-whole : (k : tie.After-met Inv-loop μ-loop)
+    → let a = start (turn k) .args in
+    Knows (a .m) (a .cones .now) (a .words .now) (turn k .loop .place) (Whole (k .met .given .0 .0) (k .met .given .0 .1 .0))
+knows-whole k =
+    let a = start (turn k) .args in
+    subst (Knows (a .m) (a .cones .now) (a .words .now) (turn k .loop .place)) (k .met .given .1) (k .before .before .next .ensures .1)
+
+-- its entry was there
+same-whole : (c : tie.Else1 Inv-loop μ-loop)
+    → let k = c .before .before .before .before in
+    begins (drop (turn k .loop .t) (start (turn k) .args .entries .now)) (mapWords (mapPart (wholeOf k))) ≡ true
+same-whole c = sym (c .before .entry-right .ensures) ∙ not-false _ (c .if1 .left)
+
+fits-whole : (c : tie.Else1 Inv-loop μ-loop)
+    → let l = turn (c .before .before .before .before) in
+    l .loop .t + 3 ≤ length (start l .args .entries .now)
+fits-whole c =
+    let k = c .before .before .before .before in
+    inside (start (turn k) .args .entries .now) (turn k .loop .t) (mapWords (mapPart (wholeOf k))) (turn k .loop .inv .0) (same-whole c)
+
+-- ---- a cone that a pattern cuts was met
+
+abbrev cutOf : tie.After-met2 Inv-loop μ-loop → Part
+cutOf k =
+    let l = k .before .before .before in
+    let q = l .loop .place in
+    cut (q .cone) (q .row) (q .pattern) (patternAt (start l .args .words .now) (k .met2 .given .0 .0))
+
+met-cut : (k : tie.After-met2 Inv-loop μ-loop)
+    → let l = k .before .before .before in
+    let a = start l .args in
+    aheadOf l ≡ cutOf k ∷ ahead (a .cones .now) (a .words .now) (k .met2 .given .0 .1 .0)
+met-cut k =
+    let l = k .before .before .before in
+    let a = start l .args in
+    k .before .before .next .ensures .0 ∙ ap (meets (a .cones .now) (a .words .now) (l .loop .place)) (k .met2 .given .1)
+
+knows-cut : (k : tie.After-met2 Inv-loop μ-loop)
+    → let l = k .before .before .before in
+    let a = start l .args in
+    Knows (a .m) (a .cones .now) (a .words .now) (l .loop .place) (Cut (k .met2 .given .0 .0) (k .met2 .given .0 .1 .0))
+knows-cut k =
+    let l = k .before .before .before in
+    let a = start l .args in
+    subst (Knows (a .m) (a .cones .now) (a .words .now) (l .loop .place)) (k .met2 .given .1) (k .before .before .next .ensures .1)
+
+-- what the comparison answers for its entries, and how many words they are
+blocks : (r : tie.After-blocks-right Inv-loop μ-loop)
+    → let k = r .before .before .before .before in
+    let l = k .before .before .before in
+    r .blocks-right .result ≡ begins (drop (l .loop .t) (start l .args .entries .now)) (mapWords (mapPart (cutOf k)))
+blocks r =
+    let l = r .before .before .before .before .before .before .before in
+    let q = l .loop .place in
+    r .blocks-right .ensures
+    ∙ ap (λ (n : ℕ). begins (drop (l .loop .t) (start l .args .entries .now)) (blockWords (q .cone) (q .pattern) n)) (r .before .before .clique-count .ensures)
+
+counted : (r : tie.After-blocks-right Inv-loop μ-loop)
+    → length (mapWords (mapPart (cutOf (r .before .before .before .before)))) ≡ 3 * r .before .before .clique-count .result
+counted r =
+    let k = r .before .before .before .before in
+    let l = k .before .before .before in
+    let q = l .loop .place in
+    omega (
+      arith,
+      map-words (patternAt (start l .args .words .now) (k .met2 .given .0 .0)) (q .cone) (q .row) (q .pattern),
+      r .before .before .clique-count .ensures,
+    )
+
+-- they were there
+same-cut : (c : tie.Else2 Inv-loop μ-loop)
+    → let k = c .before .before .before .before .before in
+    let l = k .before .before .before in
+    begins (drop (l .loop .t) (start l .args .entries .now)) (mapWords (mapPart (cutOf k))) ≡ true
+same-cut c = sym (blocks (c .before)) ∙ not-false _ (c .if2 .left)
+
+fits-cut : (c : tie.Else2 Inv-loop μ-loop)
+    → let l = c .before .before .before .before .before .before .before .before in
+    l .loop .t + 3 * c .before .before .before .clique-count .result ≤ length (start l .args .entries .now)
+fits-cut c =
+    let k = c .before .before .before .before .before in
+    let l = k .before .before .before in
+    omega (arith, inside (start l .args .entries .now) (l .loop .t) (mapWords (mapPart (cutOf k))) (l .loop .inv .0) (same-cut c), counted (c .before))
+
+start-requires : tie.Need-start-requires Inv-loop μ-loop
+start-requires c κs = search needs
+
+loop-holds : tie.Need-loop-holds Inv-loop μ-loop
+loop-holds c =
+    let a = c .before .before .before .before .args in
+    (omega arith, c .start .ensures .1, ap (λ (ps : List Part). sameNumbers (a .entries .now) (mapWords (coneMap ps))) (c .start .ensures .0))
+
+next-requires : tie.Need-next-requires Inv-loop μ-loop
+next-requires c κs = c .loop .inv .1
+
+enum-known-met : tie.Need-enum-known-met Inv-loop μ-loop
+enum-known-met c = search needs
+
+cast-entry-right : tie.Need-cast-entry-right Inv-loop μ-loop
+cast-entry-right c = omega (arith, knows-whole (c .before .before) .2)
+
+entry-right-requires : tie.Need-entry-right-requires Inv-loop μ-loop
+entry-right-requires c κs = search needs
+
+returns : tie.Need-returns Inv-loop μ-loop
+returns c =
+    let r = c .before in
+    let k = r .before .before .before in
+    let l = turn k in
+    sym (sym (l .loop .inv .2)
+    ∙ entries-miss (start l .args .entries .now) (l .loop .t) (wholeOf k) (aheadOf l) _ (met-whole k) (sym (r .entry-right .ensures) ∙ not-true _ (c .if1 .taken)))
+
+add-t : tie.Need-add-t Inv-loop μ-loop
+add-t c = omega (arith, fits-whole c, small (start (turn (c .before .before .before .before))))
+
+loop-less : tie.Need-loop-less Inv-loop μ-loop
+loop-less c = omega (arith, ap length (met-whole (c .before .before .before .before)))
+
+loop-again : tie.Need-loop-again Inv-loop μ-loop
+loop-again c =
+    let k = c .before .before .before .before in
+    let l = turn k in (
+      fits-whole c,
+      knows-whole k .5,
+      sym (entries-hit (start l .args .entries .now) (l .loop .t) (wholeOf k) (aheadOf l) _ (met-whole k) (same-whole c)) ∙ l .loop .inv .2,
+    )
+
+enum-known-met-2 : tie.Need-enum-known-met-2 Inv-loop μ-loop
+enum-known-met-2 c = search needs
+
+clique-count-requires : tie.Need-clique-count-requires Inv-loop μ-loop
+clique-count-requires c κs = knows-cut (c .before) .1
+
+cast-blocks-right : tie.Need-cast-blocks-right Inv-loop μ-loop
+cast-blocks-right c = omega (arith, knows-cut (c .before .before .before) .4)
+
+blocks-right-requires : tie.Need-blocks-right-requires Inv-loop μ-loop
+blocks-right-requires c κs = search needs
+
+returns-2 : tie.Need-returns-2 Inv-loop μ-loop
+returns-2 c =
+    let r = c .before in
+    let k = r .before .before .before .before in
+    let l = k .before .before .before in
+    sym (sym (l .loop .inv .2)
+    ∙ entries-miss (start l .args .entries .now) (l .loop .t) (cutOf k) (aheadOf l) _ (met-cut k) (sym (blocks r) ∙ not-true _ (c .if2 .taken)))
+
+cast-t : tie.Need-cast-t Inv-loop μ-loop
+cast-t c = search needs
+
+mul-t : tie.Need-mul-t Inv-loop μ-loop
+mul-t c = search needs
+
+add-t-2 : tie.Need-add-t-2 Inv-loop μ-loop
+add-t-2 c = omega (arith, fits-cut c, small (start (c .before .before .before .before .before .before .before .before)))
+
+loop-less-2 : tie.Need-loop-less-2 Inv-loop μ-loop
+loop-less-2 c = omega (arith, ap length (met-cut (c .before .before .before .before .before)))
+
+loop-again-2 : tie.Need-loop-again-2 Inv-loop μ-loop
+loop-again-2 c =
+    let r = c .before in
+    let k = r .before .before .before .before in
+    let l = k .before .before .before in
+    let a = start l .args in
+    let e : l .loop .t + length (mapWords (mapPart (cutOf k))) ≡ l .loop .t + 3 * r .before .before .clique-count .result = omega (arith, counted r) in (
+      fits-cut c,
+      knows-cut k .6,
+      ap (λ (j : ℕ). sameNumbers (drop j (a .entries .now)) (mapWords (coneMap (ahead (a .cones .now) (a .words .now) (k .met2 .given .0 .1 .0))))) (sym e)
+          ∙ sym (entries-hit (a .entries .now) (l .loop .t) (cutOf k) (aheadOf l) _ (met-cut k) (same-cut c)) ∙ l .loop .inv .2,
+    )
+
+enum-told : tie.Need-enum-told Inv-loop μ-loop
+enum-told c = search needs
+
+returns-3 : tie.Need-returns-3 Inv-loop μ-loop
+returns-3 c =
+    let n = c .before .before in
+    let l = n .before in
+    let a = start l .args in
+    sym (sym (l .loop .inv .2)
+    ∙ entries-end (a .entries .now) (l .loop .t) (aheadOf l)
+    (n .next .ensures .0 ∙ ap (meets (a .cones .now) (a .words .now) (l .loop .place)) (c .enum-told .given .1)) (l .loop .inv .0))
+
+pub map-right-spec : {M : Type 1} → statement M
+map-right-spec =
+    tie.close
+    (tie.spec
+    Inv-loop
+    μ-loop
+    start-requires
+    loop-holds
+    next-requires
+    enum-known-met
+    cast-entry-right
+    entry-right-requires
+    returns
+    add-t
+    loop-less
+    loop-again
+    enum-known-met-2
+    clique-count-requires
+    cast-blocks-right
+    blocks-right-requires
+    returns-2
+    cast-t
+    mul-t
+    add-t-2
+    loop-less-2
+    loop-again-2
+    enum-told
+    returns-3)

@@ -1,0 +1,234 @@
+use crate::cone;
+use crate::solution::{map_entries, map_words};
+use crate::{count, flat, Augmented, Columns, ConeMapEntry, Pattern, Problem, Refusal, Route, Solution};
+
+/// The index of the pair (i, j) in the packed upper triangle, column by column, in either order. Both are up to 255.
+///
+/// ```
+/// use tejiwakpa::{pair_index, Refusal};
+///
+/// assert_eq!(pair_index(2, 5), Ok(17));
+/// assert_eq!(pair_index(5, 2), Ok(17));
+/// assert_eq!(pair_index(256, 0), Err(Refusal::Bound));
+/// ```
+pub fn pair_index(i: u32, j: u32) -> Result<u32, Refusal> {
+    let mut out = [0];
+    flat::pair_index(i, j, &mut out)?;
+    Ok(out[0])
+}
+
+/// Row and column of an index in the packed upper triangle, up to 32,895.
+///
+/// ```
+/// use tejiwakpa::{pair_back, Refusal};
+///
+/// assert_eq!(pair_back(17), Ok((2, 5)));
+/// assert_eq!(pair_back(32_896), Err(Refusal::Bound));
+/// ```
+pub fn pair_back(index: u32) -> Result<(u32, u32), Refusal> {
+    let mut out = [0; 2];
+    flat::pair_back(index, &mut out)?;
+    Ok((out[0], out[1]))
+}
+
+/// The inverse of a permutation: for each number its place.
+///
+/// ```
+/// use tejiwakpa::{inverse, Refusal};
+///
+/// assert_eq!(inverse(&[2, 0, 1]), Ok(vec![1, 2, 0]));
+/// assert_eq!(inverse(&[1, 1]), Err(Refusal::Patterns));
+/// ```
+pub fn inverse(permutation: &[u32]) -> Result<Vec<u32>, Refusal> {
+    let mut out = vec![0; permutation.len()];
+    flat::inverse(permutation, &mut out)?;
+    Ok(out)
+}
+
+/// The pattern with its vertices numbered by rising clique and, within a snode, by rising old number.
+///
+/// ```
+/// use tejiwakpa::{renumber, Clique, Pattern};
+///
+/// let pattern = Pattern {
+///     orig_index: 0,
+///     ordering: vec![2, 0, 1],
+///     cliques: vec![
+///         Clique { parent: Some(1), snode: vec![2], separator: vec![0] },
+///         Clique { parent: None, snode: vec![0, 1], separator: vec![] },
+///     ],
+/// };
+/// let renumbered = renumber(&pattern)?;
+/// assert_eq!(renumbered.ordering, [1, 2, 0]);
+/// assert_eq!(renumbered.cliques[0].snode, [0]);
+/// assert_eq!(renumbered.cliques[0].separator, [1]);
+/// assert_eq!(renumbered.cliques[1].snode, [1, 2]);
+/// # Ok::<(), tejiwakpa::Refusal>(())
+/// ```
+pub fn renumber(pattern: &Pattern) -> Result<Pattern, Refusal> {
+    let words = pattern.words();
+    let mut out = vec![0; words.len()];
+    flat::renumber(&words, &mut out)?;
+    Pattern::from_words(&out)
+}
+
+/// The lengths of the cut's outputs as flat tables.
+///
+/// ```
+/// use tejiwakpa::{sizes, Problem, Route};
+///
+/// let sizes = sizes(Route::Standard, &Problem::three_projectors())?;
+/// assert_eq!((sizes.b, sizes.q), (12, 7));
+/// # Ok::<(), tejiwakpa::Refusal>(())
+/// ```
+#[derive(Clone, Copy, Debug, PartialEq, Eq)]
+pub struct Sizes {
+    /// P's column starts.
+    pub p_starts: usize,
+    /// P's rows.
+    pub p_rows: usize,
+    /// P's values.
+    pub p_values: usize,
+    /// The linear cost: the number of augmented unknowns.
+    pub q: usize,
+    /// A's column starts.
+    pub a_starts: usize,
+    /// A's rows.
+    pub a_rows: usize,
+    /// A's values.
+    pub a_values: usize,
+    /// The right hand side: the number of augmented rows.
+    pub b: usize,
+    /// The cones' records, three words each.
+    pub cones: usize,
+    /// The exponents of the power cones.
+    pub alphas: usize,
+    /// The cone map, three words an entry.
+    pub map: usize,
+}
+
+fn sizes_of(route: Route, tables: &flat::Tables) -> Result<Sizes, Refusal> {
+    let mut out = [0; 11];
+    flat::sizes(route.number(), tables, &mut out)?;
+    let [p_starts, p_rows, p_values, q, a_starts, a_rows, a_values, b, cones, alphas, map] = out.map(|x| x as usize);
+    Ok(Sizes { p_starts, p_rows, p_values, q, a_starts, a_rows, a_values, b, cones, alphas, map })
+}
+
+/// The lengths of the outputs that [`cut`] makes of the problem, as flat tables.
+///
+/// ```
+/// use tejiwakpa::{sizes, Problem, Refusal, Route};
+///
+/// let mut problem = Problem::three_projectors();
+/// assert_eq!(sizes(Route::Compact, &problem)?.b, 6);
+/// problem.a.rows[0] = 9;
+/// assert_eq!(sizes(Route::Compact, &problem), Err(Refusal::Rows));
+/// # Ok::<(), Refusal>(())
+/// ```
+pub fn sizes(route: Route, problem: &Problem) -> Result<Sizes, Refusal> {
+    sizes_of(route, &problem.tables(&problem.words()))
+}
+
+/// Cuts the PSD cones that have a pattern into their cliques: the augmented problem, and where its cones come from.
+///
+/// ```
+/// use tejiwakpa::{cut, Cone, Problem, Refusal, Route};
+///
+/// let mut problem = Problem::three_projectors();
+/// let augmented = cut(Route::Standard, &problem)?;
+/// assert_eq!(augmented.problem.cones, [Cone::Zero(6), Cone::PsdTriangle(2), Cone::PsdTriangle(2)]);
+/// // no clique covers row 3
+/// problem.b[3] = 1.0;
+/// assert_eq!(cut(Route::Compact, &problem), Err(Refusal::Uncovered));
+/// # Ok::<(), Refusal>(())
+/// ```
+pub fn cut(route: Route, problem: &Problem) -> Result<Augmented, Refusal> {
+    let words = problem.words();
+    let tables = problem.tables(&words);
+    let sizes = sizes_of(route, &tables)?;
+    let columns =
+        |starts, rows, values| Columns { starts: vec![0; starts], rows: vec![0; rows], values: vec![0.0; values] };
+    let mut p = columns(sizes.p_starts, sizes.p_rows, sizes.p_values);
+    let mut q = vec![0.0; sizes.q];
+    let mut a = columns(sizes.a_starts, sizes.a_rows, sizes.a_values);
+    let mut b = vec![0.0; sizes.b];
+    let mut records = vec![0; sizes.cones];
+    let mut alphas = vec![0.0; sizes.alphas];
+    let mut map = vec![0; sizes.map];
+    let mut out = flat::CutOutputs {
+        p_starts: &mut p.starts,
+        p_rows: &mut p.rows,
+        p_values: &mut p.values,
+        q: &mut q,
+        a_starts: &mut a.starts,
+        a_rows: &mut a.rows,
+        a_values: &mut a.values,
+        b: &mut b,
+        cones: &mut records,
+        alphas: &mut alphas,
+        map: &mut map,
+    };
+    flat::cut(route.number(), &tables, &mut out)?;
+    let cones = cone::read(&records, &alphas);
+    let (n, m) = (count(q.len()), count(b.len()));
+    Ok(Augmented { problem: Problem { n, m, p, q, a, b, cones, patterns: vec![] }, map: map_entries(&map) })
+}
+
+/// Joins a solution of the augmented problem to one of the original problem, of which only n, m, the cones and the
+/// patterns are read. The map is that of the cut; the standard route reads none.
+///
+/// ```
+/// use tejiwakpa::{cut, join, Problem, Route, Solution};
+///
+/// let problem = Problem::three_projectors();
+/// let map = cut(Route::Compact, &problem)?.map;
+/// let block = vec![3.0, 4.0, 5.0, 1.0, 2.0, 7.0];
+/// let solution = Solution { x: vec![0.5, 0.0], s: block.clone(), z: block, tau: 1.0, kappa: 0.0 };
+/// let joined = join(Route::Compact, &problem, &map, &solution)?;
+/// // row 2 is in both cliques: slacks add, and the dual value is that of the clique walked last
+/// assert_eq!(joined.s, [1.0, 2.0, 10.0, 0.0, 4.0, 5.0]);
+/// assert_eq!(joined.z, [1.0, 2.0, 7.0, 0.0, 4.0, 5.0]);
+/// # Ok::<(), tejiwakpa::Refusal>(())
+/// ```
+pub fn join(route: Route, problem: &Problem, map: &[ConeMapEntry], solution: &Solution) -> Result<Solution, Refusal> {
+    let words = problem.words();
+    let joining = flat::Joining {
+        n: problem.n,
+        m: problem.m,
+        cones: &words.cones,
+        pattern_count: words.pattern_count,
+        pattern_words: &words.pattern_words,
+        x: &solution.x,
+        s: &solution.s,
+        z: &solution.z,
+        tau: solution.tau,
+        kappa: solution.kappa,
+        map: &map_words(map),
+    };
+    // sizes beyond the bound are refused whatever the room
+    let room = |size: u32| vec![0.0; size.min(65_536) as usize];
+    let (mut x, mut s, mut z) = (room(problem.n), room(problem.m), room(problem.m));
+    let mut scalars = [0.0; 2];
+    let mut out = flat::JoinOutputs { x: &mut x, s: &mut s, z: &mut z, scalars: &mut scalars };
+    flat::join(route.number(), &joining, &mut out)?;
+    Ok(Solution { x, s, z, tau: scalars[0], kappa: scalars[1] })
+}
+
+/// Whether n, m, the cones' records and the patterns of two problems agree, so that their cuts have the same rows, added
+/// unknowns, cones and map. Values are not compared, and neither are exponents.
+///
+/// ```
+/// use tejiwakpa::{same_layout, Problem};
+///
+/// let first = Problem::three_projectors();
+/// let mut second = first.clone();
+/// second.a.values[0] = 11.0;
+/// assert_eq!(same_layout(&first, &second), Ok(true));
+/// second.patterns.clear();
+/// assert_eq!(same_layout(&first, &second), Ok(false));
+/// ```
+pub fn same_layout(first: &Problem, second: &Problem) -> Result<bool, Refusal> {
+    let mut out = [0];
+    flat::same_layout(&first.tables(&first.words()), &second.tables(&second.words()), &mut out)?;
+    Ok(out[0] == 1)
+}

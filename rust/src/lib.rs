@@ -1,0 +1,75 @@
+//! The chordal cut and join of semidefinite problems, proved.
+//!
+//! A solver cuts a large matrix cone into the cliques of its sparsity pattern before the solve, and joins the solution
+//! again afterwards. [`cut`] and [`join`] do that; the other calls stand beside them:
+//!
+//! | call | what it gives |
+//! |---|---|
+//! | [`pair_index`], [`pair_back`] | places in a packed upper triangle |
+//! | [`inverse`] | the inverse of a permutation |
+//! | [`renumber`] | a pattern with its vertices numbered by rising clique |
+//! | [`sizes`] | how large the augmented problem is |
+//! | [`cut`] | the augmented problem on a [`Route`] |
+//! | [`join`] | the original problem's solution from the augmented one's |
+//! | [`same_layout`] | whether two problems are laid out alike |
+//!
+//! The code behind the calls is proved: given anything at all, a call ends with its full result or with one [`Refusal`].
+//! Each fits a thread with 2 MB of stack, Rust's usual one, and calls on several threads do not meet. [`flat`] has the
+//! same calls over lent slices.
+//!
+//! ```
+//! use tejiwakpa::{cut, join, Clique, Columns, Cone, Pattern, Problem, Refusal, Route, Solution};
+//!
+//! fn main() -> Result<(), Refusal> {
+//!     // a PSD cone of dimension 3 whose entry (0, 2) is free: cliques {0, 1} and {1, 2}
+//!     let problem = Problem {
+//!         n: 1,
+//!         m: 6,
+//!         p: Columns::empty(1),
+//!         q: vec![0.0],
+//!         a: Columns { starts: vec![0, 5], rows: vec![0, 1, 2, 4, 5], values: vec![10.0, 20.0, 30.0, 40.0, 50.0] },
+//!         b: vec![1.0, 2.0, 3.0, 0.0, 4.0, 5.0],
+//!         cones: vec![Cone::PsdTriangle(3)],
+//!         patterns: vec![Pattern {
+//!             orig_index: 0,
+//!             ordering: vec![0, 1, 2],
+//!             cliques: vec![
+//!                 Clique { parent: Some(1), snode: vec![0], separator: vec![1] },
+//!                 Clique { parent: None, snode: vec![1, 2], separator: vec![] },
+//!             ],
+//!         }],
+//!     };
+//!
+//!     let augmented = cut(Route::Compact, &problem)?;
+//!     assert_eq!(augmented.problem.b, [3.0, 4.0, 5.0, 1.0, 2.0, 0.0]);
+//!
+//!     // here the solver solves augmented.problem
+//!     let s = augmented.problem.b.clone();
+//!     let solution = Solution { x: vec![0.0; 2], s, z: vec![0.0; 6], tau: 1.0, kappa: 0.0 };
+//!
+//!     let joined = join(Route::Compact, &problem, &augmented.map, &solution)?;
+//!     assert_eq!(joined.s, problem.b);
+//!     Ok(())
+//! }
+//! ```
+#![deny(missing_docs, unsafe_op_in_unsafe_fn)]
+
+mod calls;
+mod cone;
+pub mod flat;
+mod pattern;
+mod problem;
+mod refusal;
+mod solution;
+
+pub use calls::{cut, inverse, join, pair_back, pair_index, renumber, same_layout, sizes, Sizes};
+pub use cone::Cone;
+pub use pattern::{Clique, Pattern};
+pub use problem::{Columns, Problem, Route, Words};
+pub use refusal::Refusal;
+pub use solution::{Augmented, ConeMapEntry, Solution};
+
+// A length as a u32. One that is too long becomes the largest, which is beyond every bound.
+fn count(length: usize) -> u32 {
+    u32::try_from(length).unwrap_or(u32::MAX)
+}

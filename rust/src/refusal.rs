@@ -1,0 +1,136 @@
+use std::fmt;
+
+/// Why a call is refused: the first check that fails, in the order of the numbers. A refused call has written nothing.
+///
+/// ```
+/// use tejiwakpa::{pair_index, Refusal};
+///
+/// let refused = pair_index(256, 0).unwrap_err();
+/// assert_eq!(refused, Refusal::Bound);
+/// assert_eq!(refused.number(), 1);
+/// ```
+#[derive(Clone, Copy, Debug, PartialEq, Eq, PartialOrd, Ord, Hash)]
+#[repr(u32)]
+pub enum Refusal {
+    /// 1: a bound is exceeded: n or m 65,536, entries of A or of P 262,144, cones 1,024, a size in a cone record 65,536,
+    /// a PSD size 256, an index argument 255 (32,895 for the way back); or the route is neither 0 nor 1.
+    Bound = 1,
+    /// 2: the starts of A or P are not n + 1 numbers, do not begin at 0, fall, or do not end at the number of values;
+    /// or the rows are not as many as the values.
+    Starts = 2,
+    /// 3: rows in a column of A or P do not strictly rise, or lie outside.
+    Rows = 3,
+    /// 4: a cone record does not read as one of the seven kinds, the cones' rows are not m, or the count of α or the
+    /// length of q or b disagrees.
+    Cones = 4,
+    /// 5: pattern words end early or late, a pattern's `orig_index` does not rise or names no PSD cone, its vertex count
+    /// is not the cone's dimension, or an ordering (for the inverse, its argument) is no permutation.
+    Patterns = 5,
+    /// 6: a pattern has no clique, a parent is not a later clique, or the last clique has a parent or a separator.
+    Tree = 6,
+    /// 7: snodes have an empty one or do not hold each vertex exactly once and no other number, or a separator repeats a
+    /// member or has one that its parent's clique does not hold.
+    Cliques = 7,
+    /// 8: the route is compact and n is 0.
+    NoColumns = 8,
+    /// 9: the route is compact, and a stored entry of A or a b unequal to zero lies in a decomposed cone's row that no
+    /// clique covers.
+    Uncovered = 9,
+    /// 10: more than 262,144 augmented rows or, on the compact route, 131,072 overlaps.
+    TooLarge = 10,
+    /// 11: an output is too short. The calls that make their own outputs never answer it.
+    Short = 11,
+    /// 12: the lengths of a solution, or the cone map, are not those that the problem gives.
+    Solution = 12,
+}
+
+impl Refusal {
+    /// All refusals, by number.
+    ///
+    /// ```
+    /// use tejiwakpa::Refusal;
+    ///
+    /// for (place, refusal) in Refusal::ALL.iter().enumerate() {
+    ///     assert_eq!(refusal.number() as usize, place + 1);
+    /// }
+    /// ```
+    pub const ALL: [Refusal; 12] = [
+        Refusal::Bound,
+        Refusal::Starts,
+        Refusal::Rows,
+        Refusal::Cones,
+        Refusal::Patterns,
+        Refusal::Tree,
+        Refusal::Cliques,
+        Refusal::NoColumns,
+        Refusal::Uncovered,
+        Refusal::TooLarge,
+        Refusal::Short,
+        Refusal::Solution,
+    ];
+
+    /// The number of the check, 1 to 12.
+    ///
+    /// ```
+    /// assert_eq!(tejiwakpa::Refusal::Uncovered.number(), 9);
+    /// ```
+    pub fn number(self) -> u32 {
+        self as u32
+    }
+
+    /// The refusal that has this number.
+    ///
+    /// ```
+    /// use tejiwakpa::Refusal;
+    ///
+    /// assert_eq!(Refusal::from_number(12), Some(Refusal::Solution));
+    /// assert_eq!(Refusal::from_number(0), None);
+    /// ```
+    pub fn from_number(number: u32) -> Option<Refusal> {
+        let place = number.checked_sub(1)? as usize;
+        Refusal::ALL.get(place).copied()
+    }
+
+    /// What the check found, in a few words.
+    ///
+    /// ```
+    /// assert_eq!(tejiwakpa::Refusal::NoColumns.meaning(), "the compact route needs a column");
+    /// ```
+    pub fn meaning(self) -> &'static str {
+        match self {
+            Refusal::Bound => "a bound is exceeded",
+            Refusal::Starts => "the starts of A or P are wrong, or rows are not as many as values",
+            Refusal::Rows => "rows in a column of A or P do not strictly rise or lie outside",
+            Refusal::Cones => "a cone record, the cones' rows, or the length of alphas, q or b is wrong",
+            Refusal::Patterns => "pattern words or a pattern's cone are wrong, or an ordering is no permutation",
+            Refusal::Tree => "a pattern's cliques are no tree with the last as its root",
+            Refusal::Cliques => "snodes do not hold each vertex once, or a separator is wrong",
+            Refusal::NoColumns => "the compact route needs a column",
+            Refusal::Uncovered => "an entry of A or a value of b lies in a row that no clique covers",
+            Refusal::TooLarge => "there are too many augmented rows or overlaps",
+            Refusal::Short => "an output is too short",
+            Refusal::Solution => "the solution's lengths or the cone map are not those of this problem",
+        }
+    }
+}
+
+/// ```
+/// let refused = tejiwakpa::inverse(&[1, 1]).unwrap_err();
+/// assert_eq!(
+///     refused.to_string(),
+///     "refused, number 5: pattern words or a pattern's cone are wrong, or an ordering is no permutation"
+/// );
+/// ```
+impl fmt::Display for Refusal {
+    fn fmt(&self, f: &mut fmt::Formatter<'_>) -> fmt::Result {
+        write!(f, "refused, number {}: {}", self.number(), self.meaning())
+    }
+}
+
+/// ```
+/// fn index() -> Result<u32, Box<dyn std::error::Error>> {
+///     Ok(tejiwakpa::pair_index(2, 5)?)
+/// }
+/// assert_eq!(index().unwrap(), 17);
+/// ```
+impl std::error::Error for Refusal {}

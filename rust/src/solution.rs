@@ -1,0 +1,78 @@
+use crate::{flat, Problem};
+
+/// A solution: of the augmented problem before [`join`](crate::join), of the original one after it.
+///
+/// ```
+/// use tejiwakpa::Solution;
+///
+/// let solution = Solution { x: vec![0.5], s: vec![1.0, 2.0], z: vec![0.0, 0.0], tau: 1.0, kappa: 0.0 };
+/// assert_eq!(solution.s.len(), solution.z.len());
+/// ```
+#[derive(Clone, Debug, Default, PartialEq)]
+pub struct Solution {
+    /// The unknowns.
+    pub x: Vec<f64>,
+    /// The slacks, one for each row.
+    pub s: Vec<f64>,
+    /// The dual values, one for each row.
+    pub z: Vec<f64>,
+    /// τ of the homogeneous embedding. A joining does not read it, and gives 1.
+    pub tau: f64,
+    /// κ of the homogeneous embedding. A joining does not read it, and gives 1.
+    pub kappa: f64,
+}
+
+/// Where a cone of the augmented problem comes from.
+///
+/// ```
+/// use tejiwakpa::{cut, ConeMapEntry, Problem, Route};
+///
+/// // within a pattern the compact route walks cliques from last to first
+/// let map = cut(Route::Compact, &Problem::three_projectors())?.map;
+/// assert_eq!(map[0], ConeMapEntry { orig_index: 0, tree_and_clique: Some((0, 1)) });
+/// assert_eq!(map[1], ConeMapEntry { orig_index: 0, tree_and_clique: Some((0, 0)) });
+/// # Ok::<(), tejiwakpa::Refusal>(())
+/// ```
+#[derive(Clone, Copy, Debug, PartialEq, Eq, Hash)]
+pub struct ConeMapEntry {
+    /// The original cone, by its place among the cones.
+    pub orig_index: u32,
+    /// The pattern's number and the clique's number in it; none where the cone was not cut.
+    pub tree_and_clique: Option<(u32, u32)>,
+}
+
+/// What the cut gives: a problem without patterns, and where its cones come from.
+///
+/// ```
+/// use tejiwakpa::{cut, Cone, Problem, Route};
+///
+/// let augmented = cut(Route::Compact, &Problem::three_projectors())?;
+/// assert_eq!(augmented.problem.cones, [Cone::PsdTriangle(2), Cone::PsdTriangle(2)]);
+/// assert_eq!(augmented.map.len(), 2);
+/// # Ok::<(), tejiwakpa::Refusal>(())
+/// ```
+#[derive(Clone, Debug, Default, PartialEq)]
+pub struct Augmented {
+    /// The problem to solve.
+    pub problem: Problem,
+    /// An entry for each of its cones on the compact route; none on the standard one.
+    pub map: Vec<ConeMapEntry>,
+}
+
+/// The words of a cone map, three an entry.
+pub(crate) fn map_words(map: &[ConeMapEntry]) -> Vec<u32> {
+    let words = map.iter().flat_map(|entry| {
+        let (pattern, clique) = entry.tree_and_clique.unwrap_or((flat::NONE, 0));
+        [entry.orig_index, pattern, clique]
+    });
+    words.collect()
+}
+
+/// The entries of a cone map's words.
+pub(crate) fn map_entries(words: &[u32]) -> Vec<ConeMapEntry> {
+    let entries = words.chunks_exact(3).map(|word| ConeMapEntry {
+        orig_index: word[0],
+        tree_and_clique: (word[1] != flat::NONE).then_some((word[1], word[2])),
+    });
+    entries.collect()
+}

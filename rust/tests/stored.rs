@@ -1,0 +1,170 @@
+//! The stored answers that crate replay runs too (crates/replay/data), through the door.
+//!
+//! A file is text of hexadecimal numbers: how many cases; for each case how many lists of u32 and those lists, then how
+//! many lists of f64 and those lists, as bits; each list is its length and its numbers. A case's lists of u32 are the
+//! call's numbers, its answer, its inputs and its outputs; its lists of f64 are its inputs and its outputs. An output's
+//! list is what the whole of its room holds after the call.
+
+use std::path::Path;
+use tejiwakpa::flat::{self, CutOutputs, JoinOutputs, Joining, Tables};
+use tejiwakpa::Refusal;
+
+struct Case {
+    words: Vec<Vec<u32>>,
+    values: Vec<Vec<f64>>,
+}
+
+fn read(text: &str) -> Vec<Case> {
+    let mut numbers = text.split_ascii_whitespace().map(|n| u64::from_str_radix(n, 16).unwrap());
+    let lists = |numbers: &mut dyn Iterator<Item = u64>| -> Vec<Vec<u64>> {
+        let count = numbers.next().unwrap();
+        let mut list = || {
+            let length = numbers.next().unwrap();
+            (0..length).map(|_| numbers.next().unwrap()).collect()
+        };
+        (0..count).map(|_| list()).collect()
+    };
+    let count = numbers.next().unwrap();
+    let mut case = || Case {
+        words: lists(&mut numbers).into_iter().map(|l| l.into_iter().map(|x| x as u32).collect()).collect(),
+        values: lists(&mut numbers).into_iter().map(|l| l.into_iter().map(f64::from_bits).collect()).collect(),
+    };
+    let cases = (0..count).map(|_| case()).collect();
+    assert_eq!(numbers.next(), None);
+    cases
+}
+
+// what an output holds before a call
+fn words(like: &[u32]) -> Vec<u32> {
+    (0..like.len()).map(|k| 0xf000_0000 + (k % 65_536) as u32).collect()
+}
+fn values(like: &[f64]) -> Vec<f64> {
+    (0..like.len()).map(|k| -0.5 - (k % 65_536) as f64).collect()
+}
+
+fn number(answer: Result<(), Refusal>) -> u32 {
+    answer.err().map_or(0, Refusal::number)
+}
+
+// bit for bit, save for which NaN
+fn same(got: &[f64], want: &[f64]) -> bool {
+    let alike = |(x, y): (&f64, &f64)| x.to_bits() == y.to_bits() || (x.is_nan() && y.is_nan());
+    got.len() == want.len() && got.iter().zip(want).all(alike)
+}
+
+impl Case {
+    // the problem whose lists of u32 and of f64 begin at these places
+    fn tables(&self, n: u32, m: u32, pattern_count: u32, w: usize, v: usize) -> Tables<'_> {
+        Tables {
+            n,
+            m,
+            p_starts: &self.words[w],
+            p_rows: &self.words[w + 1],
+            p_values: &self.values[v],
+            q: &self.values[v + 1],
+            a_starts: &self.words[w + 2],
+            a_rows: &self.words[w + 3],
+            a_values: &self.values[v + 2],
+            b: &self.values[v + 3],
+            cones: &self.words[w + 4],
+            alphas: &self.values[v + 4],
+            pattern_count,
+            pattern_words: &self.words[w + 5],
+        }
+    }
+
+    // an answer and one output, given the places of both among the lists of u32
+    fn agrees(&self, answer: usize, output: usize, call: impl FnOnce(&mut [u32]) -> Result<(), Refusal>) -> bool {
+        let mut out = words(&self.words[output]);
+        self.words[answer] == [number(call(&mut out))] && out == self.words[output]
+    }
+
+    fn cut(&self) -> bool {
+        let given = &self.words[0];
+        let [mut p_starts, mut p_rows, mut a_starts, mut a_rows, mut cones, mut map] =
+            [8, 9, 10, 11, 12, 13].map(|k| words(&self.words[k]));
+        let [mut p_values, mut q, mut a_values, mut b, mut alphas] = [5, 6, 7, 8, 9].map(|k| values(&self.values[k]));
+        let mut out = CutOutputs {
+            p_starts: &mut p_starts,
+            p_rows: &mut p_rows,
+            p_values: &mut p_values,
+            q: &mut q,
+            a_starts: &mut a_starts,
+            a_rows: &mut a_rows,
+            a_values: &mut a_values,
+            b: &mut b,
+            cones: &mut cones,
+            alphas: &mut alphas,
+            map: &mut map,
+        };
+        let answer = flat::cut(given[0], &self.tables(given[1], given[2], given[3], 2, 0), &mut out);
+        self.words[1] == [number(answer)]
+            && [p_starts, p_rows, a_starts, a_rows, cones, map] == self.words[8..14]
+            && [p_values, q, a_values, b, alphas].iter().zip(&self.values[5..10]).all(|(got, want)| same(got, want))
+    }
+
+    fn join(&self) -> bool {
+        let given = &self.words[0];
+        let joining = Joining {
+            n: given[1],
+            m: given[2],
+            cones: &self.words[2],
+            pattern_count: given[3],
+            pattern_words: &self.words[3],
+            x: &self.values[0],
+            s: &self.values[1],
+            z: &self.values[2],
+            tau: self.values[3][0],
+            kappa: self.values[3][1],
+            map: &self.words[4],
+        };
+        let [mut x, mut s, mut z, mut scalars] = [4, 5, 6, 7].map(|k| values(&self.values[k]));
+        let mut out = JoinOutputs { x: &mut x, s: &mut s, z: &mut z, scalars: &mut scalars };
+        let answer = flat::join(given[0], &joining, &mut out);
+        self.words[1] == [number(answer)]
+            && [x, s, z, scalars].iter().zip(&self.values[4..8]).all(|(got, want)| same(got, want))
+    }
+}
+
+fn agrees(family: &str, case: &Case) -> bool {
+    let given = &case.words[0];
+    match family {
+        "pair_index" => case.agrees(1, 2, |out| flat::pair_index(given[0], given[1], out)),
+        "pair_back" => case.agrees(1, 2, |out| flat::pair_back(given[0], out)),
+        "inverse" => case.agrees(0, 2, |out| flat::inverse(&case.words[1], out)),
+        "renumber" => case.agrees(0, 2, |out| flat::renumber(&case.words[1], out)),
+        // checks 1 to 7, which same layout makes of either problem
+        "check_problem" => {
+            let tables = case.tables(given[0], given[1], given[2], 2, 0);
+            case.words[1] == [number(flat::same_layout(&tables, &tables, &mut [0]))]
+        }
+        "same_layout" => case.agrees(1, 14, |out| {
+            let first = case.tables(given[0], given[1], given[2], 2, 0);
+            let second = case.tables(given[3], given[4], given[5], 8, 5);
+            flat::same_layout(&first, &second, out)
+        }),
+        "sizes" => {
+            case.agrees(1, 8, |out| flat::sizes(given[0], &case.tables(given[1], given[2], given[3], 2, 0), out))
+        }
+        "cut" => case.cut(),
+        "join" => case.join(),
+        _ => panic!("no call is known for the stored answers of {family}"),
+    }
+}
+
+#[test]
+fn stored_answers() {
+    let folder = Path::new(env!("CARGO_MANIFEST_DIR")).join("../crates/replay/data");
+    let mut families = 0;
+    for file in std::fs::read_dir(folder).unwrap() {
+        let path = file.unwrap().path();
+        let family = path.file_name().unwrap().to_str().unwrap();
+        let cases = read(&std::fs::read_to_string(&path).unwrap());
+        for (place, case) in cases.iter().enumerate() {
+            assert!(agrees(family, case), "{family}: case {} differs", place + 1);
+        }
+        println!("{family}: {} cases, all equal", cases.len());
+        families += 1;
+    }
+    assert!(families >= 6, "stored answers of {families} families only");
+}
