@@ -18,12 +18,12 @@ use prog.Wp.{Heap, Env, Calls, Loops, Tables}
 use ghost.Atoms.{Atoms, sem}
 use sound.WpLaws.{FmC, fmOf}
 use contract.Monad.{Fun, fact}
-use types.Kit.{Given, Item, ‵, raw, _⊛_, some as some-item, later, mean, ⋆, Go, Post, Goal, prop, runs, lands, Seq, Step, step, cut, _$_, _∵_, !, qed, move, drop, use1, split, split3, join, fsplit, fjoin, frame, done}
+use types.Kit.{Given, Item, ‵, raw, _⊛_, some as some-item, later, mean, ⋆, Go, Post, Goal, prop, runs, lands, Seq, Step, step, _$_, _∵_, !, qed, move, drop, split3, join, fsplit, fjoin, frame, done}
 use types.Run.{Opds, look, stop, from, load, and-then, no-more}
 use denote.Laws.{Is}
 use denote.Plain.{uint-makes}
 use denote.Ref.{RefT}
-use denote.Slice.{sliceTy, sliceVal, ShrSlice, slice-vals, shr-slice-copy}
+use denote.Slice.{sliceTy, sliceVal, ShrSlice, slice-vals}
 use denote.Builtin.{u32}
 use denote.Steps.{nothing, owned}
 use denote.Struct.Laws as LL
@@ -36,7 +36,8 @@ use Rattle.layout.specs.Compact.{MapEntry, coneMap}
 use Rattle.layout.specs.Answers.{joinedParts}
 use Rattle.cone_map.specs.declared.MapPlace.{MapPlace}
 use Rattle.cone_map.specs.Walking.{entriesFrom, unlessRefused, Valid}
-use Rattle.by_hand.proofs.Calling.{calls-plain}
+use Rattle.by_hand.proofs.Stars.{shared-slice}
+use Rattle.by_hand.proofs.Calling.{calls-lent}
 use Rattle.by_hand.proofs.Locals.{locals}
 use Rattle.cone_map.proofs.MapPlace as P
 use Rattle.cone_map.proofs.MapPlace.Laws as P′
@@ -127,19 +128,12 @@ module _ (p : Passed) {M : Type 1} {𝓤 : URA M} {H : Heap 𝓤} {A : Atoms �
   scatter : K → {X : Fml} → Step K W (‵ (Cones p) ∷ ‵ (Words p) ∷ ‵ X ∷ Γ) G (‵ (Held p X) ∷ Γ) G
   scatter t = step (λ s. fsplit t $ drop t $ fsplit t $ drop t $ fsplit t $ move t (1 ∷ []) $ fsplit t $ drop t $ fsplit t $ move t (2 ∷ 0 ∷ 1 ∷ []) $ s)
 
-  -- a slice that is shared is had twice
-  twice : K → Step K W (‵ (Cones p) ∷ ‵ (Words p) ∷ ‵ (Cones p) ∷ ‵ (Words p) ∷ Γ) G (‵ (Cones p) ∷ ‵ (Words p) ∷ Γ) G
-  twice t = step (λ s.
-      use1 W (‵ (Cones p) ⊛ ‵ (Cones p)) (shr-slice-copy 𝓤 H A W (named 0) (p .κ₀) u32 .twice (p .cones) (slice (p .cones) ∷ [])) $ split t $ move t (2 ∷ []) $
-      use1 W (‵ (Words p) ⊛ ‵ (Words p)) (shr-slice-copy 𝓤 H A W (named 1) (p .κ₁) u32 .twice (p .words) (slice (p .words) ∷ [])) $ split t $ move t (2 ∷ 0 ∷ 3 ∷ 1 ∷ []) $ s)
-
 -- the tokens, as a callee asks for them
 pub tokens : (p : Passed) {M : Type 1} {𝓤 : URA M} {H : Heap 𝓤} {A : Atoms 𝓤} {K : Type 0} {W : Given 𝓤 H A} {Γ : List (Item 𝓤)} → K → {P : SProp 𝓤}
     → Step K W Γ (prop P) (‵ (flft (p .κ₀) (p .q₀)) ∷ ‵ (flft (p .κ₁) (p .q₁)) ∷ Γ) (prop (sep 𝓤 (mean 𝓤 H A (Tokens p (‵ ftrue))) P))
 tokens p t = step (λ s. nothing t $ move t (2 ∷ 0 ∷ []) $ join t $ move t (1 ∷ 0 ∷ []) $ join t $ frame t $ s)
 
--- ---- a call that is lent both slices, and gives a place
-
+-- a call that is lent both slices, and gives a place
 module _ (p : Passed) {M : Type 1} {𝓤 : URA M} {H : Heap 𝓤} {A : Atoms 𝓤} {K : Type 0} {W : Given 𝓤 H A} {Γ : List (Item 𝓤)} {E : Env 𝓤 H} {C : Calls 𝓤 H} {Λ : Loops 𝓤 H} {f : Name} {xs : List Operand}
     {q : Post 𝓤 H} {d : Place} {rest : Body} where
   pub calls-over : K → FmC 𝓤 H (W .laws) C → (c : Contract 𝓤) → Triple 𝓤 (C f) c → (x : c .Ghost) → ent 𝓤 (⋆ 𝓤 H A (Slices p [])) (c .pre x) → (Says : MapPlace → SProp 𝓤) (φ : MapPlace → Type 0)
@@ -149,8 +143,9 @@ module _ (p : Passed) {M : Type 1} {𝓤 : URA M} {H : Heap 𝓤} {A : Atoms �
       → ((r : MapPlace) → φ r → Is P.the-row r (mach r ∷ []) → Seq K W (Slices p Γ) (lands C Λ E d (mach r) rest q))
       → Seq K W (Slices p Γ) (runs C Λ E (seq (call f xs d) rest) q)
   calls-over t fm c known x asked Says φ gives said os k =
-      move t (2 ∷ 3 ∷ []) $ twice p t $ move t (4 ∷ 5 ∷ 0 ∷ 1 ∷ []) $ cut (Slices p []) (raw (c .pre x) ∷ []) (‵ (Cones p) ∷ ‵ (Words p) ∷ Γ) asked $
-      calls-plain t fm c known x P.the-row mach (LL.tells P.the-type P′.the-laws) (Tokens p (‵ ftrue)) Says φ gives said os (λ r e is. split3 t $ move t (2 ∷ []) $ drop t $ k r e is)
+      calls-lent W (‵ (flft (p .κ₀) (p .q₀)) ∷ ‵ (flft (p .κ₁) (p .q₁)) ∷ [])
+      (shared-slice (named 0) (p .κ₀) u32 (p .cones) (slice (p .cones) ∷ []) ∷ shared-slice (named 1) (p .κ₁) u32 (p .words) (slice (p .words) ∷ []) ∷ []) Γ t fm c known x asked
+      P.the-row mach (LL.tells P.the-type P′.the-laws) Says φ gives said os k
 
 -- ---- the locals: the result's, the parameters', and others
 
