@@ -117,7 +117,7 @@ module _ {M : Type 1} (𝓤 : URA M) (H : Heap 𝓤) (A : Atoms 𝓤) (W : Given
       (monoR 𝓤 P (via 𝓤 (sep 𝓤 (sep 𝓤 Q R) S) (assoc′ 𝓤 Q R S) (via 𝓤 (sep 𝓤 (sep 𝓤 R Q) S) (monoL 𝓤 S (comm∗ 𝓤 Q R)) (assoc∗ 𝓤 R Q S))))
       (assoc′ 𝓤 P R (sep 𝓤 Q S)))
 
-  pub all-twice : (ss : List Shared) → ent 𝓤 (⋆ 𝓤 H A (shared ss)) (sep 𝓤 (⋆ 𝓤 H A (shared ss)) (⋆ 𝓤 H A (shared ss)))
+  all-twice : (ss : List Shared) → ent 𝓤 (⋆ 𝓤 H A (shared ss)) (sep 𝓤 (⋆ 𝓤 H A (shared ss)) (⋆ 𝓤 H A (shared ss)))
   all-twice [] = emp∗ 𝓤 (emp 𝓤)
   all-twice (S ∷ ss) =
       let P : SProp 𝓤 = sem 𝓤 H A (S .own) in
@@ -125,3 +125,13 @@ module _ {M : Type 1} (𝓤 : URA M) (H : Heap 𝓤) (A : Atoms 𝓤) (W : Given
       via 𝓤 (sep 𝓤 P Q) (pop 𝓤 H A (‵ (S .own)) (shared ss))
       (via 𝓤 (sep 𝓤 (sep 𝓤 P P) (sep 𝓤 Q Q)) (mono∗ 𝓤 (S .twice 𝓤 H A W) (all-twice ss))
       (via 𝓤 (sep 𝓤 (sep 𝓤 P Q) (sep 𝓤 P Q)) (crossed P P Q Q) (mono∗ 𝓤 (push 𝓤 H A (‵ (S .own)) (shared ss)) (push 𝓤 H A (‵ (S .own)) (shared ss)))))
+
+  pub doubled : (ss : List Shared) (Γ : List (Item 𝓤)) → ent 𝓤 (⋆ 𝓤 H A (shared ss ++ Γ)) (⋆ 𝓤 H A (shared ss ++ (shared ss ++ Γ)))
+  doubled ss Γ =
+      let S : SProp 𝓤 = ⋆ 𝓤 H A (shared ss) in
+      let G : SProp 𝓤 = ⋆ 𝓤 H A Γ in
+      via 𝓤 (sep 𝓤 (sep 𝓤 S S) G) (via 𝓤 (sep 𝓤 S G) (⊢++ 𝓤 H A (shared ss) Γ) (monoL 𝓤 G (all-twice ss)))
+      (via 𝓤 (sep 𝓤 S (sep 𝓤 S G)) (assoc∗ 𝓤 S S G) (via 𝓤 (sep 𝓤 S (⋆ 𝓤 H A (shared ss ++ Γ))) (monoR 𝓤 S (++⊢ 𝓤 H A (shared ss) Γ)) (++⊢ 𝓤 H A (shared ss) (shared ss ++ Γ))))
+
+pub had-twice : {M : Type 1} {𝓤 : URA M} {H : Heap 𝓤} {A : Atoms 𝓤} {K : Type 0} {W : Given 𝓤 H A} {G : Goal 𝓤 H} (Γ : List (Item 𝓤)) → K → (ss : List Shared) → Step K W (shared ss ++ (shared ss ++ Γ)) G (shared ss ++ Γ) G
+had-twice {𝓤 = 𝓤} {H} {A} {W = W} Γ t ss = step (λ s. by t (via 𝓤 (⋆ 𝓤 H A (shared ss ++ (shared ss ++ Γ))) (doubled 𝓤 H A W ss Γ) (s .prf)))
