@@ -1,0 +1,5 @@
+pub mod Counted
+pub mod Stars
+pub mod Calling
+pub mod Locals
+pub mod Params
