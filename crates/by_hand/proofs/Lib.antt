@@ -3,3 +3,4 @@ pub mod Stars
 pub mod Calling
 pub mod Locals
 pub mod Params
+pub mod Values

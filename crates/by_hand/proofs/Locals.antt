@@ -4,7 +4,7 @@
 --     locals E vs      the items: local i holds value i of vs, or is room where vs has none
 --     enters           a function is entered: the body runs from its locals, which stand last in the context, and of which the parameters hold the arguments
 --     free-all         its locals, which stand last in the context, are freed
-use Prim.Native.Nat.{ℕ, zero, suc}
+use Prim.Native.Nat.{ℕ, zero}
 use mathlib.Core.Path.{_≡_, refl, sym, ap, subst}
 use mathlib.Core.List.{List, [], _∷_, _++_, map, append-assoc}
 use mathlib.Core.Option.{Option, some, none}

@@ -21,11 +21,10 @@ use contract.Monad.{Fun, fact}
 use types.Kit.{Given, Item, ‵, raw, _⊛_, some as some-item, later, mean, ⋆, Go, Post, Goal, prop, runs, lands, Seq, Step, step, _$_, _∵_, !, qed, move, drop, split3, join, fsplit, fjoin, frame, done}
 use types.Run.{Opds, look, stop, from, load, and-then, no-more}
 use denote.Laws.{Is}
-use denote.Plain.{uint-makes}
 use denote.Ref.{RefT}
-use denote.Slice.{sliceTy, sliceVal, ShrSlice, slice-vals}
+use denote.Slice.{sliceTy, ShrSlice, slice-vals}
 use denote.Builtin.{u32}
-use denote.Steps.{nothing, owned}
+use denote.Steps.{nothing}
 use denote.Struct.Laws as LL
 use denote.Triple.Statement.{Contract, Triple}
 use denote.Triple.Clauses.{ensured, lasts}
@@ -37,6 +36,7 @@ use Rattle.layout.specs.Answers.{joinedParts}
 use Rattle.cone_map.specs.declared.MapPlace.{MapPlace}
 use Rattle.cone_map.specs.Walking.{entriesFrom, unlessRefused, Valid}
 use Rattle.by_hand.proofs.Stars.{shared-slice}
+use Rattle.by_hand.proofs.Values.{u32-of, number, slice}
 use Rattle.by_hand.proofs.Calling.{calls-lent}
 use Rattle.by_hand.proofs.Locals.{locals}
 use Rattle.cone_map.proofs.MapPlace as P
@@ -87,17 +87,11 @@ passed κ₀ κ₁ q₀ q₁ refused m cones count words r-is m-is cones-are cou
 abbrev pub mach : MapPlace → Val
 mach c = LL.val P.the-type P′.the-laws c
 
-abbrev pub slice : RefT (List ℕ) → Val
-slice x = sliceVal (x .ptr) (length (x .now))
-
 -- those of the parameters, and more
 abbrev pub args : Passed → List Val → List Val
 args p vs = vint w32 (p .refused) ∷ vint w32 (p .m) ∷ slice (p .cones) ∷ vint w32 (p .count) ∷ slice (p .words) ∷ vs
 
 -- ---- what is owned
-
-abbrev u32-of : ℕ → Fml
-u32-of n = u32 .own n (vint w32 n ∷ [])
 
 abbrev pub Cones : Passed → Fml
 Cones p = ShrSlice (named 0) (p .κ₀) u32 .own (p .cones) (slice (p .cones) ∷ [])
@@ -116,9 +110,6 @@ Slices p Γ = ‵ (flft (p .κ₀) (p .q₀)) ∷ ‵ (flft (p .κ₁) (p .q₁)
 -- the tokens, Z among them
 abbrev pub Tokens : {M : Type 1} {𝓤 : URA M} → Passed → Item 𝓤 → Item 𝓤
 Tokens p Z = ‵ (flft (p .κ₀) (p .q₀)) ⊛ (‵ (flft (p .κ₁) (p .q₁)) ⊛ Z)
-
-pub number : {M : Type 1} {𝓤 : URA M} {H : Heap 𝓤} {A : Atoms 𝓤} {K : Type 0} {W : Given 𝓤 H A} {Γ : List (Item 𝓤)} {G : Goal 𝓤 H} → K → (n : ℕ) → n < 2 ^ 32 → Step K W (‵ (u32-of n) ∷ Γ) G Γ G
-number {𝓤 = 𝓤} {H = H} {A = A} {W = W} t n fits = owned t u32 (Is u32) (uint-makes 𝓤 H A W w32) n _ (refl, fits)
 
 module _ (p : Passed) {M : Type 1} {𝓤 : URA M} {H : Heap 𝓤} {A : Atoms 𝓤} {K : Type 0} {W : Given 𝓤 H A} {Γ : List (Item 𝓤)} {G : Goal 𝓤 H} where
   pub gather : K → {X : Fml} → Step K W (‵ (Held p X) ∷ Γ) G (‵ (Cones p) ∷ ‵ (Words p) ∷ ‵ X ∷ Γ) G

@@ -1,5 +1,5 @@
 -- The room of a slice of entries, in words: it is counted no further than any map goes.
-use Prim.Native.Nat.{ℕ, zero, suc, _+_, _*_, _≤_, _<_}
+use Prim.Native.Nat.{ℕ, zero, suc, _*_, _≤_}
 use native.Mathlib.Omega.{arith}
 use mathlib.Core.Path.{_≡_, refl, sym, ap, subst, _∙_}
 use mathlib.Core.Logic.{inl, inr}
@@ -10,7 +10,7 @@ use lib.Dec.{T, leb, ltb}
 use Rattle.layout.specs.Problem.{Problem, compact}
 use Rattle.layout.specs.Blocks.{blockRowCount, overlapCount}
 use Rattle.layout.specs.Checks.{Sound, layout, refusal}
-use Rattle.layout.specs.Compact.{MapEntry, wholeCone, blockOf, coneMap, entryWords, mapWords}
+use Rattle.layout.specs.Compact.{MapEntry, wholeCone, blockOf, coneMap, entryWords}
 use Rattle.layout.specs.Answers.{orElse, roomy, sizes, cutRefusal}
 use Rattle.layout.proofs.Tests.{and-iff, leb-iff, ltb-iff, tested, cond-passed, cond-failed}
 use Rattle.layout.proofs.Accepted.{accepted-sound}
@@ -32,9 +32,9 @@ same-test k a b f g = go (leb k a) (leb k b) (λ t. leb-iff k b .1 (f (leb-iff k
 
 enough : (k entries : ℕ) → k ≤ 789504 → leb k (wordsOf entries) ≡ leb k (entries * 3)
 enough k entries few = elim (tested (ltb 263168 entries)) [
-  inl h ↦
-    ap (leb k) (cond-passed (ltb 263168 entries) 789504 (entries * 3) h)
-    ∙ same-test k 789504 (entries * 3) (λ l. omega (arith, ltb-iff 263168 entries .0 h)) (λ l. few)
+  | inl h ↦
+      ap (leb k) (cond-passed (ltb 263168 entries) 789504 (entries * 3) h)
+      ∙ same-test k 789504 (entries * 3) (λ l. omega (arith, ltb-iff 263168 entries .0 h)) (λ l. few)
   | inr h ↦ ap (leb k) (cond-failed (ltb 263168 entries) 789504 (entries * 3) h)
 ]
 

@@ -1,4 +1,3 @@
-use native.Mathlib.Omega.{arith}
 use borrow.Author.Needs.{needs}
 use Rattle.layout.specs.Problem.{Problem, problem, compact}
 use Rattle.layout.proofs.Accepted.{accepted-sound}

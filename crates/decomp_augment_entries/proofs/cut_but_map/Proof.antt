@@ -1,4 +1,3 @@
-use native.Mathlib.Omega.{arith}
 use borrow.Author.Needs.{needs}
 use Prim.Native.Nat.{ℕ, _*_}
 use mathlib.Core.Path.{_≡_, refl, sym, ap, _∙_}
@@ -66,7 +65,7 @@ write-all-but-map-requires c κs =
     let ok = accepted (d .before) in
     let g = d .get-decomposed-dim-and-overlaps .ensures in
     let f =
-      compact-rooms (given s) (rooms s ++ (s .args .map-room * 3 ∷ [])) ok (d .get-decomposed-dim-and-overlaps .result .rows) (d .get-decomposed-dim-and-overlaps .result .overlaps) (g .0) (g .1 .0) in
+    compact-rooms (given s) (rooms s ++ (s .args .map-room * 3 ∷ [])) ok (d .get-decomposed-dim-and-overlaps .result .rows) (d .get-decomposed-dim-and-overlaps .result .overlaps) (g .0) (g .1 .0) in
     (ok .0, ((g .0, g .1 .0), (f .0, (f .1 .0, (f .1 .1 .0, f .1 .1 .1)))))
 
 same-length : tie.Need-same-length

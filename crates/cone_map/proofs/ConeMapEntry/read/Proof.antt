@@ -1,10 +1,7 @@
 use borrow.Author.Tests.{eq-eqb, ne-eqb}
-use native.Mathlib.Omega.{arith}
 use borrow.Author.Needs.{needs}
 use Rattle.cone_map.proofs.ConeMapEntry.read.Statement.{statement}
 use Rattle.cone_map.proofs.ConeMapEntry.read.Tie as tie
-use Rattle.cone_map.proofs.ConeMapEntry.read.Reads as reads
-use Rattle.cone_map.proofs.ConeMapEntry.read.Lts as lts
 
 mul-at : tie.Need-mul-at
 mul-at c = search needs

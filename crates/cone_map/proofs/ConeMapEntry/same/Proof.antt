@@ -1,15 +1,9 @@
 use borrow.Author.Tests.{eq-eqb, ne-eqb}
 use borrow.Author.Needs.{needs}
-use mathlib.Core.Path.{_≡_, sym, ap, _∙_}
-use mathlib.Core.Bool.{Bool, true, false, _&&_}
-use lib.Dec.{eqb}
-use Rattle.cone_map.specs.Entries.{placed, meant, sameEntry}
+use mathlib.Core.Path.{sym, _∙_}
 use Rattle.cone_map.proofs.Entries.{same-parts}
 use Rattle.cone_map.proofs.ConeMapEntry.same.Statement.{statement}
 use Rattle.cone_map.proofs.ConeMapEntry.same.Tie as tie
-use Rattle.cone_map.proofs.ConeMapEntry.same.Reads as reads
-use Rattle.cone_map.proofs.ConeMapEntry.same.Lts as lts
-use Rattle.cone_map.proofs.TreeAndClique.same.Reads as same-reads
 
 same-requires : tie.Need-same-requires
 same-requires c κs = search needs

@@ -1,5 +1,5 @@
 use Prim.Native.Nat.{ℕ}
-use mathlib.Core.Path.{_≡_, sym, ap, ap₂, _∙_}
+use mathlib.Core.Path.{sym, ap, ap₂, _∙_}
 use mathlib.Core.List.{List}
 use lib.ListN.{set, length-set}
 use Rattle.layout.specs.Lists.{written}
@@ -9,10 +9,6 @@ use native.Mathlib.Omega.{arith}
 use borrow.Author.Needs.{needs}
 use Rattle.cone_map.proofs.ConeMapEntry.write.Statement.{statement}
 use Rattle.cone_map.proofs.ConeMapEntry.write.Tie as tie
-use Rattle.cone_map.proofs.ConeMapEntry.write.Reads as reads
-use Rattle.cone_map.proofs.ConeMapEntry.write.Lts as lts
-use Rattle.cone_map.proofs.TreeAndClique.clique_word.Reads as clique-word-reads
-use Rattle.cone_map.proofs.TreeAndClique.pattern_word.Reads as pattern-word-reads
 
 slice-write-out : tie.Need-slice-write-out
 slice-write-out c = search needs

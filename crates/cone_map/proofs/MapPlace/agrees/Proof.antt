@@ -1,10 +1,6 @@
-use native.Mathlib.Omega.{arith}
 use borrow.Author.Needs.{needs}
 use Rattle.cone_map.proofs.MapPlace.agrees.Statement.{statement}
 use Rattle.cone_map.proofs.MapPlace.agrees.Tie as tie
-use Rattle.cone_map.proofs.MapPlace.agrees.Reads as reads
-use Rattle.cone_map.proofs.MapPlace.agrees.Lts as lts
-use Rattle.cone_map.proofs.ConeMapEntry.same.Reads as same-reads
 
 same-requires : tie.Need-same-requires
 same-requires c κs = search needs

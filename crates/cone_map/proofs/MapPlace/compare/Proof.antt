@@ -1,13 +1,8 @@
 use Rattle.cone_map.specs.declared.MapPlace.{MapPlace}
 use Rattle.cone_map.proofs.Walking.{compares}
-use native.Mathlib.Omega.{arith}
 use borrow.Author.Needs.{needs}
 use Rattle.cone_map.proofs.MapPlace.compare.Statement.{statement}
 use Rattle.cone_map.proofs.MapPlace.compare.Tie as tie
-use Rattle.cone_map.proofs.MapPlace.compare.Reads as reads
-use Rattle.cone_map.proofs.MapPlace.compare.Lts as lts
-use Rattle.cone_map.proofs.MapPlace.agrees.Reads as agrees-reads
-use Rattle.cone_map.proofs.MapPlace.next.Reads as next-reads
 
 next-requires : tie.Need-next-requires
 next-requires c κs = search needs

@@ -1,4 +1,4 @@
-use Prim.Native.Nat.{ℕ, _-_, _<_}
+use Prim.Native.Nat.{ℕ, _<_}
 use mathlib.Core.Path.{_≡_, refl, sym, ap, subst, _∙_}
 use mathlib.Core.List.{List, _++_, map, reverse}
 use Rattle.layout.specs.Lists.{below}
@@ -12,11 +12,6 @@ use native.Mathlib.Omega.{arith}
 use borrow.Author.Needs.{needs}
 use Rattle.cone_map.proofs.MapPlace.first.Statement.{statement}
 use Rattle.cone_map.proofs.MapPlace.first.Tie as tie
-use Rattle.cone_map.proofs.MapPlace.first.Reads as reads
-use Rattle.cone_map.proofs.MapPlace.first.Lts as lts
-use Rattle.cone_map.proofs.MapPlace.end.Reads as end-reads
-use Rattle.parts.proofs.Place.next.Reads as next-reads
-use Rattle.parts.proofs.clique_count.Reads as clique-count-reads
 
 -- what was met, and what is known of it
 met : (r : tie.After-next) (m : Met) → r .next .result ≡ m

@@ -1,4 +1,4 @@
-use mathlib.Core.Path.{_≡_, sym, ap, _∙_}
+use mathlib.Core.Path.{sym, ap, _∙_}
 use mathlib.Core.List.{List}
 use lib.ListN.{drop}
 use Rattle.layout.specs.Compact.{MapEntry}
@@ -8,11 +8,6 @@ use native.Mathlib.Omega.{arith}
 use borrow.Author.Needs.{needs}
 use Rattle.cone_map.proofs.MapPlace.next.Statement.{statement}
 use Rattle.cone_map.proofs.MapPlace.next.Tie as tie
-use Rattle.cone_map.proofs.MapPlace.next.Reads as reads
-use Rattle.cone_map.proofs.MapPlace.next.Lts as lts
-use Rattle.cone_map.proofs.MapPlace.first.Reads as first-reads
-use Rattle.cone_map.proofs.TreeAndClique.clique_word.Reads as clique-word-reads
-use Rattle.cone_map.proofs.TreeAndClique.pattern_word.Reads as pattern-word-reads
 
 clique-word-requires : tie.Need-clique-word-requires
 clique-word-requires c κs = search needs

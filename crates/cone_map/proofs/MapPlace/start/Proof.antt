@@ -1,16 +1,10 @@
-use mathlib.Core.Path.{_≡_, sym, ap, _∙_}
+use mathlib.Core.Path.{sym, ap, _∙_}
 use Rattle.layout.specs.Compact.{coneMap}
 use Rattle.layout.proofs.Tests.{differ}
 use Rattle.cone_map.proofs.Walking.{none-here, accepted, refused}
-use native.Mathlib.Omega.{arith}
 use borrow.Author.Needs.{needs}
 use Rattle.cone_map.proofs.MapPlace.start.Statement.{statement}
 use Rattle.cone_map.proofs.MapPlace.start.Tie as tie
-use Rattle.cone_map.proofs.MapPlace.start.Reads as reads
-use Rattle.cone_map.proofs.MapPlace.start.Lts as lts
-use Rattle.cone_map.proofs.MapPlace.end.Reads as end-reads
-use Rattle.cone_map.proofs.MapPlace.first.Reads as first-reads
-use Rattle.parts.proofs.Place.start.Reads as start-reads
 
 start-requires : tie.Need-start-requires
 start-requires c κs = c .before .before .before .pre (c .if1 .taken)

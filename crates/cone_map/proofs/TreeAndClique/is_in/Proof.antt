@@ -2,8 +2,6 @@ use borrow.Author.Tests.{eq-eqb, ne-eqb}
 use borrow.Author.Needs.{needs}
 use Rattle.cone_map.proofs.TreeAndClique.is_in.Statement.{statement}
 use Rattle.cone_map.proofs.TreeAndClique.is_in.Tie as tie
-use Rattle.cone_map.proofs.TreeAndClique.is_in.Reads as reads
-use Rattle.cone_map.proofs.TreeAndClique.is_in.Lts as lts
 
 enum-told : tie.Need-enum-told
 enum-told c = search needs

@@ -1,11 +1,6 @@
-use native.Mathlib.Omega.{arith}
 use borrow.Author.Needs.{needs}
 use Rattle.cone_map.proofs.TreeAndClique.same.Statement.{statement}
 use Rattle.cone_map.proofs.TreeAndClique.same.Tie as tie
-use Rattle.cone_map.proofs.TreeAndClique.same.Reads as reads
-use Rattle.cone_map.proofs.TreeAndClique.same.Lts as lts
-use Rattle.cone_map.proofs.TreeAndClique.is_in.Reads as is-in-reads
-use Rattle.cone_map.proofs.TreeAndClique.is_none.Reads as is-none-reads
 
 enum-told : tie.Need-enum-told
 enum-told c = search needs
