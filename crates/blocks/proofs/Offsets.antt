@@ -31,13 +31,13 @@ use Rattle.blocks.proofs.Patterns.{down-same, cliques-few, clique-sorta
 
 -- ---- mapped lists, reversed and joined
 
-reverse-map : {A B : Type 0} (g : A → B) (xs : List A) → reverse (map g xs) ≡ map g (reverse xs)
+pub reverse-map : {A B : Type 0} (g : A → B) (xs : List A) → reverse (map g xs) ≡ map g (reverse xs)
 reverse-map g [] = refl
 reverse-map {A} {B} g (x ∷ xs) =
     reverse-cons (g x) (map g xs) ∙ ap (λ (r : List B). r ++ (g x ∷ [])) (reverse-map g xs)
     ∙ sym (map-append g (reverse xs) (x ∷ [])) ∙ ap (map g) (sym (reverse-cons x xs))
 
-join-map : {A B C : Type 0} (f : B → List C) (g : A → B) (xs : List A) → join f (map g xs) ≡ join (λ x. f (g x)) xs
+pub join-map : {A B C : Type 0} (f : B → List C) (g : A → B) (xs : List A) → join f (map g xs) ≡ join (λ x. f (g x)) xs
 join-map f g [] = refl
 join-map {C = C} f g (x ∷ xs) = ap (λ (r : List C). f (g x) ++ r) (join-map f g xs)
 

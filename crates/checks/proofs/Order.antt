@@ -9,8 +9,7 @@ use lib.Dec.{leb}
 use Rattle.layout.specs.Problem.{Problem, Route, standard}
 use Rattle.layout.specs.Patterns.{readPatterns, endsRight}
 use Rattle.layout.specs.Checks.{conesBounded, patternsRead, check1, check8, check9, check10, checks, firstFailing, refusal, layout}
-use Rattle.layout.proofs.Tests.{and-iff}
-use Rattle.utils.proofs.Tests.{passed, passes, differ}
+use Rattle.layout.proofs.Tests.{and-iff, passed, passes, differ}
 use Rattle.layout.specs.Answers.{joinBounded, orElse, problemRefusal, joinChecks, joinedParts}
 use Rattle.checks.specs.Order.{matricesRefusal, recordsRefusal, patternsRefusal, joinedTests, joinedRefusal}
 

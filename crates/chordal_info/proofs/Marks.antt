@@ -15,7 +15,7 @@ use Rattle.layout.specs.Lists.{has, all, upFrom, below}
 use Rattle.layout.specs.Problem.{zero64}
 use Rattle.layout.specs.Checks.{valuesOn}
 use Rattle.layout.proofs.Members.{has-cons, has-at, has-below}
-use Rattle.utils.proofs.Tests.{passes, differ}
+use Rattle.layout.proofs.Tests.{passes, differ}
 use Rattle.chordal_info.specs.Covered.{Below, marked, rowsMarked, valuesMarked}
 
 pub length-marked : (os : List ℕ) (marks : List Bool) → length (marked os marks) ≡ length marks

@@ -1,44 +1,25 @@
--- The original rows of blocks: a clique's fit the table and the buffer, a pattern's are marked from the last clique to the first.
-use Prim.Native.Nat.{ℕ, suc, _+_, _-_, _≤_, _<_}
+-- The original rows of blocks: a clique's fit the table, a pattern's are marked from the last clique to the first.
+use Prim.Native.Nat.{ℕ, suc, _-_, _≤_, _<_}
 use native.Mathlib.Omega.{arith}
 use mathlib.Core.Path.{_≡_, ap, _∙_}
 use mathlib.Core.Bool.{Bool}
-use mathlib.Core.List.{List, [], _∷_, map, reverse, reverse-append}
-use lib.ListN.{length, getD, take, length-map}
+use mathlib.Core.List.{List, [], _∷_, reverse, reverse-append}
+use lib.ListN.{length, getD, take}
 use lib.Seq.{take-suc, take-all}
 use Rattle.layout.specs.Lists.{join}
-use Rattle.layout.specs.Triangle.{triangle, pairIndex}
-use Rattle.layout.specs.Blocks.{pair, pairs, pairRow}
-use Rattle.layout.proofs.Members.{getD-map, has-at}
-use Rattle.layout.proofs.Triangles.{triangle-mono, triangle-column, pairIndex-le}
-use Rattle.layout.proofs.Pairs.{pair-entry}
-use Rattle.blocks.specs.Cliques.{verticesHere, rowsHere}
-use Rattle.blocks.proofs.Cliques.{vertices-rise, vertices-few, vertices-below, length-rows}
-use Rattle.chordal_info.specs.Covered.{Below, marked}
+use Rattle.layout.proofs.Triangles.{triangle-mono}
+use Rattle.blocks.specs.Cliques.{verticesHere}
+use Rattle.blocks.proofs.Cliques.{vertices-below}
+use Rattle.chordal_info.specs.Covered.{BlockFits, ColumnsFit, marked}
 use Rattle.chordal_info.proofs.Marks.{marked-append}
 
 -- ---- one clique
 
-module _ (base : ℕ) (ws ordering : List ℕ) (at : ℕ) where
-  pub rows-room : length (rowsHere base ws ordering at) ≤ triangle (length ordering)
-  rows-room =
-      omega (
-        arith,
-        length-rows ws ordering at base,
-        triangle-mono (length (verticesHere ws ordering at)) (length ordering) (vertices-few ws ordering at),
-      )
-
-  pub rows-below : (n : ℕ) → base + triangle (length ordering) ≤ n → Below n (rowsHere base ws ordering at)
-  unfolding rowsHere
-  rows-below n h k l =
-      let vs = verticesHere ws ordering at in
-      let lp : k < length (pairs vs) = omega (arith, length-map (pairs vs) (pairRow base)) in
-      let (v, w, hv, hw, le, e, _) = pair-entry vs k (pair 0 0) (vertices-rise ws ordering at) lp in
-      let (i, li, ei) = has-at 0 w vs .0 hw in
-      let low : w < length ordering = omega (arith, vertices-below ws ordering at i li) in
-      let row : getD (map (pairRow base) (pairs vs)) k 0 ≡ base + pairIndex v w =
-      getD-map (pairRow base) (pairs vs) k (pair 0 0) 0 lp ∙ ap (pairRow base) e in
-      omega (arith, row, pairIndex-le v w le, triangle-column v w (length ordering) le low)
+pub columns-fit : (base : ℕ) (ws ordering : List ℕ) (at table : ℕ) → BlockFits base (length ordering) table
+    → ColumnsFit base (verticesHere ws ordering at) table
+columns-fit base ws ordering at table h k l =
+    let mono = triangle-mono (suc (getD (verticesHere ws ordering at) k 0)) (length ordering) (vertices-below ws ordering at k l) in
+    (omega (arith, mono, h .0), omega (arith, mono, h .1))
 
 -- ---- cliques from last to first
 

@@ -1,5 +1,5 @@
 -- Check 9 over a table by original row: a mark for each row that stands on an augmented row.
-use Prim.Native.Nat.{ℕ, _+_, _<_, _≤_}
+use Prim.Native.Nat.{ℕ, suc, _+_, _<_, _≤_}
 use mathlib.Core.Bool.{Bool, true, false, _&&_, _||_}
 use mathlib.Core.Path.{_≡_}
 use mathlib.Core.List.{List, [], _∷_, map}
@@ -25,13 +25,13 @@ marked (o ∷ os) marks = marked os (set marks o true)
 abbrev pub MarksPattern : Pattern → ℕ → List Bool → List Bool → Type 0
 MarksPattern p base old new = (first : ℕ) → new ≡ marked (map originalRow (patternRows p base first)) old
 
--- the rows of a cone of side n from row base on are below 65,536 and the table's length, and a buffer holds as many
-abbrev pub BlockFits : ℕ → ℕ → ℕ → ℕ → Type 0
-BlockFits base n room table = (base + triangle n ≤ 65536) × (base + triangle n ≤ table) × (triangle n ≤ room)
+-- the rows of a cone of side n from row base on are below 65,536 and the table's length
+abbrev pub BlockFits : ℕ → ℕ → ℕ → Type 0
+BlockFits base n table = (base + triangle n ≤ 65536) × (base + triangle n ≤ table)
 
--- a table of m rows, and a buffer for the rows of any PSD cone among them
-abbrev pub TablesFit : ℕ → ℕ → ℕ → Type 0
-TablesFit m room table = (m ≤ table) × ((n : ℕ) → n ≤ 256 → triangle n ≤ m → triangle n ≤ room)
+-- and so are the rows of each column of a block over vertices vs
+abbrev pub ColumnsFit : ℕ → List ℕ → ℕ → Type 0
+ColumnsFit base vs table = (k : ℕ) → k < length vs → BlockFits base (suc (getD vs k 0)) table
 
 -- the rows are marked, and so is each row whose value is unequal to zero
 abbrev pub rowsMarked : List Bool → List ℕ → Bool

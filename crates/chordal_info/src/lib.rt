@@ -1,22 +1,23 @@
 // Checks 8 to 10 of a route, and the sizes of the cut's outputs.
 ghost use mathlib.Core.Path.{_≡_};
-ghost use Prim.Native.Nat.{_+_, _≤_, _<_};
+ghost use Prim.Native.Nat.{suc, _+_, _≤_, _<_};
 ghost use mathlib.Core.Bool.{false, cond};
-ghost use lib.ListN.{length, replicate};
+ghost use lib.ListN.{length, getD, replicate};
 ghost use lib.Dec.{T, ltb};
-ghost use mathlib.Core.List.{reverse};
-ghost use Rattle.layout.specs.Lists.{all, upFrom, join, written};
+ghost use mathlib.Core.List.{map, reverse};
+ghost use Rattle.layout.specs.Lists.{all, rises, upFrom, join, written};
 ghost use Rattle.layout.specs.Cones.{records};
 ghost use Rattle.layout.specs.Patterns.{patterns};
-ghost use Rattle.layout.specs.Blocks.{parts};
+ghost use Rattle.layout.specs.Blocks.{pairs, pairRow, parts};
 ghost use Rattle.layout.specs.Checks.{Sound, RightPattern, coveredRows, firstFailing};
 ghost use Rattle.layout.specs.Answers.{routeOf};
 ghost use Rattle.supernode_tree.specs.Reads.{patternAt};
+ghost use Rattle.blocks.specs.Columns.{columnPairs};
 ghost use Rattle.blocks.specs.Cliques.{Stands as CliqueStands, Standing, rowsHere};
-ghost use Rattle.chordal_info.specs.Covered.{Below, BlockFits, TablesFit, marked, MarksPattern, rowsMarked, valuesMarked, entriesRight};
+ghost use Rattle.chordal_info.specs.Covered.{Below, BlockFits, ColumnsFit, marked, MarksPattern, rowsMarked, valuesMarked, entriesRight};
 ghost use Rattle.chordal_info.specs.Sizes.{rowsFit, outputLengths, routeSizes, Fitting};
 ghost use Rattle.chordal_info.specs.Routes.{Counted, routeChecks, joinRouteChecks, joinCountChecks};
-use blocks::clique_rows;
+use blocks::clique_vertices;
 use parts::Met;
 use parts::Place;
 use parts::get_decomposed_dim_and_overlaps;
@@ -25,18 +26,6 @@ use supernode_tree::PatternRead;
 use supernode_tree::clique_offsets;
 
 // ---- check 9: the rows that stand on an augmented row are marked, in a table by original row
-
-// Marks a clique's rows.
-fn mark_rows(rows: &[u32], covered: &mut [bool])
-    requires { ⌜ Below (length (now covered)) (now rows) ⌝ }
-    ensures { λ _. ⌜ now (covered .exit) ≡ marked (now (rows .entry)) (now (covered .entry)) ⌝ }
-{
-    let mut i = 0;
-    while i < rows.len() {
-        covered[rows[i] as usize] = true;
-        i += 1;
-    }
-}
 
 // Marks the rows of a cone that no pattern cuts.
 fn mark_range(first: u32, count: u32, covered: &mut [bool])
@@ -50,21 +39,48 @@ fn mark_range(first: u32, count: u32, covered: &mut [bool])
     }
 }
 
-// Marks the rows of the block of the clique at an offset; they are written to rows first.
+// Marks the rows of a block's column j.
+fn mark_column(vertices: &[u32], j: usize, base: u32, covered: &mut [bool])
+    requires { ⌜ (j < length (now vertices)) × T (rises (now vertices)) ⌝ }
+    requires { ⌜ BlockFits base (suc (getD (now vertices) j 0)) (length (now covered)) ⌝ }
+    ensures { λ _. ⌜ now (covered .exit) ≡ marked (map (pairRow base) (columnPairs (now (vertices .entry)) j)) (now (covered .entry)) ⌝ }
+{
+    let c = vertices[j];
+    let row = base + c * (c + 1) / 2;
+    let mut i = 0;
+    while i <= j {
+        covered[(row + vertices[i]) as usize] = true;
+        i += 1;
+    }
+}
+
+// Marks the rows of a block, column by column.
+fn mark_block(vertices: &[u32], base: u32, covered: &mut [bool])
+    requires { ⌜ T (rises (now vertices)) × ColumnsFit base (now vertices) (length (now covered)) ⌝ }
+    ensures { λ _. ⌜ now (covered .exit) ≡ marked (map (pairRow base) (pairs (now (vertices .entry)))) (now (covered .entry)) ⌝ }
+{
+    let mut j = 0;
+    while j < vertices.len() {
+        mark_column(vertices, j, base, &mut *covered);
+        j += 1;
+    }
+}
+
+// Marks the rows of the block of the clique at an offset; its vertices are written to a buffer first.
 fn mark_clique(
     words: &[u32],
     ordering: &[u32],
     at: usize,
     base: u32,
-    rows: &mut [u32],
+    vertices: &mut [u32],
     covered: &mut [bool],
 )
     requires { ⌜ CliqueStands (now words) (now ordering) at ⌝ }
-    requires { ⌜ BlockFits base (length (now ordering)) (length (now rows)) (length (now covered)) ⌝ }
+    requires { ⌜ (256 ≤ length (now vertices)) × BlockFits base (length (now ordering)) (length (now covered)) ⌝ }
     ensures { λ _. ⌜ now (covered .exit) ≡ marked (rowsHere base (now (words .entry)) (now (ordering .entry)) at) (now (covered .entry)) ⌝ }
 {
-    let t = clique_rows(words, ordering, at, base, &mut *rows);
-    mark_rows(&rows[..t], covered);
+    let k = clique_vertices(words, ordering, at, &mut *vertices);
+    mark_block(&vertices[..k], base, covered);
 }
 
 // The same of the cliques at some offsets, from last to first.
@@ -73,50 +89,59 @@ fn mark_cliques(
     ordering: &[u32],
     offsets: &[usize],
     base: u32,
-    rows: &mut [u32],
+    vertices: &mut [u32],
     covered: &mut [bool],
 )
     requires { ⌜ Standing (now words) (now ordering) (now offsets) ⌝ }
-    requires { ⌜ BlockFits base (length (now ordering)) (length (now rows)) (length (now covered)) ⌝ }
+    requires { ⌜ (256 ≤ length (now vertices)) × BlockFits base (length (now ordering)) (length (now covered)) ⌝ }
     ensures { λ _. ⌜ now (covered .exit) ≡ marked (join (rowsHere base (now (words .entry)) (now (ordering .entry))) (reverse (now (offsets .entry)))) (now (covered .entry)) ⌝ }
 {
     let mut c = offsets.len();
     while 0 < c {
         c -= 1;
-        mark_clique(words, ordering, offsets[c], base, &mut *rows, &mut *covered);
+        mark_clique(
+            words,
+            ordering,
+            offsets[c],
+            base,
+            &mut *vertices,
+            &mut *covered,
+        );
     }
 }
 
 // Marks the rows of the blocks of the pattern at an offset.
-fn mark_pattern(words: &[u32], at: usize, base: u32, rows: &mut [u32], covered: &mut [bool])
+fn mark_pattern(
+    words: &[u32],
+    at: usize,
+    base: u32,
+    offsets: &mut [usize],
+    vertices: &mut [u32],
+    covered: &mut [bool],
+)
     requires { ⌜ RightPattern (patternAt (now words) at) × (patternAt (now words) at .vertexCount ≤ 256) ⌝ }
-    requires { ⌜ BlockFits base (patternAt (now words) at .vertexCount) (length (now rows)) (length (now covered)) ⌝ }
+    requires { ⌜ (256 ≤ length (now offsets)) × (256 ≤ length (now vertices)) ⌝ }
+    requires { ⌜ BlockFits base (patternAt (now words) at .vertexCount) (length (now covered)) ⌝ }
     ensures { λ _. ⌜ MarksPattern (patternAt (now (words .entry)) at) base (now (covered .entry)) (now (covered .exit)) ⌝ }
 {
     let PatternRead::Pattern(p) = Pattern::read(words, at) else {
         return;
     };
-    let mut offsets = [0usize; 256];
-    clique_offsets(words, p.cliques, p.clique_count, &mut offsets);
+    clique_offsets(words, p.cliques, p.clique_count, &mut *offsets);
     let a = p.ordering;
     let e = p.cliques;
     let k = p.clique_count as usize;
-    mark_cliques(words, &words[a..e], &offsets[..k], base, rows, covered);
+    mark_cliques(words, &words[a..e], &offsets[..k], base, vertices, covered);
 }
 
-// Marks every row that stands on an augmented row.
-fn mark_covered(
-    m: u32,
-    cones: &[u32],
-    count: u32,
-    words: &[u32],
-    rows: &mut [u32],
-    covered: &mut [bool],
-)
+// Marks every row that stands on an augmented row; the buffers are made once for all patterns.
+fn mark_covered(m: u32, cones: &[u32], count: u32, words: &[u32], covered: &mut [bool])
     requires { ⌜ Sound m (now cones) count (now words) ⌝ }
-    requires { ⌜ TablesFit m (length (now rows)) (length (now covered)) ⌝ }
+    requires { ⌜ m ≤ length (now covered) ⌝ }
     ensures { λ _. ⌜ now (covered .exit) ≡ marked (coveredRows (parts (records (now (cones .entry))) (patterns count (now (words .entry))))) (now (covered .entry)) ⌝ }
 {
+    let mut offsets = [0usize; 256];
+    let mut vertices = [0u32; 256];
     let mut place = Place::start(m, cones, count, words);
     loop {
         let met = place.next(m, cones, words);
@@ -126,7 +151,14 @@ fn mark_covered(
                 place = next;
             }
             Met::Cut(at, next) => {
-                mark_pattern(words, at, place.row, &mut *rows, &mut *covered);
+                mark_pattern(
+                    words,
+                    at,
+                    place.row,
+                    &mut offsets,
+                    &mut vertices,
+                    &mut *covered,
+                );
                 place = next;
             }
             Met::Done => {
@@ -170,7 +202,7 @@ fn values_covered(covered: &[bool], b: &[f64]) -> bool
     true
 }
 
-// Check 9 on the compact route, over cleared tables.
+// Check 9 on the compact route, over a cleared table.
 fn entries_right_by(
     m: u32,
     cones: &[u32],
@@ -178,22 +210,21 @@ fn entries_right_by(
     words: &[u32],
     a_rows: &[u32],
     b: &[f64],
-    rows: &mut [u32],
     covered: &mut [bool],
 ) -> bool
     requires { ⌜ Sound m (now cones) count (now words) ⌝ }
     requires { ⌜ T (all (λ r. ltb r m) (now «a_rows»)) × (length (now b) ≡ m) ⌝ }
-    requires { ⌜ TablesFit m (length (now rows)) (length (now covered)) × (now covered ≡ replicate (length (now covered)) false) ⌝ }
+    requires { ⌜ (m ≤ length (now covered)) × (now covered ≡ replicate (length (now covered)) false) ⌝ }
     ensures { λ r. ⌜ r ≡ entriesRight m (now («a_rows» .entry)) (now (b .entry)) (parts (records (now (cones .entry))) (patterns count (now (words .entry)))) ⌝ }
 {
-    mark_covered(m, cones, count, words, rows, &mut *covered);
+    mark_covered(m, cones, count, words, &mut *covered);
     if !entries_covered(covered, a_rows) {
         return false;
     }
     values_covered(covered, b)
 }
 
-// Check 9 on the compact route: a small problem has small tables.
+// Check 9 on the compact route: a small problem has a small table.
 pub fn entries_right(
     m: u32,
     cones: &[u32],
@@ -207,13 +238,11 @@ pub fn entries_right(
     ensures { λ r. ⌜ r ≡ entriesRight m (now («a_rows» .entry)) (now (b .entry)) (parts (records (now (cones .entry))) (patterns count (now (words .entry)))) ⌝ }
 {
     if m <= 4096 {
-        let mut rows = [0u32; 4096];
         let mut covered = [false; 4096];
-        return entries_right_by(m, cones, count, words, a_rows, b, &mut rows, &mut covered);
+        return entries_right_by(m, cones, count, words, a_rows, b, &mut covered);
     }
-    let mut rows = [0u32; 32896];
     let mut covered = [false; 65536];
-    entries_right_by(m, cones, count, words, a_rows, b, &mut rows, &mut covered)
+    entries_right_by(m, cones, count, words, a_rows, b, &mut covered)
 }
 
 // ---- check 10

@@ -6,7 +6,7 @@ use mathlib.Core.List.{List, _++_}
 use lib.Dec.{T}
 use Rattle.layout.specs.Lists.{distinct, keep}
 use Rattle.layout.proofs.Distinct.{distinct-append}
-use Rattle.utils.proofs.Tests.{fails, failed}
+use Rattle.layout.proofs.Tests.{fails, failed}
 use Rattle.layout.proofs.Keeps.{keep-append}
 
 -- a repeat in the front is a repeat

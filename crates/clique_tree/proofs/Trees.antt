@@ -13,7 +13,7 @@ use Rattle.layout.specs.Checks.{parentRight, treeRight}
 use Rattle.supernode_tree.proofs.Many.{many-length}
 use Rattle.supernode_tree.specs.Reads.{whole, valueOr, patternAt}
 use Rattle.clique_tree.specs.Trees.{parentOk}
-use Rattle.utils.proofs.Tests.{and-right}
+use Rattle.layout.proofs.Tests.{and-right}
 
 abbrev pub cliqueOk : ℕ → ℕ → Clique → Bool
 cliqueOk k c q = parentOk k c (q .parent) (length (q .separator))

@@ -275,23 +275,9 @@ fn members_right_by(
     separators_right(words, first, count, n, marks, offsets)
 }
 
-fn members_right(words: &[u32], first: usize, count: u32, n: usize) -> bool
-    requires { ⌜ Whole (now words) first count ⌝ }
-    requires { ⌜ n ≡ length (snodesOf (cliquesFrom (now words) first count)) ⌝ }
-    ensures { λ r. ⌜ r ≡ (isPermutation (snodesOf (cliquesFrom (now (words .entry)) first count)) && separatorsOk (cliquesFrom (now (words .entry)) first count)) ⌝ }
-{
-    if n <= 256 {
-        let mut few = [false; 256];
-        let mut near = [0usize; 256];
-        return members_right_by(words, first, count, n, &mut few, &mut near);
-    }
-    let mut marks = [false; 65536];
-    let mut offsets = [0usize; 4096];
-    members_right_by(words, first, count, n, &mut marks, &mut offsets)
-}
-
-// Check 7 of the pattern at an offset; words that end early are refused.
-pub fn cliques_right(words: &[u32], at: usize) -> bool
+// Check 7 of the pattern at an offset, with lent tables; words that end early are refused.
+fn cliques_right_by(words: &[u32], at: usize, marks: &mut [bool], offsets: &mut [usize]) -> bool
+    requires { ⌜ (0 < length (now marks)) × (256 ≤ length (now offsets)) ⌝ }
     ensures { λ r. ⌜ r ≡ cliquesRight (patternAt (now (words .entry)) at) ⌝ }
 {
     let PatternRead::Pattern(p) = Pattern::read(words, at) else {
@@ -309,18 +295,37 @@ pub fn cliques_right(words: &[u32], at: usize) -> bool
     if n != p.vertex_count {
         return false;
     }
-    members_right(words, first, count, n)
+    members_right_by(words, first, count, n, marks, offsets)
 }
 
-// Check 7.
+// The same; a pattern of at most 256 vertices has smaller tables to clear.
+pub fn cliques_right(words: &[u32], at: usize) -> bool
+    ensures { λ r. ⌜ r ≡ cliquesRight (patternAt (now (words .entry)) at) ⌝ }
+{
+    let PatternRead::Pattern(p) = Pattern::read(words, at) else {
+        return false;
+    };
+    if p.vertex_count <= 256 {
+        let mut few = [false; 256];
+        let mut near = [0usize; 256];
+        return cliques_right_by(words, at, &mut few, &mut near);
+    }
+    let mut marks = [false; 65536];
+    let mut offsets = [0usize; 4096];
+    cliques_right_by(words, at, &mut marks, &mut offsets)
+}
+
+// Check 7, in little stack: check 5 leaves a pattern at most 256 vertices, those of its cone, and they are one window.
 pub fn all_cliques_right(count: u32, words: &[u32]) -> bool
     requires { ⌜ endsRight (readPatterns count (now words)) ≡ true ⌝ }
     ensures { λ r. ⌜ r ≡ all cliquesRight (patterns count (now (words .entry))) ⌝ }
 {
+    let mut marks = [false; 256];
+    let mut offsets = [0usize; 256];
     let mut at = 0;
     let mut left = count;
     while 0 < left {
-        if !cliques_right(words, at) {
+        if !cliques_right_by(words, at, &mut marks, &mut offsets) {
             return false;
         }
         at = supernode_tree::pattern_next(words, at);

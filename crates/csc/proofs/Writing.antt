@@ -12,16 +12,6 @@ use Rattle.layout.proofs.Keeps.{append-nil}
 use Rattle.layout.proofs.Buffers.{set-written}
 
 module _ {A : Type 0} where
-  -- a list copied in order: one more element, and all of them
-  pub copy-more : (src old : List A) (i : ℕ) (d : A) → i < length src → length src ≤ length old
-      → set (written (take i src) old) i (getD src i d) ≡ written (take (i + 1) src) old
-  copy-more src old i d h l =
-      set-written (take i src) old (getD src i d) i (sym (length-take-le i src (omega arith))) (omega arith)
-      ∙ ap (λ (xs : List A). written xs old) (sym (take-suc src i d h) ∙ ap (λ (k : ℕ). take k src) (sym (add-one i)))
-
-  pub copy-done : (src old : List A) (i : ℕ) → length src ≤ i → written (take i src) old ≡ written src old
-  copy-done src old i h = ap (λ (xs : List A). written xs old) (take-all i src h)
-
   -- two more elements
   pub two-more : (xs old : List A) (u v : A) (t : ℕ) → t ≡ length xs → t + 1 < length old
       → set (set (written xs old) t u) (t + 1) v ≡ written (xs ++ (u ∷ v ∷ [])) old

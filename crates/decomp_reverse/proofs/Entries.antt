@@ -13,10 +13,9 @@ use borrow.Author.Tests.{eq-eqb, ne-eqb}
 use Rattle.layout.specs.Lists.{below, sameNumbers}
 use Rattle.layout.specs.Blocks.{Part}
 use Rattle.layout.specs.Compact.{blockOf, entryWords, mapPart, coneMap, mapWords}
-use Rattle.layout.proofs.Tests.{lt-or-le}
+use Rattle.layout.proofs.Tests.{lt-or-le, and-true, and-false, and-right, differ}
 use Rattle.layout.proofs.Joins.{reverse-below}
 use Rattle.layout.proofs.Starts.{join-append}
-use Rattle.utils.proofs.Tests.{and-true, and-false, and-right, differ}
 use Rattle.decomp_reverse.specs.Begins.{begins}
 
 -- ---- a list that begins with another

@@ -10,7 +10,7 @@ use Rattle.layout.specs.Lists.{all, sum}
 use Rattle.layout.specs.Patterns.{Pattern, Clique, blockSize, cliqueCount}
 use Rattle.layout.specs.Blocks.{Part, blockRows}
 use Rattle.layout.specs.Checks.{RightPattern}
-use Rattle.utils.proofs.Tests.{passes}
+use Rattle.layout.proofs.Tests.{passes}
 use Rattle.supernode_tree.specs.Sizes.{overlapRows}
 use Rattle.supernode_tree.proofs.Sizes.{rowsOf, overlapsOf, atMost, triangle-small, blocks-small, all-cons}
 

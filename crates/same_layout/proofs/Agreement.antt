@@ -12,6 +12,7 @@ use borrow.Author.Tests.{eq-eqb, ne-eqb, le-leb, lt-leb}
 use Rattle.layout.specs.Lists.{sameNumbers, written}
 use Rattle.layout.specs.Problem.{Problem}
 use Rattle.layout.specs.Answers.{output, orElse, roomRefusal, problemRefusal, sameLayoutRefusal}
+use Rattle.layout.proofs.Tests.{false-right}
 use Rattle.checks.proofs.Order.{first-given}
 
 -- lists of other lengths
@@ -19,11 +20,7 @@ pub other-length : (xs ys : List ℕ) → (length xs ≡ length ys → ⊥) → 
 other-length [] [] h = absurd (h refl)
 other-length [] (y ∷ ys) h = refl
 other-length (x ∷ xs) [] h = refl
-other-length (x ∷ xs) (y ∷ ys) h = rw (other-length xs ys (λ e. h (ap suc e))) (last-fails (eqb x y))
-  where
-    last-fails : (b : Bool) → (b && false) ≡ false
-    last-fails true = refl
-    last-fails false = refl
+other-length (x ∷ xs) (y ∷ ys) h = rw (other-length xs ys (λ e. h (ap suc e))) (false-right (eqb x y))
 
 -- two numbers that agree, two that do not, and the end
 pub same-step : (xs ys : List ℕ) (i : ℕ) → i < length xs → i < length ys → getD xs i 0 ≡ getD ys i 0

@@ -33,7 +33,8 @@ fn origins_rise(count: u32, words: &[u32]) -> bool
     true
 }
 
-// The pattern at an offset names a PSD cone of its dimension, and its ordering is a permutation.
+// The pattern at an offset names a PSD cone of its dimension, and its ordering is a permutation: a short one, since check 1
+// bounds the dimension by 256.
 fn pattern_right(cones: &[u32], words: &[u32], at: usize) -> bool
     requires { ⌜ whole (readPattern (drop at (now words))) ≡ true ⌝ }
     ensures { λ r. ⌜ r ≡ patternRight (now (cones .entry)) (patternAt (now (words .entry)) at) ⌝ }
@@ -46,7 +47,7 @@ fn pattern_right(cones: &[u32], words: &[u32], at: usize) -> bool
     }
     let a = p.ordering;
     let e = p.cliques;
-    utils::is_permutation(&words[a..e])
+    utils::is_short_permutation(&words[a..e])
 }
 
 fn patterns_right(cones: &[u32], count: u32, words: &[u32]) -> bool

@@ -8,17 +8,14 @@ use mathlib.Core.List.{List, [], _∷_}
 use lib.ListN.{length, drop, getD, drop-of-length-le}
 use lib.Seq.{drop-cons}
 use Rattle.stored.specs.Same.{sameBy}
+use Rattle.layout.proofs.Tests.{false-right}
 
 module _ {A : Type 0} (alike : A → A → Bool) where
-  and-false : (b : Bool) → (b && false) ≡ false
-  and-false true = refl
-  and-false false = refl
-
   pub same-lengths : (xs ys : List A) → (length xs ≡ length ys → ⊥) → sameBy alike xs ys ≡ false
   same-lengths [] [] n = absurd (n refl)
   same-lengths [] (y ∷ ys) n = refl
   same-lengths (x ∷ xs) [] n = refl
-  same-lengths (x ∷ xs) (y ∷ ys) n = rw (same-lengths xs ys (λ e. n (ap suc e))) (and-false (alike x y))
+  same-lengths (x ∷ xs) (y ∷ ys) n = rw (same-lengths xs ys (λ e. n (ap suc e))) (false-right (alike x y))
 
   module _ (xs ys : List A) (z : A) (k : ℕ) (inx : k < length xs) (iny : k < length ys) where
     pub same-step : alike (getD xs k z) (getD ys k z) ≡ true → sameBy alike (drop k xs) (drop k ys) ≡ sameBy alike (drop (k + 1) xs) (drop (k + 1) ys)

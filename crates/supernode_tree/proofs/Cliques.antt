@@ -15,7 +15,7 @@ use Rattle.supernode_tree.specs.declared.CliqueRead.{CliqueRead}
 use Rattle.supernode_tree.specs.declared.CliqueRead.the-variants.{Clique as Found, Short}
 use Rattle.supernode_tree.proofs.Words.{clique-found, part-part, length-part}
 use Rattle.supernode_tree.proofs.Many.{many-short, many-whole, many-rest, many-value}
-use Rattle.utils.proofs.Tests.{differ, and-cases}
+use Rattle.layout.proofs.Tests.{differ, and-cases}
 
 module _ (ws : List ℕ) (at k : ℕ) (r : CliqueRead) (e : cliqueRead ws r ≡ readClique (drop at ws)) (more : 0 < k) where
   pub none-here : r ≡ Short → whole (readCliques k (drop at ws)) ≡ false

@@ -8,7 +8,7 @@ use lib.ListN.{length, drop}
 use lib.Seq.{drop-at}
 use Rattle.layout.specs.Patterns.{Read, read, short, andThen, readMany, endsRight, wholly}
 use Rattle.supernode_tree.specs.Reads.{whole, valueOr, rest}
-use Rattle.utils.proofs.Tests.{differ}
+use Rattle.layout.proofs.Tests.{differ}
 
 module _ {A : Type 0} where
   -- what is read whole

@@ -7,7 +7,7 @@ use mathlib.Core.List.{List, [], _∷_}
 use lib.ListN.{drop}
 use Rattle.layout.specs.Lists.{all}
 use Rattle.layout.specs.Patterns.{Pattern, read, noPattern, readPattern, readPatterns, endsRight, patterns}
-use Rattle.utils.proofs.Tests.{and-cases}
+use Rattle.layout.proofs.Tests.{and-cases}
 use Rattle.supernode_tree.specs.Reads.{whole, rest, valueOr, patternAt}
 use Rattle.supernode_tree.proofs.Many.{whole-read, ends-whole, ends-value, first-whole, many-whole, many-value}
 

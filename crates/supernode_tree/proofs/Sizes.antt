@@ -9,13 +9,12 @@ use lib.Dec.{T, leb, le→leb}
 use Rattle.layout.specs.Lists.{all, sum, below}
 use Rattle.layout.specs.Triangle.{triangle}
 use Rattle.layout.specs.Patterns.{Clique, Pattern, noClique, blockSize, members, cliqueAt, cliqueCount}
-use Rattle.layout.proofs.Tests.{and-iff}
+use Rattle.layout.proofs.Tests.{and-iff, passed, passes}
 use Rattle.layout.proofs.Triangles.{triangle-mono}
 use Rattle.layout.proofs.Members.{all-at, has-below, length-below}
 use Rattle.layout.proofs.Distinct.{distinct-length}
 use Rattle.layout.specs.Checks.{RightPattern}
 use Rattle.layout.proofs.Cliques.{clique-distinct, clique-vertices}
-use Rattle.utils.proofs.Tests.{passed, passes}
 
 -- a block's rows, and the overlaps among them
 abbrev pub rowsOf : Clique → ℕ

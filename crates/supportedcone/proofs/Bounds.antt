@@ -7,12 +7,9 @@ use lib.Dec.{T, leb, leb→le}
 use Rattle.layout.specs.Cones.{Cone, rowCount, isPsd}
 use Rattle.layout.specs.Triangle.{triangle}
 use Rattle.layout.specs.Checks.{sizesBounded}
-use Rattle.layout.proofs.Tests.{and-iff}
+use Rattle.layout.proofs.Tests.{and-iff, passes}
 use Rattle.layout.proofs.Triangles.{triangle-mono}
 use Rattle.supportedcone.specs.Cases.{coneRecord}
-
-passes : (b : Bool) → b ≡ true → T b
-passes b e = subst T (sym e) tt
 
 module _ (c : Cone) (h : sizesBounded c ≡ true) where
   sizes : T (leb (c .first) 65536 && leb (c .second) 65536)

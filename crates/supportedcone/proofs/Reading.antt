@@ -10,16 +10,12 @@ use lib.Ieee.{Float}
 use borrow.Author.Tests.{ne-eqb, le-leb, lt-leb}
 use Rattle.layout.specs.Cones.{Cone, Kind, zeroCone, nonnegative, secondOrder, exponential, power, genPower, psdTriangle, noKind, kindOf, reads, alphaCount}
 use Rattle.layout.specs.Problem.{zero64}
-use Rattle.layout.proofs.Tests.{lt-or-le}
+use Rattle.layout.proofs.Tests.{lt-or-le, and-right}
 use Rattle.supportedcone.specs.declared.SupportedCone.{SupportedCone}
 use Rattle.supportedcone.specs.declared.SupportedCone.the-variants.{ZeroConeT, NonnegativeConeT, SecondOrderConeT, ExponentialConeT, PowerConeT, GenPowerConeT, PSDTriangleConeT}
 use Rattle.supportedcone.specs.declared.ReadCone.{ReadCone}
 use Rattle.supportedcone.specs.declared.ReadCone.the-variants.{Is, Bad}
 use Rattle.supportedcone.specs.Cases.{coneRecord, recordOf, exponentOf, Answer, cone, refused, told, readsAs, readsWith}
-
-and-right : (a b : Bool) → b ≡ false → (a && b) ≡ false
-and-right true b e = e
-and-right false b e = refl
 
 -- ---- records that read as no kind
 

@@ -24,10 +24,6 @@ module _ {A : Type 0} (f : A → ℕ) where
   total-le xs i =
       omega (arith, sym (ap (λ (l : List A). sum (map f l)) (take-append-drop i xs)) ∙ ap sum (map-append f (take i xs) (drop i xs)) ∙ sum-append (map f (take i xs)) (map f (drop i xs)))
 
--- what is left of a list from a place on, as a slice has it
-pub length-left : {A : Type 0} (xs : List A) (a : ℕ) → length (take (length xs - a) (drop a xs)) ≡ length xs - a
-length-left xs a = rw (take-all (length xs - a) (drop a xs) (rw length-drop (le-refl (length xs - a)))) (length-drop a xs)
-
 pub set-three : {A : Type 0} (old : List A) (a b c : A) → 3 ≤ length old → set (set (set old 0 a) 1 b) 2 c ≡ written (a ∷ b ∷ c ∷ []) old
 set-three [] a b c h = absurd (omega arith)
 set-three (x ∷ []) a b c h = absurd (omega arith)

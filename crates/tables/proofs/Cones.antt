@@ -11,7 +11,8 @@ use Rattle.layout.specs.Compact.{psdWords, blockOf, entryWords, compactPart, ma
 use Rattle.layout.specs.Standard.{standardPart}
 use Rattle.layout.proofs.Members.{length-below}
 use Rattle.layout.proofs.Joins.{map-drop}
-use Rattle.tables.proofs.Laws.{reverse-map, join-map, threes, entryOf}
+use Rattle.blocks.proofs.Offsets.{reverse-map, join-map}
+use Rattle.tables.proofs.Laws.{threes, entryOf}
 
 module _ (p : Pattern) where
   abbrev sizeAt : ℕ → ℕ

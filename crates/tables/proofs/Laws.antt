@@ -31,19 +31,9 @@ count-more old first i h =
     set-written (upFrom first i) old (first + i) i (sym (length-upFrom first i)) h
     ∙ ap (λ (l : List ℕ). written l old) (sym (ap (upFrom first) (add-one i) ∙ upFrom-last first i))
 
--- ---- mapped lists, reversed and joined
+-- ---- joined lists
 
 module _ {A B : Type 0} where
-  pub reverse-map : (g : A → B) (xs : List A) → reverse (map g xs) ≡ map g (reverse xs)
-  reverse-map g [] = refl
-  reverse-map g (x ∷ xs) =
-      reverse-cons (g x) (map g xs) ∙ ap (λ (r : List B). r ++ (g x ∷ [])) (reverse-map g xs)
-      ∙ sym (map-append g (reverse xs) (x ∷ [])) ∙ ap (map g) (sym (reverse-cons x xs))
-
-  pub join-map : {C : Type 0} (f : B → List C) (g : A → B) (xs : List A) → join f (map g xs) ≡ join (λ x. f (g x)) xs
-  join-map f g [] = refl
-  join-map {C} f g (x ∷ xs) = ap (λ (r : List C). f (g x) ++ r) (join-map f g xs)
-
   -- lists of three
   pub threes : (f : A → List B) → ((x : A) → length (f x) ≡ 3) → (xs : List A) → length (join f xs) ≡ length xs * 3
   threes f h [] = refl

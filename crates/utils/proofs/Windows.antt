@@ -12,13 +12,12 @@ use lib.Seq.{take-suc, drop-cons, getD-set-same, getD-set-other, split-at}
 use lib.Dec.{T, eqb, ltb, ltb→lt, lt→ltb}
 use borrow.Author.Tests.{le-leb, lt-leb, lt-ltb, le-ltb, eq-eqb, ne-eqb, eqb-true, eqb-false}
 use Rattle.layout.specs.Lists.{has, all, keep, distinct}
-use Rattle.layout.proofs.Tests.{and-iff, tested, lt-or-le}
+use Rattle.layout.proofs.Tests.{and-iff, tested, lt-or-le, passed, failed, passes, fails}
 use Rattle.layout.proofs.Members.{has-keep, has-cons, all-has}
 use Rattle.layout.proofs.Rising.{keep-none}
 use Rattle.layout.proofs.Distinct.{distinct-cons, distinct-append, distinct-keep}
 use Rattle.layout.proofs.Keeps.{append-nil, keep-append}
 use Rattle.utils.specs.Windows.{within, Marked}
-use Rattle.utils.proofs.Tests.{passed, failed, passes, fails}
 
 pub keep-all : (p : ℕ → Bool) (xs : List ℕ) → T (all p xs) → keep p xs ≡ xs
 keep-all p [] h = refl

@@ -87,14 +87,22 @@ fn permutation_by(words: &[u32], marks: &mut [bool]) -> bool
     }
 }
 
-// Each number below the length stands in the words once. Linear up to 262,144 numbers, and longer words go in windows of
-// that size; shorter ones have smaller tables to clear.
+// Each number below the length stands in the words once, in little stack: at most 256 numbers are one window, and longer
+// words go in windows of that size.
+pub fn is_short_permutation(words: &[u32]) -> bool
+    ensures { λ r. ⌜ r ≡ isPermutation (now (words .entry)) ⌝ }
+{
+    let mut marks = [false; 256];
+    permutation_by(words, &mut marks)
+}
+
+// The same, linear up to 262,144 numbers, with windows of that size for longer words; shorter ones have smaller tables to
+// clear.
 pub fn is_permutation(words: &[u32]) -> bool
     ensures { λ r. ⌜ r ≡ isPermutation (now (words .entry)) ⌝ }
 {
     if words.len() <= 256 {
-        let mut few = [false; 256];
-        return permutation_by(words, &mut few);
+        return is_short_permutation(words);
     }
     if words.len() <= 8192 {
         let mut some = [false; 8192];

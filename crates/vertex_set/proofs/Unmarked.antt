@@ -10,12 +10,11 @@ use lib.Seq.{getD-set-same, getD-set-other}
 use lib.Dec.{T, eqb, ltb, lt→ltb, ltb→lt}
 use borrow.Author.Tests.{eq-eqb, ne-eqb, eqb-true, eqb-false}
 use Rattle.layout.specs.Lists.{has, all, keep, distinct}
-use Rattle.layout.proofs.Tests.{and-iff, lt-or-le}
+use Rattle.layout.proofs.Tests.{or-false, and-iff, lt-or-le, passed, failed, passes, fails, differ, and-false, and-right}
 use Rattle.layout.proofs.Members.{has-cons, has-append, has-keep, all-has}
 use Rattle.layout.proofs.Distinct.{distinct-keep}
 use Rattle.layout.proofs.Keeps.{append-nil, keep-append}
 use Rattle.utils.specs.Windows.{within, Marked}
-use Rattle.utils.proofs.Tests.{passed, failed, passes, fails, differ, and-false, and-right}
 use Rattle.utils.proofs.Windows.{has-more, new-more, old-more, within-in, window-none, window-more, keep-all}
 use Rattle.vertex_set.specs.OnceIn.{onceIn}
 use Rattle.vertex_set.proofs.Walks.{all-append}
@@ -27,11 +26,7 @@ abbrev pub Left : ℕ → List Bool → List ℕ → List ℕ → Type 0
 Left low marks ms met = (v : ℕ) → v < length marks → getD marks v false ≡ (has (low + v) ms && not (has (low + v) met))
 
 has-other : (y : ℕ) (l : List ℕ) (x : ℕ) → (y ≡ x → ⊥) → has y (l ++ (x ∷ [])) ≡ has y l
-has-other y l x n = has-more y l x ∙ rw (ne-eqb y x n) (pick (has y l))
-  where
-    pick : (b : Bool) → (b || false) ≡ b
-    pick true = refl
-    pick false = refl
+has-other y l x n = has-more y l x ∙ rw (ne-eqb y x n) (or-false (has y l))
 
 has-last : (l : List ℕ) (x : ℕ) → has x (l ++ (x ∷ [])) ≡ true
 has-last l x = has-more x l x ∙ rw (eq-eqb x x refl) (pick (has x l))

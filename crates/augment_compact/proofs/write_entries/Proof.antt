@@ -10,8 +10,9 @@ use Rattle.layout.specs.Problem.{Csc}
 use Rattle.layout.specs.Compact.{Entry, csc}
 use Rattle.layout.proofs.Columns.{RightStarts, starts-right}
 use Rattle.layout.proofs.Starts.{length-written}
+use Rattle.layout.proofs.Buffers.{length-tail}
 use Rattle.csc.specs.Matrix.{matrix}
-use Rattle.columns.proofs.Parts.{length-tail, written-tail}
+use Rattle.columns.proofs.Parts.{written-tail}
 use Rattle.augment_compact.proofs.Columns.{columns-start}
 use Rattle.augment_compact.proofs.Steps.{length-tiedValues}
 use Rattle.augment_compact.specs.Cut.{codedColumns, tiedRows, tiedValues}

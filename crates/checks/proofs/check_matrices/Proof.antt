@@ -3,7 +3,7 @@ use mathlib.Core.Bool.{true}
 use borrow.Author.Tests.{not-true, not-false}
 use Rattle.layout.specs.Checks.{startsRight, rowsRight}
 use Rattle.csc.specs.Matrix.{matrix}
-use Rattle.utils.proofs.Tests.{passes}
+use Rattle.layout.proofs.Tests.{passes}
 use borrow.Author.Needs.{needs}
 use Rattle.checks.proofs.check_matrices.Statement.{statement}
 use Rattle.checks.proofs.check_matrices.Tie as tie

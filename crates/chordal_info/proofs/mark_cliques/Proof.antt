@@ -15,13 +15,13 @@ use Rattle.chordal_info.proofs.mark_cliques.Lts as lts
 use Rattle.chordal_info.proofs.mark_clique.Reads as mark-clique-reads
 
 abbrev Inv-loop : tie.InvT-loop
-Inv-loop words ordering offsets base rows₀ covered₀ c₀ rows covered c =
+Inv-loop words ordering offsets base vertices₀ covered₀ c₀ vertices covered c =
     let f = rowsHere base words ordering in
-    (c ≤ length offsets) × (length rows ≡ length rows₀) × (length covered ≡ length covered₀)
+    (c ≤ length offsets) × (length vertices ≡ length vertices₀) × (length covered ≡ length covered₀)
     × (marked (join f (reverse (take c offsets))) covered ≡ marked (join f (reverse offsets)) covered₀)
 
 abbrev μ-loop : tie.MeasureT-loop
-μ-loop words ordering offsets base rows₀ covered₀ c₀ rows covered c = c
+μ-loop words ordering offsets base vertices₀ covered₀ c₀ vertices covered c = c
 
 loop-holds : tie.Need-loop-holds Inv-loop μ-loop
 loop-holds c =

@@ -24,51 +24,52 @@ use Rattle.parts.proofs.Place.next.Reads as next-reads
 use Rattle.parts.proofs.Place.start.Reads as start-reads
 
 abbrev Inv-loop : tie.InvT-loop
-Inv-loop m cones count words rows₀ covered₀ place₀ rows covered place =
-    Stands m cones words place × (length rows ≡ length rows₀) × (length covered ≡ length covered₀)
+Inv-loop m cones count words covered₀ offsets₀ vertices₀ place₀ covered offsets vertices place =
+    Stands m cones words place × (length covered ≡ length covered₀)
     × (marked (join partRows (ahead cones words place)) covered ≡ marked (coveredRows (parts (records cones) (patterns count words))) covered₀)
+    × (length offsets ≡ 256) × (length vertices ≡ 256)
 
 abbrev μ-loop : tie.MeasureT-loop
-μ-loop m cones count words rows₀ covered₀ place₀ rows covered place = length (ahead cones words place)
+μ-loop m cones count words covered₀ offsets₀ vertices₀ place₀ covered offsets vertices place = length (ahead cones words place)
 
 -- a whole cone was met
 whole-meets : (k : tie.After-met Inv-loop μ-loop)
     → let l = k .before .before .before in
-    let a = l .before .before .before .before .before .before .args in
+    let a = l .before .before .before .before .before .args in
     ahead (a .cones .now) (a .words .now) (l .loop .place)
     ≡ meets (a .cones .now) (a .words .now) (l .loop .place) (Whole (k .met .given .0 .0) (k .met .given .0 .1 .0))
 whole-meets k =
     let l = k .before .before .before in
-    let a = l .before .before .before .before .before .before .args in
+    let a = l .before .before .before .before .before .args in
     k .before .before .next .ensures .0 ∙ ap (meets (a .cones .now) (a .words .now) (l .loop .place)) (k .met .given .1)
 
 whole-knows : (k : tie.After-met Inv-loop μ-loop)
     → let l = k .before .before .before in
-    let a = l .before .before .before .before .before .before .args in
+    let a = l .before .before .before .before .before .args in
     Knows (a .m) (a .cones .now) (a .words .now) (l .loop .place) (Whole (k .met .given .0 .0) (k .met .given .0 .1 .0))
 whole-knows k =
     let l = k .before .before .before in
-    let a = l .before .before .before .before .before .before .args in
+    let a = l .before .before .before .before .before .args in
     subst (Knows (a .m) (a .cones .now) (a .words .now) (l .loop .place)) (k .met .given .1) (k .before .before .next .ensures .1)
 
 -- a cone that a pattern cuts was met
 cut-meets : (k : tie.After-met2 Inv-loop μ-loop)
     → let l = k .before .before .before in
-    let a = l .before .before .before .before .before .before .args in
+    let a = l .before .before .before .before .before .args in
     ahead (a .cones .now) (a .words .now) (l .loop .place)
     ≡ meets (a .cones .now) (a .words .now) (l .loop .place) (Cut (k .met2 .given .0 .0) (k .met2 .given .0 .1 .0))
 cut-meets k =
     let l = k .before .before .before in
-    let a = l .before .before .before .before .before .before .args in
+    let a = l .before .before .before .before .before .args in
     k .before .before .next .ensures .0 ∙ ap (meets (a .cones .now) (a .words .now) (l .loop .place)) (k .met2 .given .1)
 
 cut-knows : (k : tie.After-met2 Inv-loop μ-loop)
     → let l = k .before .before .before in
-    let a = l .before .before .before .before .before .before .args in
+    let a = l .before .before .before .before .before .args in
     Knows (a .m) (a .cones .now) (a .words .now) (l .loop .place) (Cut (k .met2 .given .0 .0) (k .met2 .given .0 .1 .0))
 cut-knows k =
     let l = k .before .before .before in
-    let a = l .before .before .before .before .before .before .args in
+    let a = l .before .before .before .before .before .args in
     subst (Knows (a .m) (a .cones .now) (a .words .now) (l .loop .place)) (k .met2 .given .1) (k .before .before .next .ensures .1)
 
 start-requires : tie.Need-start-requires Inv-loop μ-loop
@@ -76,13 +77,14 @@ start-requires c κs = search needs
 
 loop-holds : tie.Need-loop-holds Inv-loop μ-loop
 loop-holds c =
-    let s = c .before .before .before .before .before in
+    let s = c .before .before .before .before in
     let a = s .args in (
       c .start .ensures .1,
       refl,
-      refl,
       ap (λ (ps : List Part). marked (join partRows ps) (a .covered .now)) (c .start .ensures .0)
           ∙ ap (λ (os : List ℕ). marked os (a .covered .now)) (sym (covered-parts (s .pre .0))),
+      refl,
+      refl,
     )
 
 next-requires : tie.Need-next-requires Inv-loop μ-loop
@@ -95,8 +97,8 @@ mark-range-requires : tie.Need-mark-range-requires Inv-loop μ-loop
 mark-range-requires c κs =
     let k = c .before .before in
     let l = k .before .before .before in
-    let s = l .before .before .before .before .before .before in
-    omega (arith, whole-knows k .1, l .loop .inv .0 .few, l .loop .inv .2, s .pre .1 .0)
+    let s = l .before .before .before .before .before in
+    omega (arith, whole-knows k .1, l .loop .inv .0 .few, l .loop .inv .1, s .pre .1)
 
 loop-less : tie.Need-loop-less Inv-loop μ-loop
 loop-less c = omega (arith, ap length (whole-meets (c .before .before .before .before .before)))
@@ -106,51 +108,58 @@ loop-again c =
     let r = c .before .before in
     let k = r .before .before .before in
     let l = k .before .before .before in
-    let cones = l .before .before .before .before .before .before .args .cones .now in
-    let words = l .before .before .before .before .before .before .args .words .now in
+    let cones = l .before .before .before .before .before .args .cones .now in
+    let words = l .before .before .before .before .before .args .words .now in
     let at = l .loop .place in (
       whole-knows k .5,
-      l .loop .inv .1,
-      r .mark-range .kept .1 .1 .0 ∙ l .loop .inv .2,
+      r .mark-range .kept .1 .1 .0 ∙ l .loop .inv .1,
       ap (marked (join partRows (ahead cones words (k .met .given .0 .1 .0)))) (r .mark-range .ensures)
           ∙ part-step (whole (at .cone) (getD (records cones) (at .cone) noCone) (at .row)) (ahead cones words at)
           (ahead cones words (k .met .given .0 .1 .0)) (upFrom (at .row) (k .met .given .0 .0)) (l .loop .covered) (whole-meets k)
           (ap (upFrom (at .row)) (whole-knows k .0))
-          ∙ l .loop .inv .3,
+          ∙ l .loop .inv .2,
+      l .loop .inv .3,
+      l .loop .inv .4,
     )
 
 enum-known-met-2 : tie.Need-enum-known-met-2 Inv-loop μ-loop
 enum-known-met-2 c = search needs
 
+slice-aggregate-mark-pattern : tie.Need-slice-aggregate-mark-pattern Inv-loop μ-loop
+slice-aggregate-mark-pattern c = search needs
+
+slice-aggregate-mark-pattern-2 : tie.Need-slice-aggregate-mark-pattern-2 Inv-loop μ-loop
+slice-aggregate-mark-pattern-2 c = search needs
+
 mark-pattern-requires : tie.Need-mark-pattern-requires Inv-loop μ-loop
 mark-pattern-requires c κs =
-    let k = c .before .before .before in
+    let k = c .before .before .before .before in
     let l = k .before .before .before in
-    let s = l .before .before .before .before .before .before in
-    let p = patternAt (s .args .words .now) (k .met2 .given .0 .0) in (
+    let s = l .before .before .before .before .before in (
       (cut-knows k .1, cut-knows k .2),
-      omega (arith, cut-knows k .3, l .loop .inv .0 .few, l .loop .inv .1, l .loop .inv .2, s .pre .1 .0, s .pre .1 .1 (p .vertexCount) (cut-knows k .2) (omega (arith, cut-knows k .3))),
+      (omega (arith, l .loop .inv .3, l .loop .inv .4), omega (arith, cut-knows k .3, l .loop .inv .0 .few, l .loop .inv .1, s .pre .1)),
     )
 
 loop-less-2 : tie.Need-loop-less-2 Inv-loop μ-loop
-loop-less-2 c = omega (arith, ap length (cut-meets (c .before .before .before .before .before .before .before .before)))
+loop-less-2 c = omega (arith, ap length (cut-meets (c .before .before .before .before .before .before .before .before .before)))
 
 loop-again-2 : tie.Need-loop-again-2 Inv-loop μ-loop
 loop-again-2 c =
     let r = c .before .before .before .before in
-    let k = r .before .before .before .before in
+    let k = r .before .before .before .before .before in
     let l = k .before .before .before in
-    let cones = l .before .before .before .before .before .before .args .cones .now in
-    let words = l .before .before .before .before .before .before .args .words .now in
+    let cones = l .before .before .before .before .before .args .cones .now in
+    let words = l .before .before .before .before .before .args .words .now in
     let at = l .loop .place in
     let p = patternAt words (k .met2 .given .0 .0) in (
       cut-knows k .6,
-      r .mark-pattern .kept .1 .1 .1 .0 ∙ l .loop .inv .1,
-      r .mark-pattern .kept .1 .1 .1 .1 .0 ∙ l .loop .inv .2,
+      r .mark-pattern .kept .1 .1 .1 .1 .1 .0 ∙ l .loop .inv .1,
       ap (marked (join partRows (ahead cones words (k .met2 .given .0 .1 .0)))) (r .mark-pattern .ensures 0)
           ∙ part-step (cut (at .cone) (at .row) (at .pattern) p) (ahead cones words at)
           (ahead cones words (k .met2 .given .0 .1 .0)) (map originalRow (patternRows p (at .row) 0)) (l .loop .covered) (cut-meets k) refl
-          ∙ l .loop .inv .3,
+          ∙ l .loop .inv .2,
+      r .mark-pattern .kept .1 .1 .1 .0 ∙ l .loop .inv .3,
+      r .mark-pattern .kept .1 .1 .1 .1 .0 ∙ l .loop .inv .4,
     )
 
 enum-told : tie.Need-enum-told Inv-loop μ-loop
@@ -159,16 +168,13 @@ enum-told c = search needs
 same-length : tie.Need-same-length Inv-loop μ-loop
 same-length c = c .before .before .before .loop .inv .1
 
-same-length-2 : tie.Need-same-length-2 Inv-loop μ-loop
-same-length-2 c = c .before .before .before .loop .inv .2
-
 returns : tie.Need-returns Inv-loop μ-loop
 returns c =
     let n = c .before .before in
     let l = n .before in
-    let a = l .before .before .before .before .before .before .args in
+    let a = l .before .before .before .before .before .args in
     parts-done (ahead (a .cones .now) (a .words .now) (l .loop .place)) (l .loop .covered)
-    (n .next .ensures .0 ∙ ap (meets (a .cones .now) (a .words .now) (l .loop .place)) (c .enum-told .given .1)) ∙ l .loop .inv .3
+    (n .next .ensures .0 ∙ ap (meets (a .cones .now) (a .words .now) (l .loop .place)) (c .enum-told .given .1)) ∙ l .loop .inv .2
 
 pub mark-covered-spec : {M : Type 1} → statement M
 mark-covered-spec =
@@ -184,10 +190,11 @@ mark-covered-spec =
     loop-less
     loop-again
     enum-known-met-2
+    slice-aggregate-mark-pattern
+    slice-aggregate-mark-pattern-2
     mark-pattern-requires
     loop-less-2
     loop-again-2
     enum-told
     same-length
-    same-length-2
     returns)

@@ -1,6 +1,6 @@
 use mathlib.Core.Path.{sym, _∙_}
 use borrow.Author.Tests.{not-true, not-false}
-use Rattle.utils.proofs.Tests.{and-true, and-false}
+use Rattle.layout.proofs.Tests.{and-true, and-false}
 use borrow.Author.Needs.{needs}
 use Rattle.clique_tree.proofs.members_right_by.Statement.{statement}
 use Rattle.clique_tree.proofs.members_right_by.Tie as tie

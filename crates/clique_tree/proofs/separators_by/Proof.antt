@@ -6,7 +6,7 @@ use lib.ListN.{length, getD, take, drop}
 use borrow.Author.Tests.{not-true, not-false}
 use Rattle.layout.specs.Lists.{all}
 use Rattle.layout.specs.Patterns.{Clique, noClique, members}
-use Rattle.utils.proofs.Tests.{differ}
+use Rattle.layout.proofs.Tests.{differ}
 use Rattle.supernode_tree.specs.Reads.{Whole, cliquesFrom, cliqueOf}
 use Rattle.supernode_tree.proofs.Cliques.{none-here, whole-next, from-none, separator-part, clique-stops, clique-goes}
 use Rattle.vertex_set.specs.OnceIn.{onceIn}

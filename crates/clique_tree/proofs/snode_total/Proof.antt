@@ -2,7 +2,7 @@ use Rattle.clique_tree.specs.Trees.{snodesOf}
 use mathlib.Core.List.{List}
 use lib.ListN.{length-append, length}
 use Rattle.supernode_tree.proofs.Cliques.{none-here, whole-next, from-next, from-none}
-use Rattle.utils.proofs.Tests.{differ}
+use Rattle.layout.proofs.Tests.{differ}
 use Rattle.supernode_tree.proofs.Words.{length-part}
 use Rattle.supernode_tree.specs.Reads.{Whole, cliquesFrom, cliqueOf}
 use Rattle.layout.specs.Patterns.{Clique}

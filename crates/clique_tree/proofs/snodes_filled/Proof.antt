@@ -1,4 +1,4 @@
-use Rattle.utils.proofs.Tests.{and-cases, differ}
+use Rattle.layout.proofs.Tests.{and-cases, differ}
 use Rattle.supernode_tree.proofs.Cliques.{none-here, whole-next, from-next, from-none}
 use Rattle.supernode_tree.proofs.Words.{length-part}
 use Rattle.supernode_tree.specs.Reads.{Whole, cliquesFrom, cliqueOf}

@@ -1,6 +1,6 @@
 use Rattle.clique_tree.specs.Trees.{snodesOf}
 use Rattle.layout.proofs.Keeps.{append-nil}
-use Rattle.utils.proofs.Tests.{passes, differ, passed}
+use Rattle.layout.proofs.Tests.{passes, differ, passed}
 use Rattle.supernode_tree.proofs.Cliques.{none-here, whole-next, from-next, from-none, snode-part}
 use Rattle.clique_tree.proofs.Snodes.{repeats-front}
 use Rattle.utils.proofs.Windows.{marked-none}

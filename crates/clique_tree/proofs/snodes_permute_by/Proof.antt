@@ -1,6 +1,6 @@
 use Rattle.clique_tree.specs.Trees.{snodesOf}
 use Rattle.utils.proofs.Windows.{window-none, window-more, repeats-within, windows-all}
-use Rattle.utils.proofs.Tests.{passes, and-true, and-false, and-right}
+use Rattle.layout.proofs.Tests.{passes, and-true, and-false, and-right}
 use Rattle.supernode_tree.specs.Reads.{cliquesFrom}
 use Rattle.layout.specs.Lists.{all, keep, distinct}
 use lib.ListN.{length}

@@ -1,6 +1,6 @@
 use Rattle.clique_tree.proofs.Trees.{treeRead, tree-short, tree-start, tree-none, tree-step}
 use Rattle.supernode_tree.proofs.Words.{head-found, clique-found, length-part}
-use Rattle.utils.proofs.Tests.{and-cases}
+use Rattle.layout.proofs.Tests.{and-cases}
 use Rattle.clique_tree.specs.Trees.{parentOk}
 use Rattle.supernode_tree.specs.Reads.{patternAt, patternRead, cliqueRead, headOf, cliqueOf}
 use Rattle.layout.specs.Patterns.{readCliques}

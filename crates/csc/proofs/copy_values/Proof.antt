@@ -5,7 +5,7 @@ use borrow.Author.Needs.{needs}
 use lib.ListN.{length, take, length-set}
 use lib.Ieee.{nan}
 use Rattle.layout.specs.Lists.{written}
-use Rattle.csc.proofs.Writing.{copy-more, copy-done}
+use Rattle.layout.proofs.Buffers.{copy-more, copy-done}
 use Rattle.csc.proofs.copy_values.Statement.{statement}
 use Rattle.csc.proofs.copy_values.Tie as tie
 

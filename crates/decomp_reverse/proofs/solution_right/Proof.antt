@@ -5,7 +5,7 @@ use borrow.Author.Tests.{not-true, not-false}
 use Rattle.layout.specs.Problem.{Route, solution, one64}
 use Rattle.layout.specs.Blocks.{Part}
 use Rattle.layout.specs.Answers.{routeOf, joinedParts, solutionFits, mapRight}
-use Rattle.utils.proofs.Tests.{and-cases}
+use Rattle.layout.proofs.Tests.{and-cases}
 use Rattle.chordal_info.proofs.Sizes.{route-standard, route-compact}
 use borrow.Author.Needs.{needs}
 use Rattle.decomp_reverse.proofs.solution_right.Statement.{statement}

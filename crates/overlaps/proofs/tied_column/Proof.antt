@@ -4,9 +4,8 @@ use mathlib.Core.Path.{_≡_, refl, ap, sym, _∙_}
 use mathlib.Core.List.{List, map}
 use lib.ListN.{length, getD, take, length-set}
 use Rattle.layout.specs.Lists.{written}
+use Rattle.layout.proofs.Buffers.{copy-more, copy-done, take-none}
 use Rattle.blocks.specs.Columns.{columnPairs}
-use Rattle.blocks.proofs.Sifting.{take-none}
-use Rattle.blocks.proofs.Writing.{write-more, write-done}
 use Rattle.blocks.proofs.Columns.{rises-le, length-column, column-at}
 use Rattle.overlaps.specs.Places.{placeCode}
 use Rattle.overlaps.proofs.Places.{code-tied}
@@ -142,7 +141,7 @@ loop-again c =
     ∙ sym (column-at f vs (a .j) i (omega arith) ∙ code-tied (a .places .now) (a .base) (a .start) (getD vs i 0) (getD vs (a .j) 0) (under n) (s .pre .1 .0 .2) (s .pre .1 .1)) in (
       omega arith,
       simp length-set (l .loop .inv .1),
-      rw (l .loop .inv .2, e) (write-more L (a .out .now) i 0 (omega (arith, k)) (omega (arith, k))),
+      rw (l .loop .inv .2, e) (copy-more L (a .out .now) i 0 (omega (arith, k)) (omega (arith, k))),
     )
 
 same-length : tie.Need-same-length Inv-loop μ-loop
@@ -153,7 +152,7 @@ returns c =
     let l = c .before in
     let a = l .before .before .before .before .before .before .args in
     let f = placeCode (a .places .now) (a .base) (a .start) in
-    l .loop .inv .2 ∙ write-done (map f (columnPairs (a .vertices .now) (a .j))) (a .out .now) (l .loop .i) (omega (arith, length-column f (a .vertices .now) (a .j)))
+    l .loop .inv .2 ∙ copy-done (map f (columnPairs (a .vertices .now) (a .j))) (a .out .now) (l .loop .i) (omega (arith, length-column f (a .vertices .now) (a .j)))
 
 pub tied-column-spec : {M : Type 1} → statement M
 tied-column-spec =

@@ -7,7 +7,7 @@ use lib.Ieee.{Float, nan}
 use borrow.Author.Needs.{needs}
 use Rattle.layout.specs.Lists.{written}
 use Rattle.layout.proofs.Members.{getD-map}
-use Rattle.csc.proofs.Writing.{copy-more, copy-done}
+use Rattle.layout.proofs.Buffers.{copy-more, copy-done}
 use Rattle.sparsevector.specs.Values.{codeValue}
 use Rattle.sparsevector.proofs.move_values.Statement.{statement}
 use Rattle.sparsevector.proofs.move_values.Tie as tie

@@ -5,7 +5,7 @@ use lib.ListN.{drop}
 use borrow.Author.Tests.{le-leb, lt-leb}
 use Rattle.layout.specs.Patterns.{Pattern, read, patterns}
 use Rattle.layout.specs.Checks.{originsRise}
-use Rattle.utils.proofs.Tests.{differ, and-true, and-false}
+use Rattle.layout.proofs.Tests.{differ, and-true, and-false}
 use Rattle.supernode_tree.specs.Reads.{patternRead, patternAt, headOf}
 use Rattle.supernode_tree.proofs.Words.{head-found}
 use Rattle.supernode_tree.proofs.Cliques.{no-pattern-whole, pattern-head}

@@ -5,7 +5,7 @@ use lib.ListN.{length, take, drop}
 use borrow.Author.Tests.{not-true, not-false}
 use Rattle.layout.specs.Patterns.{read}
 use Rattle.layout.specs.Checks.{isPermutation}
-use Rattle.utils.proofs.Tests.{differ, and-true, and-false}
+use Rattle.layout.proofs.Tests.{differ, and-true, and-false}
 use Rattle.supernode_tree.specs.Reads.{patternRead, patternAt, headOf}
 use Rattle.supernode_tree.proofs.Words.{head-found}
 use Rattle.supernode_tree.proofs.Cliques.{no-pattern-whole, pattern-head}
@@ -59,20 +59,20 @@ is-psd-of-requires c κs = search needs
 returns-2 : tie.Need-returns-2
 returns-2 c = sym (right-at (c .before .before .before) ∙ and-false _ _ (sym (c .before .is-psd-of .ensures) ∙ not-true _ (c .if1 .taken)))
 
-mul-is-permutation : tie.Need-mul-is-permutation
-mul-is-permutation c = omega (arith, inside-at (c .before .before .before))
+mul-is-short-permutation : tie.Need-mul-is-short-permutation
+mul-is-short-permutation c = omega (arith, inside-at (c .before .before .before))
 
-sub-is-permutation : tie.Need-sub-is-permutation
-sub-is-permutation c = omega (arith, inside-at (c .before .before .before))
+sub-is-short-permutation : tie.Need-sub-is-short-permutation
+sub-is-short-permutation c = omega (arith, inside-at (c .before .before .before))
 
-part-is-permutation-start : tie.Need-part-is-permutation-start
-part-is-permutation-start c = omega (arith, inside-at (c .before .before .before))
+part-is-short-permutation-start : tie.Need-part-is-short-permutation-start
+part-is-short-permutation-start c = omega (arith, inside-at (c .before .before .before))
 
-part-is-permutation-end : tie.Need-part-is-permutation-end
-part-is-permutation-end c = omega (arith, inside-at (c .before .before .before))
+part-is-short-permutation-end : tie.Need-part-is-short-permutation-end
+part-is-short-permutation-end c = omega (arith, inside-at (c .before .before .before))
 
-is-permutation-requires : tie.Need-is-permutation-requires
-is-permutation-requires c κs = search needs
+is-short-permutation-requires : tie.Need-is-short-permutation-requires
+is-short-permutation-requires c κs = search needs
 
 returns-3 : tie.Need-returns-3
 returns-3 c =
@@ -81,7 +81,7 @@ returns-3 c =
     let ws = k .before .before .before .before .before .before .args .words .now in
     let p = k .before .p .given .0 .0 in
     let n : p .cliques - p .ordering ≡ p .«vertex_count» = omega (arith, inside-at k) in
-    c .is-permutation .ensures ∙ ap (λ (n : ℕ). isPermutation (take n (drop (p .ordering) ws))) n
+    c .is-short-permutation .ensures ∙ ap (λ (n : ℕ). isPermutation (take n (drop (p .ordering) ws))) n
     ∙ sym (right-at k ∙ and-true _ _ (sym (e .before .is-psd-of .ensures) ∙ not-false _ (e .if1 .left)))
 
 pub pattern-right-spec : {M : Type 1} → statement M
@@ -95,9 +95,9 @@ pattern-right-spec =
     cast-is-psd-of
     is-psd-of-requires
     returns-2
-    mul-is-permutation
-    sub-is-permutation
-    part-is-permutation-start
-    part-is-permutation-end
-    is-permutation-requires
+    mul-is-short-permutation
+    sub-is-short-permutation
+    part-is-short-permutation-start
+    part-is-short-permutation-end
+    is-short-permutation-requires
     returns-3)

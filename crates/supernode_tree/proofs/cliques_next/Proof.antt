@@ -1,5 +1,5 @@
 use Rattle.supernode_tree.proofs.Cliques.{none-here, whole-next, rest-next, rest-none}
-use Rattle.utils.proofs.Tests.{differ}
+use Rattle.layout.proofs.Tests.{differ}
 use Rattle.supernode_tree.specs.Reads.{Whole, rest}
 use Rattle.layout.specs.Patterns.{readCliques}
 use lib.ListN.{drop}

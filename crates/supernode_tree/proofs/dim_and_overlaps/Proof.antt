@@ -7,7 +7,7 @@ use lib.Dec.{leb→le}
 use Rattle.layout.specs.Lists.{all, sum}
 use Rattle.layout.specs.Triangle.{triangle}
 use Rattle.layout.specs.Patterns.{blockSize}
-use Rattle.utils.proofs.Tests.{differ, passes}
+use Rattle.layout.proofs.Tests.{differ, passes}
 use Rattle.supernode_tree.specs.Reads.{Whole, cliquesFrom, cliqueOf}
 use Rattle.supernode_tree.proofs.Cliques.{none-here, whole-next, from-next, from-none, separator-size, block-size}
 use Rattle.supernode_tree.proofs.Sizes.{rowsOf, overlapsOf, atMost, triangle-small, all-cons, sum-cons, sum-none}

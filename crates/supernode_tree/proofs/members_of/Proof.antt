@@ -1,5 +1,5 @@
 use Rattle.supernode_tree.proofs.Cliques.{none-here, whole-next, from-next, from-none, members-part, getD-later}
-use Rattle.utils.proofs.Tests.{differ}
+use Rattle.layout.proofs.Tests.{differ}
 use Rattle.supernode_tree.specs.Reads.{Whole, cliquesFrom, cliqueOf}
 use Rattle.layout.specs.Patterns.{Clique, noClique, members}
 use lib.ListN.{getD}

@@ -1,6 +1,6 @@
 use Rattle.supernode_tree.proofs.Cliques.{cliques-of-whole, rest-of-cliques, no-pattern-whole}
 use Rattle.supernode_tree.proofs.Words.{head-found}
-use Rattle.utils.proofs.Tests.{differ}
+use Rattle.layout.proofs.Tests.{differ}
 use Rattle.supernode_tree.specs.Reads.{patternRead, headOf}
 use Rattle.layout.specs.Patterns.{readHead, read}
 use lib.ListN.{drop}

@@ -7,8 +7,9 @@ use borrow.Author.Tests.{ne-eqb}
 use Rattle.layout.specs.Lists.{sum}
 use Rattle.layout.specs.Checks.{noCone}
 use Rattle.layout.specs.Cones.{records, reads, alphaCount}
+use Rattle.layout.proofs.Buffers.{length-tail}
 use Rattle.supportedcone.specs.Cases.{told, recordAt}
-use Rattle.supportedcone.proofs.Steps.{total-more, total-done, total-le, length-left}
+use Rattle.supportedcone.proofs.Steps.{total-more, total-done, total-le}
 use Rattle.supportedcone.proofs.Reading.{bad-with, is-with}
 use Rattle.supportedcone.proofs.Records.{every-record}
 use native.Mathlib.Omega.{arith}
@@ -36,7 +37,7 @@ counted c =
     let r = recordAt (s .args .cones .now) (l .loop .i) in
     let (same, room) = is-with (a .cone .given .0 .0) r (take (length αs - l .loop .next) (drop (l .loop .next) αs))
     (ap told (sym (a .cone .given .1)) ∙ a .before .before .read-with-alpha .ensures) in
-    (c .alpha-count .ensures ∙ ap alphaCount same, omega (arith, room, length-left αs (l .loop .next)))
+    (c .alpha-count .ensures ∙ ap alphaCount same, omega (arith, room, length-tail αs (l .loop .next)))
 
 record-count-requires : tie.Need-record-count-requires Inv-loop μ-loop
 record-count-requires c κs = search needs
@@ -74,7 +75,7 @@ returns c =
     let r = recordAt (s .args .cones .now) (l .loop .i) in
     let short = bad-with r (take (length αs - l .loop .next) (drop (l .loop .next) αs)) (every-record reads (s .args .cones .now) (l .loop .i) (s .pre) (omega arith))
     (ap told (sym (c .enum-told .given .1)) ∙ c .before .before .read-with-alpha .ensures) in
-    sym (ne-eqb (sum (map alphaCount cs)) (length αs) (λ e. omega (arith, short, length-left αs (l .loop .next), total-more alphaCount cs (l .loop .i) noCone (omega arith), total-le alphaCount cs (l .loop .i + 1))))
+    sym (ne-eqb (sum (map alphaCount cs)) (length αs) (λ e. omega (arith, short, length-tail αs (l .loop .next), total-more alphaCount cs (l .loop .i) noCone (omega arith), total-le alphaCount cs (l .loop .i + 1))))
 
 alpha-count-requires : tie.Need-alpha-count-requires Inv-loop μ-loop
 alpha-count-requires c κs = search needs

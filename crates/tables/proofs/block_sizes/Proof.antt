@@ -6,12 +6,12 @@ use mathlib.Core.Bool.{true}
 use lib.Dec.{leb→le}
 use Rattle.layout.specs.Lists.{all, written}
 use Rattle.layout.specs.Patterns.{readClique, blockSize}
-use Rattle.utils.proofs.Tests.{differ, passes}
+use Rattle.layout.proofs.Tests.{differ, passes}
+use Rattle.layout.proofs.Buffers.{copy-more, copy-done}
 use Rattle.supernode_tree.specs.Reads.{Whole, cliquesFrom, cliqueOf}
 use Rattle.supernode_tree.proofs.Many.{many-length}
 use Rattle.supernode_tree.proofs.Cliques.{none-here, whole-next, from-next, block-size}
 use Rattle.supernode_tree.proofs.Sizes.{atMost, all-cons}
-use Rattle.blocks.proofs.Writing.{write-more, write-done}
 use Rattle.tables.proofs.Laws.{first-of-drop, rest-of-drop}
 use native.Mathlib.Omega.{arith}
 use borrow.Author.Needs.{needs}
@@ -116,7 +116,7 @@ loop-again c =
       all-cons (atMost 256) (cliqueOf ws q) others (cliquesFrom ws (l .loop .at) (l .loop .left)) (first-of k) (l .loop .inv .2) .1,
       simp length-set (l .loop .inv .3),
       ap₂ (λ (o : List ℕ) (x : ℕ). set o (l .loop .c) x) (l .loop .inv .4) e
-          ∙ write-more L (s .args .out .now) (l .loop .c) 0 (first-of-drop L (map blockSize others) (l .loop .c) (blockSize (cliqueOf ws q)) 0 d .0) (omega (arith, sizes-count s)),
+          ∙ copy-more L (s .args .out .now) (l .loop .c) 0 (first-of-drop L (map blockSize others) (l .loop .c) (blockSize (cliqueOf ws q)) 0 d .0) (omega (arith, sizes-count s)),
       rest-of-drop L (map blockSize others) (l .loop .c) (blockSize (cliqueOf ws q)) d,
     )
 
@@ -129,7 +129,7 @@ returns c =
     let s = l .before .before .before in
     let ws = s .args .words .now in
     let L = map blockSize (cliquesFrom ws (s .args .first) (s .args .count)) in
-    l .loop .inv .4 ∙ write-done L (s .args .out .now) (l .loop .c) (omega (arith, sizes-count s))
+    l .loop .inv .4 ∙ copy-done L (s .args .out .now) (l .loop .c) (omega (arith, sizes-count s))
 
 same-length-2 : tie.Need-same-length-2 Inv-loop μ-loop
 same-length-2 c = c .before .before .before .before .loop .inv .3

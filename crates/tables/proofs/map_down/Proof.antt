@@ -5,7 +5,8 @@ use lib.ListN.{length, drop, set, length-drop, length-reverse, drop-of-length-le
 use Rattle.layout.specs.Lists.{join, written, below}
 use Rattle.layout.specs.Compact.{blockOf, entryWords}
 use Rattle.layout.proofs.Members.{length-below}
-use Rattle.tables.proofs.Laws.{entryOf, entries-more, threes, join-map, three-more}
+use Rattle.blocks.proofs.Offsets.{join-map}
+use Rattle.tables.proofs.Laws.{entryOf, entries-more, threes, three-more}
 use native.Mathlib.Omega.{arith}
 use borrow.Author.Needs.{needs}
 use Rattle.tables.proofs.map_down.Statement.{statement}

@@ -10,8 +10,8 @@ use Rattle.layout.specs.Patterns.{patterns}
 use Rattle.layout.specs.Blocks.{Part, whole, cut, parts}
 use Rattle.layout.specs.Checks.{noCone}
 use Rattle.layout.proofs.Laid.{sound-laid}
+use Rattle.layout.proofs.Buffers.{copy-done}
 use Rattle.supernode_tree.specs.Reads.{patternAt}
-use Rattle.blocks.proofs.Writing.{write-done}
 use Rattle.parts.specs.Ahead.{ahead, Stands, meets, Knows}
 use Rattle.parts.specs.declared.Met.the-variants.{Whole, Cut}
 use Rattle.tables.specs.Tables.{tableOf, partCodes, codesFrom}
@@ -236,7 +236,7 @@ returns c =
     let all : length (fullOf s) ≤ l .loop .t = omega (arith, ap length left, length-drop (l .loop .t) (fullOf s)) in
     let t : l .loop .t ≡ length (fullOf s) = omega arith in (
       t ∙ ap length (same s),
-      l .loop .inv .2 ∙ write-done (fullOf s) (a .out .now) (l .loop .t) all ∙ ap (λ (xs : List ℕ). written xs (a .out .now)) (same s),
+      l .loop .inv .2 ∙ copy-done (fullOf s) (a .out .now) (l .loop .t) all ∙ ap (λ (xs : List ℕ). written xs (a .out .now)) (same s),
     )
 
 pub write-table-spec : {M : Type 1} → statement M

@@ -1,5 +1,5 @@
 use Rattle.utils.proofs.Scattered.{scattered-inverse, permutation-below, distinct-below, refused-order, refused-room, accepted}
-use Rattle.utils.proofs.Tests.{passes}
+use Rattle.layout.proofs.Tests.{passes}
 use Rattle.layout.specs.Checks.{isPermutation}
 use Rattle.layout.specs.Answers.{output, inverse, inverseRefusal}
 use Rattle.layout.proofs.Distinct.{permutation-distinct}

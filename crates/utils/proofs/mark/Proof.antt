@@ -1,5 +1,5 @@
 use Rattle.utils.proofs.Windows.{marked-out, marked-in, skip-more, new-more, old-more, within-before, within-after, within-in, take-more, split-more, take-none}
-use Rattle.utils.proofs.Tests.{passed, differ}
+use Rattle.layout.proofs.Tests.{passed, differ}
 use Rattle.utils.specs.Windows.{within, Marked}
 use Rattle.layout.specs.Lists.{has, keep, distinct}
 use lib.Seq.{take-all}

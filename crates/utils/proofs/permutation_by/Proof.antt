@@ -1,5 +1,5 @@
 use Rattle.utils.proofs.Windows.{window-none, window-more, repeats-within, windows-all}
-use Rattle.utils.proofs.Tests.{passes, and-true, and-false, and-right}
+use Rattle.layout.proofs.Tests.{passes, and-true, and-false, and-right}
 use Rattle.layout.specs.Lists.{all, keep, distinct}
 use lib.ListN.{length}
 use lib.Dec.{T, ltb}

@@ -4,7 +4,7 @@ use lib.ListN.{length}
 use lib.Dec.{T, ltb}
 use borrow.Author.Tests.{not-true, not-false}
 use Rattle.layout.specs.Lists.{keep}
-use Rattle.utils.proofs.Tests.{passes}
+use Rattle.layout.proofs.Tests.{passes}
 use Rattle.vertex_set.specs.OnceIn.{onceIn}
 use Rattle.vertex_set.proofs.Unmarked.{once-none, once-more, once-all, once-fails}
 use native.Mathlib.Omega.{arith}

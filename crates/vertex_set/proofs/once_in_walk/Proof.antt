@@ -1,6 +1,6 @@
 use mathlib.Core.Path.{sym, _∙_}
 use borrow.Author.Tests.{not-true, not-false}
-use Rattle.utils.proofs.Tests.{and-true, and-false}
+use Rattle.layout.proofs.Tests.{and-true, and-false}
 use borrow.Author.Needs.{needs}
 use Rattle.vertex_set.proofs.once_in_walk.Statement.{statement}
 use Rattle.vertex_set.proofs.once_in_walk.Tie as tie

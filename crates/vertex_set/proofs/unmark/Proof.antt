@@ -9,7 +9,7 @@ use lib.Dec.{T}
 use Rattle.layout.specs.Lists.{has, keep}
 use Rattle.utils.specs.Windows.{within, Marked}
 use borrow.Author.Tests.{not-true, not-false}
-use Rattle.utils.proofs.Tests.{passed}
+use Rattle.layout.proofs.Tests.{passed}
 use Rattle.utils.proofs.Windows.{within-before, within-after, within-in, take-more, split-more}
 use Rattle.vertex_set.specs.OnceIn.{onceIn}
 use Rattle.vertex_set.proofs.Unmarked.{Left, left-none, left-out, left-in, left-new, left-old, once-skip, once-new, once-lost}

@@ -2,7 +2,7 @@ use Prim.Native.Nat.{_+_, _≤_, _<_}
 use mathlib.Core.Path.{_≡_, refl, ap}
 use mathlib.Core.Logic.{⊎-elim}
 use mathlib.Core.Bool.{false}
-use Rattle.utils.proofs.Tests.{passed}
+use Rattle.layout.proofs.Tests.{passed}
 use mathlib.Core.List.{List}
 use lib.ListN.{length, drop-of-length-le}
 use Rattle.layout.specs.Cones.{Cone, records}
