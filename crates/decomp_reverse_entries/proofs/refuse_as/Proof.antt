@@ -5,7 +5,7 @@ use mathlib.Core.List.{[], _∷_}
 use borrow.Author.Tests.{not-true, not-false}
 use Rattle.layout.specs.Problem.{solution, one64, compact}
 use Rattle.layout.specs.Answers.{roomy, joinedParts, solutionFits, joinChecks}
-use Rattle.utils.proofs.Tests.{and-false, and-right, and-true}
+use Rattle.layout.proofs.Tests.{and-false, and-right, and-true}
 use Rattle.decomp_reverse.proofs.Order.{join-order, checks-passed}
 use borrow.Author.Needs.{needs}
 use Rattle.decomp_reverse_entries.proofs.refuse_as.Statement.{statement}

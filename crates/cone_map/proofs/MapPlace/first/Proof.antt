@@ -6,7 +6,7 @@ use Rattle.layout.specs.Compact.{MapEntry, blockOf, coneMap}
 use Rattle.supernode_tree.specs.Reads.{patternAt}
 use Rattle.parts.specs.Ahead.{ahead, meets, Knows}
 use Rattle.parts.specs.declared.Met.{Met}
-use Rattle.utils.proofs.Tests.{differ}
+use Rattle.layout.proofs.Tests.{differ}
 use Rattle.cone_map.proofs.Walking.{after-more, some-clique, none-here}
 use native.Mathlib.Omega.{arith}
 use borrow.Author.Needs.{needs}

@@ -2,7 +2,7 @@ use mathlib.Core.Path.{sym, ap, _∙_}
 use mathlib.Core.List.{List}
 use lib.ListN.{drop}
 use Rattle.layout.specs.Compact.{MapEntry}
-use Rattle.utils.proofs.Tests.{differ}
+use Rattle.layout.proofs.Tests.{differ}
 use Rattle.cone_map.proofs.Walking.{none-here, block-next, cone-next}
 use native.Mathlib.Omega.{arith}
 use borrow.Author.Needs.{needs}

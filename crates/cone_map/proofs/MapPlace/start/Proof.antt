@@ -1,6 +1,6 @@
 use mathlib.Core.Path.{sym, ap, _∙_}
 use Rattle.layout.specs.Compact.{coneMap}
-use Rattle.utils.proofs.Tests.{differ}
+use Rattle.layout.proofs.Tests.{differ}
 use Rattle.cone_map.proofs.Walking.{none-here, accepted, refused}
 use borrow.Author.Needs.{needs}
 use Rattle.cone_map.proofs.MapPlace.start.Statement.{statement}
