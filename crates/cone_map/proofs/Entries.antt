@@ -5,6 +5,7 @@ use mathlib.Core.Bool.{Bool, true, false, _&&_}
 use mathlib.Core.List.{[], _∷_}
 use lib.Dec.{eqb}
 use Rattle.layout.specs.Compact.{MapEntry, wholeCone, blockOf, entryWords}
+use Rattle.layout.proofs.Tests.{false-right}
 use Rattle.cone_map.specs.declared.ConeMapEntry.{ConeMapEntry}
 use Rattle.cone_map.specs.declared.TreeAndClique.{TreeAndClique}
 use Rattle.cone_map.specs.declared.TreeAndClique.the-variants.{None, In}
@@ -25,10 +26,6 @@ pub words-of : (i : ℕ) (t : TreeAndClique) → entryWords (placed i t) ≡ i �
 words-of i None = refl
 words-of i (In k c) = refl
 
-and-no : (b : Bool) → (b && false) ≡ false
-and-no true = refl
-and-no false = refl
-
 and-yes : (b : Bool) → (b && true) ≡ b
 and-yes true = refl
 and-yes false = refl
@@ -36,6 +33,6 @@ and-yes false = refl
 -- the cone's number and the rest
 pub same-parts : (i j : ℕ) (t u : TreeAndClique) → sameEntry (placed i t) (placed j u) ≡ (eqb i j && sameEntry (placed 0 t) (placed 0 u))
 same-parts i j None None = rw (and-yes (eqb i j))
-same-parts i j None (In l d) = rw (and-no (eqb i j))
-same-parts i j (In k c) None = rw (and-no (eqb i j))
+same-parts i j None (In l d) = rw (false-right (eqb i j))
+same-parts i j (In k c) None = rw (false-right (eqb i j))
 same-parts i j (In k c) (In l d) = refl

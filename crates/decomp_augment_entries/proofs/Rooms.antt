@@ -3,16 +3,16 @@ use Prim.Native.Nat.{ℕ, zero, suc, _*_, _≤_}
 use native.Mathlib.Omega.{arith}
 use mathlib.Core.Path.{_≡_, refl, sym, ap, subst, _∙_}
 use mathlib.Core.Logic.{inl, inr}
-use mathlib.Core.Bool.{Bool, true, false, cond, _&&_}
+use mathlib.Core.Bool.{Bool, cond, _&&_}
 use mathlib.Core.List.{List, [], _∷_, _++_}
 use lib.ListN.{length, getD}
-use lib.Dec.{T, leb, ltb}
+use lib.Dec.{leb, ltb}
 use Rattle.layout.specs.Problem.{Problem, compact}
 use Rattle.layout.specs.Blocks.{blockRowCount, overlapCount}
 use Rattle.layout.specs.Checks.{Sound, layout, refusal}
 use Rattle.layout.specs.Compact.{MapEntry, wholeCone, blockOf, coneMap, entryWords}
 use Rattle.layout.specs.Answers.{orElse, roomy, sizes, cutRefusal}
-use Rattle.layout.proofs.Tests.{and-iff, leb-iff, ltb-iff, tested, cond-passed, cond-failed}
+use Rattle.layout.proofs.Tests.{and-iff, leb-iff, ltb-iff, tested, cond-passed, cond-failed, passed}
 use Rattle.layout.proofs.Accepted.{accepted-sound}
 use Rattle.layout.proofs.Sizes.{compact-sizes}
 use Rattle.tables.proofs.Laws.{threes}
@@ -20,21 +20,12 @@ use Rattle.chordal_info.proofs.Counts.{accepted-fitting}
 use Rattle.decomp_augment.proofs.Rooms.{taken, compact-rooms}
 use Rattle.decomp_augment_entries.specs.Rooms.{wordsOf}
 
--- one test for another, of the same number
-same-test : (k a b : ℕ) → (k ≤ a → k ≤ b) → (k ≤ b → k ≤ a) → leb k a ≡ leb k b
-same-test k a b f g = go (leb k a) (leb k b) (λ t. leb-iff k b .1 (f (leb-iff k a .0 t))) (λ t. leb-iff k a .1 (g (leb-iff k b .0 t)))
-  where
-    go : (s t : Bool) → (T s → T t) → (T t → T s) → s ≡ t
-    go true true f g = refl
-    go true false f g = absurd (f tt)
-    go false true f g = absurd (g tt)
-    go false false f g = refl
-
 enough : (k entries : ℕ) → k ≤ 789504 → leb k (wordsOf entries) ≡ leb k (entries * 3)
 enough k entries few = elim (tested (ltb 263168 entries)) [
-  | inl h ↦
-      ap (leb k) (cond-passed (ltb 263168 entries) 789504 (entries * 3) h)
-      ∙ same-test k 789504 (entries * 3) (λ l. omega (arith, ltb-iff 263168 entries .0 h)) (λ l. few)
+  inl h ↦
+    ap (leb k) (cond-passed (ltb 263168 entries) 789504 (entries * 3) h)
+    ∙ passed (leb k 789504) (leb-iff k 789504 .1 few)
+    ∙ sym (passed (leb k (entries * 3)) (leb-iff k (entries * 3) .1 (omega (arith, ltb-iff 263168 entries .0 h))))
   | inr h ↦ ap (leb k) (cond-failed (ltb 263168 entries) 789504 (entries * 3) h)
 ]
 
