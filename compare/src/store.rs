@@ -112,10 +112,129 @@ fn same_layout(d: &mut Draws, index: u64) -> Case {
     Case { words, values }
 }
 
+/// The same for an output of f64.
+fn values_after(new: Option<&[f64]>, length: usize) -> Vec<f64> {
+    let mut room: Vec<f64> = (0..length).map(|k| -0.5 - (k % 65536) as f64).collect();
+    if let Some(new) = new {
+        room[..new.len()].copy_from_slice(new);
+    }
+    room
+}
+
+fn words_after(new: Option<&[u32]>, length: usize) -> Vec<u32> {
+    after(&new.map(<[u32]>::to_vec).ok_or(0), length)
+}
+
+fn some_route(d: &mut Draws) -> Route {
+    if d.chance(50) {
+        Route::Compact
+    } else {
+        Route::Standard
+    }
+}
+
+/// A problem that is right, or has faults of any check that a route makes.
+fn some_problem_on(d: &mut Draws, index: u64) -> Problem {
+    let mut p = random::problem(d, random::SMALL);
+    for _ in 0..(index % 4) / 2 {
+        let check = 1 + d.below(9);
+        random::damage(d, &mut p, check);
+    }
+    p
+}
+
+/// Now and then one less than is needed, now and then more.
+fn some_room(d: &mut Draws, need: usize) -> usize {
+    if d.chance(2) {
+        need.saturating_sub(1)
+    } else {
+        need + d.below(3)
+    }
+}
+
+fn sizes(d: &mut Draws, index: u64) -> Case {
+    let (route, p) = (some_route(d), some_problem_on(d, index));
+    let room = some_room(d, 11);
+    let answer = expected::sizes(route, &p, room).map(|lengths| lengths.map(|k| k as u32).to_vec());
+    let mut words = vec![vec![route.code(), p.n, p.m, p.pattern_count], vec![number(&answer)]];
+    words.extend(problem_words(&p));
+    words.push(after(&answer, room));
+    Case { words, values: problem_values(&p) }
+}
+
+fn cut(d: &mut Draws, index: u64) -> Case {
+    let (route, p) = (some_route(d), some_problem_on(d, index));
+    let needs = expected::sizes(route, &p, 11).unwrap_or([3; 11]);
+    let rooms = needs.map(|need| some_room(d, need));
+    let answer = expected::cut(route, &p, Some(&rooms));
+    let c = answer.as_ref().ok();
+    let mut words = vec![vec![route.code(), p.n, p.m, p.pattern_count], vec![number(&answer)]];
+    words.extend(problem_words(&p));
+    words.extend([
+        words_after(c.map(|c| &c.p.starts[..]), rooms[0]),
+        words_after(c.map(|c| &c.p.rows[..]), rooms[1]),
+        words_after(c.map(|c| &c.a.starts[..]), rooms[4]),
+        words_after(c.map(|c| &c.a.rows[..]), rooms[5]),
+        words_after(c.map(|c| &c.cones[..]), rooms[8]),
+        words_after(c.map(|c| &c.map[..]), rooms[10]),
+    ]);
+    let mut values = problem_values(&p);
+    values.extend([
+        values_after(c.map(|c| &c.p.values[..]), rooms[2]),
+        values_after(c.map(|c| &c.q[..]), rooms[3]),
+        values_after(c.map(|c| &c.a.values[..]), rooms[6]),
+        values_after(c.map(|c| &c.b[..]), rooms[7]),
+        values_after(c.map(|c| &c.alphas[..]), rooms[9]),
+    ]);
+    Case { words, values }
+}
+
+fn join(d: &mut Draws, index: u64) -> Case {
+    let (route, mut p) = (some_route(d), some_problem_on(d, 0));
+    let shape = expected::solution_shape(route, &p).unwrap_or((p.n as usize, p.m as usize, vec![]));
+    let mut solution = random::solution(d, &shape);
+    match index % 4 {
+        2 => random::damage_solution(d, &mut solution),
+        3 => {
+            let check = 4 + d.below(5);
+            random::damage(d, &mut p, check);
+        }
+        _ => {}
+    }
+    let rooms = [p.n as usize, p.m as usize, p.m as usize, 2].map(|need| some_room(d, need.min(4096)));
+    let answer = expected::join(route, &expected::join_input(&p, &solution), Some(&rooms));
+    let j = answer.as_ref().ok();
+    let scalars = j.map(|j| [j.tau, j.kappa]);
+    let words = vec![
+        vec![route.code(), p.n, p.m, p.pattern_count],
+        vec![number(&answer)],
+        p.cones.clone(),
+        p.pattern_words.clone(),
+        solution.map.clone(),
+    ];
+    let values = vec![
+        solution.x.clone(),
+        solution.s.clone(),
+        solution.z.clone(),
+        vec![solution.tau, solution.kappa],
+        values_after(j.map(|j| &j.x[..]), rooms[0]),
+        values_after(j.map(|j| &j.s[..]), rooms[1]),
+        values_after(j.map(|j| &j.z[..]), rooms[2]),
+        values_after(scalars.as_ref().map(|s| &s[..]), rooms[3]),
+    ];
+    Case { words, values }
+}
+
 /// Writes a file of `cases` answers for each family into a folder.
 pub fn write(folder: &Path, cases: u64, seed: u64) -> io::Result<()> {
-    let families: [(&str, fn(&mut Draws, u64) -> Case); 3] =
-        [("renumber", renumber), ("check_problem", check_problem), ("same_layout", same_layout)];
+    let families: [(&str, fn(&mut Draws, u64) -> Case); 6] = [
+        ("renumber", renumber),
+        ("check_problem", check_problem),
+        ("same_layout", same_layout),
+        ("sizes", sizes),
+        ("cut", cut),
+        ("join", join),
+    ];
     for (k, (name, family)) in families.iter().enumerate() {
         let made: Vec<Case> = (0..cases).map(|index| family(&mut crate::case_draws(seed + k as u64, index), index)).collect();
         fs::write(folder.join(name), text(&made))?;

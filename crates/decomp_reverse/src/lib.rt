@@ -91,7 +91,7 @@ fn map_right(m: u32, cones: &[u32], count: u32, words: &[u32], entries: &[u32]) 
 // ---- the checks
 
 // Checks 1 to 10 of a joining in order: the number of the first that fails, or 0.
-fn check_join(route: u32, n: u32, m: u32, cones: &[u32], count: u32, words: &[u32]) -> u32
+pub fn check_join(route: u32, n: u32, m: u32, cones: &[u32], count: u32, words: &[u32]) -> u32
     ensures { λ r. ⌜ r ≡ joinChecks (routeOf route) n m (now (cones .entry)) count (now (words .entry)) ⌝ }
 {
     let r = checks::check_joined(n, m, cones, count, words);
@@ -102,7 +102,7 @@ fn check_join(route: u32, n: u32, m: u32, cones: &[u32], count: u32, words: &[u3
 }
 
 // Check 11: whether the outputs have room for x, s, z and the two scalars.
-fn room_enough(n: u32, m: u32, x: usize, s: usize, z: usize, scalars: usize) -> bool
+pub fn room_enough(n: u32, m: u32, x: usize, s: usize, z: usize, scalars: usize) -> bool
     ensures { λ r. ⌜ r ≡ roomy (n ∷ m ∷ m ∷ 2 ∷ []) (x ∷ s ∷ z ∷ scalars ∷ []) ⌝ }
 {
     if x < n as usize {
@@ -130,7 +130,7 @@ fn lengths_are(x: &[f64], s: &[f64], z: &[f64], columns: usize, rows: usize) -> 
 }
 
 // Check 12: whether the solution has the augmented problem's lengths.
-fn solution_fits(
+pub fn solution_fits(
     route: u32,
     n: u32,
     m: u32,
@@ -214,7 +214,7 @@ fn refuse_join(
 // ---- the joining
 
 // x, s and z of a solution that is refused nothing.
-fn decomp_reverse(
+pub fn decomp_reverse(
     route: u32,
     n: u32,
     m: u32,
@@ -241,7 +241,7 @@ fn decomp_reverse(
     }
 }
 
-fn write_scalars(scalars: Scalars, out: &mut [f64])
+pub fn write_scalars(scalars: Scalars, out: &mut [f64])
     requires { ⌜ 2 ≤ length (now out) ⌝ }
     ensures { λ _. ⌜ now (out .exit) ≡ written (scalars .tau ∷ scalars .kappa ∷ []) (now (out .entry)) ⌝ }
 {

@@ -1,18 +1,14 @@
-use native.Mathlib.Omega.{arith}
 use borrow.Author.Needs.{needs}
-use Prim.Native.Nat.{ℕ}
-use mathlib.Core.Path.{_≡_, ap, _∙_}
-use mathlib.Core.List.{_++_}
-use lib.ListN.{replicate}
-use Rattle.layout.specs.Lists.{written}
-use Rattle.layout.specs.Problem.{Problem, problem, compact, zero64}
-use Rattle.layout.specs.Blocks.{overlapCount}
-use Rattle.layout.specs.Checks.{layout}
-use Rattle.layout.specs.Compact.{extendedP}
+use Rattle.layout.specs.Problem.{Problem, problem, compact}
 use Rattle.layout.proofs.Accepted.{accepted-sound}
-use Rattle.augment.proofs.Laws.{starts-P, rooms-P, right-A}
 use Rattle.compact_cut.proofs.decomp_augment_compact.Statement.{statement}
 use Rattle.compact_cut.proofs.decomp_augment_compact.Tie as tie
+
+write-all-but-map-requires : tie.Need-write-all-but-map-requires
+write-all-but-map-requires c κs =
+    let s = c .before .before .before .before .before .before .before .before .before .before .before .before .before .before .before .before .before .before .before .before .before .before .before .before .before .before .before .before .before .before .before .before in
+    let room = s .pre .1 .1 .1 in
+    (s .pre .0, (s .pre .1 .0, (s .pre .1 .1 .0, (room .0, (room .1 .0, room .1 .1)))))
 
 -- the problem
 abbrev cutOf : tie.Start → Problem
@@ -21,32 +17,10 @@ cutOf s =
     (s .args .a-starts .now) (s .args .a-rows .now) (s .args .a-values .now) (s .args .b .now)
     (s .args .cones .now) (s .args .alphas .now) (s .args .count) (s .args .words .now)
 
-write-p-requires : tie.Need-write-p-requires
-write-p-requires c κs = let s = c .before .before .before .before .before .before .before .before .before .before .before .before .before .before .before .before .before .before .before .before .before .before .before .before .before .before in (starts-P compact (cutOf s) (s .pre .0), rooms-P compact (cutOf s) (s .pre .0) (s .args .k) _ _ _ _ (s .pre .1 .1 .0))
-
-write-compact-a-requires : tie.Need-write-compact-a-requires
-write-compact-a-requires c κs =
-    let s = c .before .before .before .before .before .before .before .before .before .before .before .before .before .before .before .before .before .before .before .before .before .before .before .before .before .before .before .before .before .before .before .before .before .before .before .before .before .before .before in
-    let p = cutOf s in
-    let room = s .pre .1 .1 .1 .0 in (
-      record { P = p .P; q = p .q; alphas = p .alphas; accepted = s .pre .0 },
-      (
-        s .pre .1 .0,
-        (
-          omega (arith, right-A compact p (s .pre .0) .count, room .0),
-          (room .1, room .2, omega (arith, s .pre .1 .0 .0, room .3)),
-        ),
-      ),
-    )
-
-write-compact-cones-requires : tie.Need-write-compact-cones-requires
-write-compact-cones-requires c κs =
-    let s = c .before .before .before .before .before .before .before .before .before .before .before .before .before .before .before .before .before .before .before .before .before .before .before .before .before .before .before .before .before .before .before .before .before .before .before .before .before .before .before .before .before .before .before .before .before .before .before .before .before .before in
-    let room = s .pre .1 .1 .1 .1 in
-    (accepted-sound compact (cutOf s) (s .pre .0), (room .0, room .2))
-
-copy-values-requires : tie.Need-copy-values-requires
-copy-values-requires c κs = let s = c .before .before .before .before .before .before .before .before .before .before .before .before .before .before .before .before .before .before .before .before .before .before .before .before .before .before .before .before .before .before .before .before .before .before .before .before .before .before .before .before .before .before .before .before .before .before .before .before .before .before .before .before .before .before .before .before in s .pre .1 .1 .1 .1 .1
+write-table-requires : tie.Need-write-table-requires
+write-table-requires c κs =
+    let s = c .before .before .before .before .before .before .before .before .before .before .before .before .before .before .before .before .before .before .before .before .before .before .before .before .before .before .before .before .before .before .before .before .before .before .before .before .before .before .before .before .before .before .before .before .before .before .before .before .before .before .before .before .before .before in
+    (accepted-sound compact (cutOf s) (s .pre .0), (tt, s .pre .1 .1 .1 .1 .2))
 
 same-length : tie.Need-same-length
 same-length c = search needs
@@ -83,33 +57,18 @@ same-length-11 c = search needs
 
 returns : tie.Need-returns
 returns c =
-    let s = c .before .before .before .before .before .before .before .before .before .before .before .before .before .before .before .before .before .before .before .before .before .before .before .before .before .before .before .before .before .before .before .before .before .before .before .before .before .before .before .before .before .before .before .before .before .before .before .before .before .before .before .before .before .before .before .before .before .before .before in
-    let p = cutOf s in
-    let e : s .args .k ≡ overlapCount (layout p) = s .pre .1 .0 .1 in
-    let cost = c .before .before .before .before .before .before .before .before .before .before .before .before .before .before .before .before .before .before .before .before .before .before .before .before .before .before .before .before .before .before .before .before .write-p .ensures in
-    let moved = c .before .before .before .before .before .before .before .before .before .before .before .before .before .before .before .before .before .before .before .write-compact-a .ensures in
-    let cones = c .before .before .before .before .before .before .before .before .write-compact-cones .ensures in (
-      cost .0 ∙ ap (λ (j : ℕ). written (extendedP j (p .P) .starts) (s .args .p-starts-out .now)) e,
-      (
-        cost .1 .0,
-        (
-          cost .1 .1 .0,
-          (
-            cost .1 .1 .1 ∙ ap (λ (j : ℕ). written (p .q ++ replicate j zero64) (s .args .q-out .now)) e,
-            (moved .0, (moved .1 .0, (moved .1 .1 .0, (moved .1 .1 .1, (cones .0, (c .before .before .copy-values .ensures, cones .1)))))),
-          ),
-        ),
-      ),
+    let w = c .before .before .before .before .before .before .before .before .before .before .before .before .before .before .before .before .before .before .before .before .before .before .before .before .write-all-but-map .ensures in
+    let t = w .1 .1 .1 .1 .1 in (
+      w .0,
+      (w .1 .0, (w .1 .1 .0, (w .1 .1 .1 .0, (w .1 .1 .1 .1 .0, (t .0, (t .1 .0, (t .1 .1 .0, (t .1 .1 .1 .0, (t .1 .1 .1 .1, c .before .before .write-table .ensures .1))))))))),
     )
 
 pub decomp-augment-compact-spec : {M : Type 1} → statement M
 decomp-augment-compact-spec =
     tie.close
     (tie.spec
-    write-p-requires
-    write-compact-a-requires
-    write-compact-cones-requires
-    copy-values-requires
+    write-all-but-map-requires
+    write-table-requires
     same-length
     same-length-2
     same-length-3

@@ -1,0 +1,22 @@
+use borrow.Author.Tests.{eq-eqb, ne-eqb}
+use borrow.Author.Needs.{needs}
+use Rattle.cone_map.proofs.TreeAndClique.is_in.Statement.{statement}
+use Rattle.cone_map.proofs.TreeAndClique.is_in.Tie as tie
+
+enum-told : tie.Need-enum-told
+enum-told c = search needs
+
+enum-known-self : tie.Need-enum-known-self
+enum-known-self c = search needs
+
+returns : tie.Need-returns
+returns c = simp (c .before .before .self .given .1, eq-eqb _ _ (c .if1 .taken))
+
+returns-2 : tie.Need-returns-2
+returns-2 c = search needs
+
+returns-3 : tie.Need-returns-3
+returns-3 c = simp (c .before .before .self .given .1, ne-eqb _ _ (c .if1 .left))
+
+pub is-in-spec : {M : Type 1} → statement M
+is-in-spec = tie.close (tie.spec enum-told enum-known-self returns returns-2 returns-3)

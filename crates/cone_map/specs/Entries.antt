@@ -1,0 +1,53 @@
+-- The cone map's entries: what a struct stands for among layout's, how words read as entries, and when two maps are the same.
+use Prim.Native.Nat.{ℕ, _+_, _*_}
+use mathlib.Core.Bool.{Bool, true, false, cond, _&&_}
+use mathlib.Core.List.{List, [], _∷_}
+use lib.ListN.{getD}
+use lib.Dec.{eqb}
+use Rattle.layout.specs.Compact.{MapEntry, wholeCone, blockOf, noPatternNumber}
+use Rattle.cone_map.specs.declared.ConeMapEntry.{ConeMapEntry}
+use Rattle.cone_map.specs.declared.TreeAndClique.{TreeAndClique}
+use Rattle.cone_map.specs.declared.TreeAndClique.the-variants.{None, In}
+
+-- ---- a struct and the entry that it stands for
+
+abbrev pub placed : ℕ → TreeAndClique → MapEntry
+placed i None = wholeCone i
+placed i (In k c) = blockOf i k c
+
+abbrev pub meant : ConeMapEntry → MapEntry
+meant e = placed (e .«orig_index») (e .«tree_and_clique»)
+
+abbrev pub structOf : MapEntry → ConeMapEntry
+structOf (wholeCone i) = record { «orig_index» = i; «tree_and_clique» = None }
+structOf (blockOf i k c) = record { «orig_index» = i; «tree_and_clique» = In k c }
+
+-- ---- an entry's words, and words read as entries
+
+abbrev pub patternWord : TreeAndClique → ℕ
+patternWord None = noPatternNumber
+patternWord (In k c) = k
+
+abbrev pub cliqueWord : TreeAndClique → ℕ
+cliqueWord None = 0
+cliqueWord (In k c) = c
+
+abbrev pub readEntry : List ℕ → ℕ → MapEntry
+readEntry ws k =
+    let i = getD ws (k * 3) 0 in
+    let pattern = getD ws (k * 3 + 1) 0 in
+    cond (eqb pattern noPatternNumber) (wholeCone i) (blockOf i pattern (getD ws (k * 3 + 2) 0))
+
+-- ---- the same entry, and the same map
+
+abbrev pub sameEntry : MapEntry → MapEntry → Bool
+sameEntry (wholeCone i) (wholeCone j) = eqb i j
+sameEntry (wholeCone i) (blockOf j l d) = false
+sameEntry (blockOf i k c) (wholeCone j) = false
+sameEntry (blockOf i k c) (blockOf j l d) = eqb i j && (eqb k l && eqb c d)
+
+abbrev pub sameMap : List MapEntry → List MapEntry → Bool
+sameMap [] [] = true
+sameMap [] (y ∷ ys) = false
+sameMap (x ∷ xs) [] = false
+sameMap (x ∷ xs) (y ∷ ys) = sameEntry x y && sameMap xs ys

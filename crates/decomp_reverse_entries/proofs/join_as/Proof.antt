@@ -1,0 +1,105 @@
+use mathlib.Core.Path.{_≡_, sym, ap, _∙_}
+use mathlib.Core.List.{List, [], _∷_}
+use lib.ListN.{length}
+use lib.Ieee.{Float}
+use Rattle.layout.specs.Lists.{written}
+use Rattle.layout.specs.Problem.{compact, solution}
+use Rattle.layout.specs.Compact.{coneMap, mapWords}
+use Rattle.layout.specs.Answers.{output, joinedParts}
+use Rattle.decomp.proofs.Answers.{kept}
+use Rattle.decomp_reverse.proofs.Order.{Accepted, join-accepted, joined-parts, joined-scalars}
+use Rattle.decomp_reverse_entries.specs.Refusals.{refusalAs}
+use Rattle.decomp_reverse_entries.proofs.Order.{as-joined}
+use borrow.Author.Needs.{needs}
+use Rattle.decomp_reverse_entries.proofs.join_as.Statement.{statement}
+use Rattle.decomp_reverse_entries.proofs.join_as.Tie as tie
+
+abbrev start : tie.After-refuse-as → tie.Start
+start c = c .before .before .before .before .before .before .before .before .before .before
+
+refuse-as-requires : tie.Need-refuse-as-requires
+refuse-as-requires c κs = search needs
+
+returns : tie.Need-returns
+returns c =
+    let k = c .before in
+    let keeps : (old new : List Float) → old ≡ output (k .refuse-as .result) new old = λ old new. kept (k .refuse-as .result) new old (c .if1 .taken) in
+    (k .refuse-as .ensures, keeps _ _, keeps _ _, keeps _ _, keeps _ _)
+
+-- nothing was refused
+none : (c : tie.Else1)
+    → let a = start (c .before) .args in
+    refusalAs (a .same) (a .n) (a .m) (a .cones .now) (a .count) (a .words .now) (solution (a .x .now) (a .s .now) (a .z .now) (a .tau) (a .kappa))
+    (length (a .x-out .now) ∷ length (a .s-out .now) ∷ length (a .z-out .now) ∷ length (a .scalars-out .now) ∷ []) ≡ 0
+none c = sym (c .before .refuse-as .ensures) ∙ c .if1 .left
+
+accepted : (c : tie.Else1)
+    → let a = start (c .before) .args in
+    Accepted compact (a .n) (a .m) (a .cones .now) (a .count) (a .words .now) (solution (a .x .now) (a .s .now) (a .z .now) (a .tau) (a .kappa))
+    (length (a .x-out .now)) (length (a .s-out .now)) (length (a .z-out .now)) (length (a .scalars-out .now))
+accepted c =
+    let a = start (c .before) .args in
+    let sol = solution (a .x .now) (a .s .now) (a .z .now) (a .tau) (a .kappa) in
+    join-accepted compact (a .n) (a .m) (a .cones .now) (a .count) (a .words .now) sol (mapWords (coneMap (joinedParts (a .cones .now) (a .count) (a .words .now))))
+    (length (a .x-out .now)) (length (a .s-out .now)) (length (a .z-out .now)) (length (a .scalars-out .now))
+    (as-joined (a .same) (a .n) (a .m) (a .cones .now) (a .count) (a .words .now) sol (length (a .x-out .now) ∷ length (a .s-out .now) ∷ length (a .z-out .now) ∷ length (a .scalars-out .now) ∷ []) (none c))
+
+decomp-reverse-requires : tie.Need-decomp-reverse-requires
+decomp-reverse-requires c κs =
+    let g = accepted (c .before .before .before) in
+    (g .joinable, (g .columns, g .room-x, g .room-s, g .room-z))
+
+joined-requires : tie.Need-joined-requires
+joined-requires c κs = search needs
+
+write-scalars-requires : tie.Need-write-scalars-requires
+write-scalars-requires c κs =
+    let d = c .before .before .before .before .before .before .before .before in
+    accepted (d .before .before .before .before) .room-scalars
+
+same-length : tie.Need-same-length
+same-length c = search needs
+
+same-length-2 : tie.Need-same-length-2
+same-length-2 c = search needs
+
+same-length-3 : tie.Need-same-length-3
+same-length-3 c = search needs
+
+same-length-4 : tie.Need-same-length-4
+same-length-4 c = search needs
+
+returns-2 : tie.Need-returns-2
+returns-2 c =
+    let w = c .before .before in
+    let j = w .before .before .joined in
+    let d = w .before .before .before .before .before .before .before .before .before in
+    let l = d .before .before .before .before in
+    let a = start (l .before) .args in
+    let put : (old xs ys : List Float) → xs ≡ ys → written xs old ≡ written ys old = λ old xs ys e. ap (λ (l : List Float). written l old) e in
+    let e = d .decomp-reverse .ensures in
+    let parts = joined-parts (a .n) (a .m) (a .cones .now) (a .count) (a .words .now) (a .x .now) (a .s .now) (a .z .now) (a .tau) (a .kappa) compact in
+    let scalars =
+    joined-scalars (a .n) (a .m) (a .cones .now) (a .count) (a .words .now) (a .x .now) (a .s .now) (a .z .now) (a .tau) (a .kappa) compact
+    (j .result .tau) (j .result .kappa) (j .ensures .0) (j .ensures .1) in (
+      sym (none l),
+      e .0 ∙ put (a .x-out .now) _ _ (parts .0),
+      e .1 .0 ∙ put (a .s-out .now) _ _ (parts .1),
+      e .1 .1 ∙ put (a .z-out .now) _ _ (parts .2),
+      w .write-scalars .ensures ∙ put (a .scalars-out .now) _ _ scalars,
+    )
+
+pub join-as-spec : {M : Type 1} → statement M
+join-as-spec =
+    tie.close
+    (tie.spec
+    refuse-as-requires
+    returns
+    decomp-reverse-requires
+    joined-requires
+    write-scalars-requires
+    same-length
+    same-length-2
+    same-length-3
+    same-length-4
+    returns-2)

@@ -1,0 +1,142 @@
+// The joining on the compact route where the cone map is a slice of entries.
+ghost use mathlib.Core.Path.{_≡_};
+ghost use mathlib.Core.List.{[], _∷_, map as mapped};
+ghost use lib.ListN.{length};
+ghost use Rattle.layout.specs.Problem.{one64, compact, solution};
+ghost use Rattle.layout.specs.Answers.{output, joinedParts, joinChecks, joined, scalars as scalarsOf};
+ghost use Rattle.cone_map.specs.Entries.{meant};
+ghost use Rattle.decomp_reverse_entries.specs.Refusals.{refusalAs, entriesRefusal};
+use cone_map::ConeMapEntry;
+use reverse_standard::Scalars;
+
+// Checks 11 and 12 after checks 1 to 10, whose answer is given: the number of the first that fails, or 0. Whether the map is the problem's is
+// given too.
+fn refuse_as(
+    refused: u32,
+    same: bool,
+    n: u32,
+    m: u32,
+    cones: &[u32],
+    count: u32,
+    words: &[u32],
+    x: &[f64],
+    s: &[f64],
+    z: &[f64],
+    x_room: usize,
+    s_room: usize,
+    z_room: usize,
+    scalars_room: usize,
+) -> u32
+    requires { ⌜ refused ≡ joinChecks compact n m (now cones) count (now words) ⌝ }
+    ensures { λ r. ⌜ r ≡ refusalAs same n m (now (cones .entry)) count (now (words .entry)) (solution (now (x .entry)) (now (s .entry)) (now (z .entry)) one64 one64) («x_room» ∷ «s_room» ∷ «z_room» ∷ «scalars_room» ∷ []) ⌝ }
+{
+    if refused != 0 {
+        return refused;
+    }
+    if !decomp_reverse::room_enough(n, m, x_room, s_room, z_room, scalars_room) {
+        return 11;
+    }
+    if !decomp_reverse::solution_fits(1, n, m, cones, count, words, x, s, z) {
+        return 12;
+    }
+    if !same {
+        return 12;
+    }
+    0
+}
+
+// The joining where checks 1 to 10 have answered and the map is compared.
+fn join_as(
+    n: u32,
+    m: u32,
+    cones: &[u32],
+    count: u32,
+    words: &[u32],
+    x: &[f64],
+    s: &[f64],
+    z: &[f64],
+    tau: f64,
+    kappa: f64,
+    refused: u32,
+    same: bool,
+    x_out: &mut [f64],
+    s_out: &mut [f64],
+    z_out: &mut [f64],
+    scalars_out: &mut [f64],
+) -> u32
+    requires { ⌜ refused ≡ joinChecks compact n m (now cones) count (now words) ⌝ }
+    ensures { λ r. ⌜ (r ≡ refusalAs same n m (now (cones .entry)) count (now (words .entry)) (solution (now (x .entry)) (now (s .entry)) (now (z .entry)) tau kappa) (length (now («x_out» .entry)) ∷ length (now («s_out» .entry)) ∷ length (now («z_out» .entry)) ∷ length (now («scalars_out» .entry)) ∷ [])) × (now («x_out» .exit) ≡ output r (joined compact n m (joinedParts (now (cones .entry)) count (now (words .entry))) (solution (now (x .entry)) (now (s .entry)) (now (z .entry)) tau kappa) .x) (now («x_out» .entry))) × (now («s_out» .exit) ≡ output r (joined compact n m (joinedParts (now (cones .entry)) count (now (words .entry))) (solution (now (x .entry)) (now (s .entry)) (now (z .entry)) tau kappa) .s) (now («s_out» .entry))) × (now («z_out» .exit) ≡ output r (joined compact n m (joinedParts (now (cones .entry)) count (now (words .entry))) (solution (now (x .entry)) (now (s .entry)) (now (z .entry)) tau kappa) .z) (now («z_out» .entry))) × (now («scalars_out» .exit) ≡ output r (scalarsOf (joined compact n m (joinedParts (now (cones .entry)) count (now (words .entry))) (solution (now (x .entry)) (now (s .entry)) (now (z .entry)) tau kappa))) (now («scalars_out» .entry))) ⌝ }
+{
+    let r = refuse_as(
+        refused,
+        same,
+        n,
+        m,
+        cones,
+        count,
+        words,
+        x,
+        s,
+        z,
+        x_out.len(),
+        s_out.len(),
+        z_out.len(),
+        scalars_out.len(),
+    );
+    if r != 0 {
+        return r;
+    }
+    decomp_reverse::decomp_reverse(1, n, m, cones, count, words, x, s, z, x_out, s_out, z_out);
+    let scalars = Scalars {
+        tau: tau,
+        kappa: kappa,
+    };
+    decomp_reverse::write_scalars(scalars.joined(), scalars_out);
+    0
+}
+
+// A solution of the compact route's augmented problem joined to one of the original: x, s, z, and τ and κ.
+pub fn join_compact_entries(
+    n: u32,
+    m: u32,
+    cones: &[u32],
+    count: u32,
+    words: &[u32],
+    x: &[f64],
+    s: &[f64],
+    z: &[f64],
+    tau: f64,
+    kappa: f64,
+    map: &[ConeMapEntry],
+    x_out: &mut [f64],
+    s_out: &mut [f64],
+    z_out: &mut [f64],
+    scalars_out: &mut [f64],
+) -> u32
+    ensures { λ r. ⌜ r ≡ entriesRefusal n m (now (cones .entry)) count (now (words .entry)) (solution (now (x .entry)) (now (s .entry)) (now (z .entry)) tau kappa) (mapped meant (now (map .entry))) (length (now («x_out» .entry)) ∷ length (now («s_out» .entry)) ∷ length (now («z_out» .entry)) ∷ length (now («scalars_out» .entry)) ∷ []) ⌝ }
+    ensures { λ r. ⌜ now («x_out» .exit) ≡ output r (joined compact n m (joinedParts (now (cones .entry)) count (now (words .entry))) (solution (now (x .entry)) (now (s .entry)) (now (z .entry)) tau kappa) .x) (now («x_out» .entry)) ⌝ }
+    ensures { λ r. ⌜ now («s_out» .exit) ≡ output r (joined compact n m (joinedParts (now (cones .entry)) count (now (words .entry))) (solution (now (x .entry)) (now (s .entry)) (now (z .entry)) tau kappa) .s) (now («s_out» .entry)) ⌝ }
+    ensures { λ r. ⌜ now («z_out» .exit) ≡ output r (joined compact n m (joinedParts (now (cones .entry)) count (now (words .entry))) (solution (now (x .entry)) (now (s .entry)) (now (z .entry)) tau kappa) .z) (now («z_out» .entry)) ⌝ }
+    ensures { λ r. ⌜ now («scalars_out» .exit) ≡ output r (scalarsOf (joined compact n m (joinedParts (now (cones .entry)) count (now (words .entry))) (solution (now (x .entry)) (now (s .entry)) (now (z .entry)) tau kappa))) (now («scalars_out» .entry)) ⌝ }
+{
+    let refused = decomp_reverse::check_join(1, n, m, cones, count, words);
+    let same = cone_maps::same_map(refused, m, cones, count, words, map);
+    join_as(
+        n,
+        m,
+        cones,
+        count,
+        words,
+        x,
+        s,
+        z,
+        tau,
+        kappa,
+        refused,
+        same,
+        x_out,
+        s_out,
+        z_out,
+        scalars_out,
+    )
+}
