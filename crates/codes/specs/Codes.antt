@@ -2,14 +2,8 @@
 use Prim.Native.Nat.{ℕ, _+_}
 use Rattle.layout.specs.Blocks.{Row, kept, owned, overlap}
 
--- for the compact cut: the original row that moves there, or the row that an overlap is tied to, above the original rows
+-- the original row that moves there, or the row that an overlap is tied to, above the original rows
 abbrev pub cutCode : Row → ℕ
 cutCode (kept o) = o
 cutCode (owned o) = o
 cutCode (overlap o r) = 65536 + r
-
--- for the compact joining: the original row, above the original rows where its value is copied and not added
-abbrev pub joinCode : Row → ℕ
-joinCode (kept o) = 65536 + o
-joinCode (owned o) = o
-joinCode (overlap o r) = o

@@ -4,7 +4,7 @@ use native.Mathlib.Omega.{arith}
 use mathlib.Core.Path.{_≡_, refl, sym, ap, ap₂, subst, _∙_}
 use mathlib.Core.Bool.{Bool, true, false}
 use mathlib.Core.List.{List, [], _∷_, _++_, map, map-map}
-use lib.ListN.{length, getD, take, drop, length-append, length-map, length-replicate, length-drop, List·getD-append}
+use lib.ListN.{length, getD, drop, length-map, length-drop, List·getD-append}
 use lib.Seq.{take-all, getD-append-add}
 use lib.Dec.{T, eqb, eqb→eq, eqb-refl}
 use lib.Ieee.{Float, nan}
@@ -16,7 +16,7 @@ use Rattle.layout.specs.Patterns.{cliqueCount}
 use Rattle.layout.specs.Blocks.{Part, whole, cut, standardRows, partRows, blockRowCount}
 use Rattle.layout.specs.Reverse.{addAt, columnCount, averaged}
 use Rattle.layout.proofs.Members.{getD-map, getD-below, length-upFrom, has-below}
-use Rattle.layout.proofs.Keeps.{append-nil, map-append}
+use Rattle.layout.proofs.Keeps.{map-append}
 use Rattle.layout.proofs.Joins.{map-same}
 use Rattle.layout.proofs.Counting.{count-append, count-map, count-same, count-nowhere, count-once}
 use Rattle.layout.proofs.Starts.{part-at}

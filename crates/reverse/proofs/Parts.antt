@@ -1,32 +1,27 @@
 -- Part after part, the joined values are those of the layout.
-use Prim.Native.Nat.{ℕ, zero, suc, _+_, _-_, _≤_, _<_}
+use Prim.Native.Nat.{ℕ, _+_, _-_, _≤_}
 use native.Mathlib.Omega.{arith}
-use mathlib.Core.Path.{_≡_, refl, sym, ap, ap₂, subst, _∙_}
-use mathlib.Core.Logic.{inl, inr}
+use mathlib.Core.Path.{_≡_, refl, sym, ap, ap₂, _∙_}
 use mathlib.Core.Bool.{Bool, true, false}
-use mathlib.Core.List.{List, [], _∷_, _++_, map, reverse, append-assoc, map-map, map-id}
-use lib.ListN.{length, getD, take, drop, replicate, length-set, length-append, length-drop, length-map, length-replicate, replicate-append-replicate, List·getD-append}
-use lib.Seq.{length-take-le, getD-append-add, take-length}
-use lib.Dec.{T, eqb}
+use mathlib.Core.List.{List, [], _∷_, _++_, map, reverse, append-assoc, map-id}
+use lib.ListN.{length, getD, take, drop, replicate, length-set, length-append, length-drop, length-map, length-replicate, replicate-append-replicate}
+use lib.Seq.{length-take-le}
 use lib.Ieee.{Float, nan, add, binary64}
-use borrow.Author.Tests.{eqb-true}
 use Rattle.layout.specs.Lists.{has, sum, upFrom, below, walk}
 use Rattle.layout.specs.Triangle.{triangle}
 use Rattle.layout.specs.Problem.{zero64}
 use Rattle.layout.specs.Cones.{rowCount}
 use Rattle.layout.specs.Patterns.{Pattern, cliqueCount}
-use Rattle.layout.specs.Blocks.{Part, whole, cut, Row, kept, originalRow, patternRows, rowsFrom, compactRows, standardRows, partRows, blockRows, blockRowCount}
-use Rattle.layout.specs.Checks.{Sound, RightPattern}
-use Rattle.layout.specs.Answers.{joinedParts}
-use Rattle.layout.specs.Reverse.{addAt, putAt, addRow, putRow, addRows, putRows, addColumns, columnCount, averaged}
+use Rattle.layout.specs.Blocks.{Part, whole, cut, Row, kept, originalRow, patternRows, rowsFrom, standardRows, partRows, blockRowCount}
+use Rattle.layout.specs.Reverse.{addAt, putAt, addRow, putRow, addRows, putRows, addColumns, averaged}
 use Rattle.layout.proofs.Members.{length-upFrom}
 use Rattle.layout.proofs.Walks.{walk-append, walk-as, length-walk}
 use Rattle.layout.proofs.Rows.{rows-count}
-use Rattle.layout.proofs.Laid.{Laid, coneRows, sound-laid, sound-total}
+use Rattle.layout.proofs.Laid.{Laid, coneRows}
 use Rattle.blocks.specs.Codes.{standardPatternRows}
 use Rattle.blocks.proofs.Patterns.{original-rows, standard-rows-count}
 use Rattle.reverse_blocks.specs.Joins.{joinZ, ownRows}
-use Rattle.reverse_cones.specs.Parts.{wholeValues, sCut, zCut, sPart, zPart, valuesFrom}
+use Rattle.reverse_cones.specs.Parts.{sCut, zCut, sPart, zPart, valuesFrom}
 use Rattle.reverse_cones.proofs.Laws.{length-whole}
 use Rattle.reverse.proofs.Stretch.{joinAt, shifted, fresh, pairRows, rows-shifted, rows-inside, adds-all}
 

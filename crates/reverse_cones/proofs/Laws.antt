@@ -1,15 +1,13 @@
 -- Parts of buffers that were lent and written, and the counts of the standard route.
-use Prim.Native.Nat.{ℕ, _+_, _-_, _≤_, _<_}
+use Prim.Native.Nat.{ℕ, _+_, _-_, _≤_}
 use native.Mathlib.Omega.{arith}
-use mathlib.Core.Path.{_≡_, refl, sym, ap, _∙_}
+use mathlib.Core.Path.{_≡_, refl, sym, ap}
 use mathlib.Core.Bool.{Bool, true, false}
-use mathlib.Core.List.{List, _++_, map}
-use lib.ListN.{length, getD, take, drop, length-drop, length-map}
+use mathlib.Core.List.{List, _++_}
+use lib.ListN.{length, take, drop, length-drop, length-map}
 use lib.Seq.{take-all}
 use lib.Ieee.{Float, add, binary64}
-use Rattle.layout.specs.Lists.{below}
 use Rattle.layout.specs.Problem.{zero64}
-use Rattle.layout.specs.Reverse.{columnCount}
 use Rattle.reverse_standard.proofs.Laws.{averages}
 use Rattle.reverse_blocks.specs.Joins.{Counts, Countable}
 use Rattle.reverse_cones.specs.Parts.{wholeValues, zAveraged, zAveragedBy, writtenAt, CountsRows, Cleared}

@@ -8,7 +8,7 @@ use lib.Seq.{length-take-le}
 use Rattle.layout.specs.Lists.{upFrom, written}
 use Rattle.layout.specs.Cones.{Cone, rowCount}
 use Rattle.layout.specs.Patterns.{Pattern}
-use Rattle.layout.specs.Blocks.{Part, cut, originalRow, patternRows}
+use Rattle.layout.specs.Blocks.{Part, cut, patternRows}
 use Rattle.layout.specs.Compact.{coneWords, wholeCone, entryWords, compactPart, mapPart, mapWords}
 use Rattle.layout.specs.Standard.{standardPart}
 use Rattle.codes.specs.Codes.{cutCode}
@@ -18,7 +18,7 @@ use Rattle.blocks.proofs.Writing.{written-next}
 use Rattle.tables.specs.Tables.{wholeCodes, cutCodes, partCodes, codesFrom}
 use Rattle.tables.proofs.Laws.{part-done}
 use Rattle.tables.specs.declared.Table.{Table}
-use Rattle.tables.specs.declared.Table.the-variants.{HRows, JoinRows, CutRows, StandardCones, CompactCones, ConeMap}
+use Rattle.tables.specs.declared.Table.the-variants.{HRows, CutRows, StandardCones, CompactCones, ConeMap}
 
 -- a list by another name: its length, and that it was written
 pub renamed : (codes xs : List ℕ) → codes ≡ xs → (r : ℕ) (old new : List ℕ) → r ≡ length xs → new ≡ written xs old
@@ -29,10 +29,6 @@ module _ (table : Table) (i : ℕ) (c : Cone) (row : ℕ) where
   pub whole-h : table ≡ HRows → wholeCodes table i c row ≡ upFrom row (rowCount c)
   unfolding wholeCodes
   whole-h e = ap (λ (t : Table). wholeCodes t i c row) e
-
-  pub whole-join : table ≡ JoinRows → wholeCodes table i c row ≡ upFrom (65536 + row) (rowCount c)
-  unfolding wholeCodes
-  whole-join e = ap (λ (t : Table). wholeCodes t i c row) e
 
   pub whole-cut : table ≡ CutRows → wholeCodes table i c row ≡ upFrom row (rowCount c)
   unfolding wholeCodes
@@ -54,10 +50,6 @@ module _ (table : Table) (t i row k : ℕ) (p : Pattern) where
   pub cut-h : table ≡ HRows → cutCodes table t i row k p ≡ standardPatternRows p row
   unfolding cutCodes
   cut-h e = ap (λ (x : Table). cutCodes x t i row k p) e
-
-  pub cut-join : table ≡ JoinRows → cutCodes table t i row k p ≡ map originalRow (patternRows p row t)
-  unfolding cutCodes
-  cut-join e = ap (λ (x : Table). cutCodes x t i row k p) e
 
   pub cut-cut : table ≡ CutRows → cutCodes table t i row k p ≡ map cutCode (patternRows p row t)
   unfolding cutCodes

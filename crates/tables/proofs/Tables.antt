@@ -2,14 +2,13 @@
 use Prim.Native.Nat.{ℕ, zero, suc, _+_, _*_, _≤_}
 use native.Mathlib.Omega.{arith}
 use mathlib.Core.Path.{_≡_, refl, sym, ap, ap₂, _∙_}
-use mathlib.Core.Bool.{Bool, true, false, cond}
-use mathlib.Core.List.{List, [], _∷_, _++_, map, reverse}
+use mathlib.Core.List.{List, [], _∷_, _++_, map}
 use lib.ListN.{length, length-append, length-map}
 use Rattle.layout.specs.Lists.{upFrom, below, join}
-use Rattle.layout.specs.Triangle.{triangle, pairIndex}
+use Rattle.layout.specs.Triangle.{triangle}
 use Rattle.layout.specs.Cones.{Cone, rowCount}
-use Rattle.layout.specs.Patterns.{Pattern, cliqueAt, cliqueCount}
-use Rattle.layout.specs.Blocks.{Part, whole, cut, Pair, pair, Row, kept, owned, overlap, originalRow, block, pairRow, rowOf, inSeparator, parentRow, patternRows, rowsFrom, standardRows, blockRows, blockRowCount}
+use Rattle.layout.specs.Patterns.{Pattern, cliqueCount}
+use Rattle.layout.specs.Blocks.{Part, whole, cut, Row, kept, block, pairRow, patternRows, rowsFrom, standardRows, blockRows, blockRowCount}
 use Rattle.layout.specs.Checks.{RightPattern}
 use Rattle.layout.specs.Compact.{entryWords, compactPart, mapPart, coneMap, mapWords}
 use Rattle.layout.specs.Standard.{standardPart}
@@ -19,12 +18,11 @@ use Rattle.layout.proofs.Keeps.{map-append}
 use Rattle.layout.proofs.Rows.{rows-count}
 use Rattle.layout.proofs.Laid.{Laid, length-rows}
 use Rattle.layout.proofs.Sizes.{partCones, coneCount, standard-count}
-use Rattle.codes.specs.Codes.{cutCode, joinCode}
-use Rattle.blocks.proofs.Patterns.{map-join, down-same}
+use Rattle.codes.specs.Codes.{cutCode}
 use Rattle.tables.specs.Tables.{tableOf, tableLength, wholeCodes, cutCodes, partCodes, codesFrom, Few}
 use Rattle.tables.proofs.Cones.{standard-words, compact-words, map-words}
 use Rattle.tables.specs.declared.Table.{Table}
-use Rattle.tables.specs.declared.Table.the-variants.{HRows, JoinRows, CutRows, StandardCones, CompactCones, ConeMap}
+use Rattle.tables.specs.declared.Table.the-variants.{HRows, CutRows, StandardCones, CompactCones, ConeMap}
 
 -- ---- tables that do not depend on what was written before
 
@@ -111,41 +109,10 @@ cut-rows t row ps h = coded-by CutRows cutCode keeps cuts t row ps h
     cuts : (t i row k : ℕ) (p : Pattern) → cutCodes CutRows t i row k p ≡ map cutCode (patternRows p row t)
     cuts t i row k p = refl
 
--- no row of a pattern is one of a whole cone
-join-originals : (p : Pattern) (base first : ℕ) → map joinCode (patternRows p base first) ≡ map originalRow (patternRows p base first)
-join-originals p base first =
-    map-join joinCode rows (reverse (below (cliqueCount p)))
-    ∙ down-same (λ c. map joinCode (rows c)) (λ c. map originalRow (rows c)) (cliqueCount p) (λ c l. same c (block p c))
-    ∙ sym (map-join originalRow rows (reverse (below (cliqueCount p))))
-  where
-    rows : ℕ → List Row
-    rows c = map (rowOf p base first c) (block p c)
-
-    one : (b : Bool) (o r : ℕ) → joinCode (cond b (overlap o r) (owned o)) ≡ originalRow (cond b (overlap o r) (owned o))
-    one true o r = refl
-    one false o r = refl
-
-    same : (c : ℕ) (xs : List Pair) → map joinCode (map (rowOf p base first c) xs) ≡ map originalRow (map (rowOf p base first c) xs)
-    same c [] = refl
-    same c (pair i j ∷ xs) =
-        ap₂ {C = List ℕ} (λ x ys. x ∷ ys)
-        (one (inSeparator p c (pair i j)) (base + pairIndex i j) (parentRow p first (cliqueAt p c .parent) (pair i j))) (same c xs)
-
-join-rows : (t row : ℕ) (ps : List Part) → Laid row ps → codesFrom JoinRows t ps ≡ map joinCode (rowsFrom t ps)
-unfolding wholeCodes cutCodes
-join-rows t row ps h = coded-by JoinRows joinCode keeps cuts t row ps h
-  where
-    keeps : (i : ℕ) (c : Cone) (row : ℕ) → wholeCodes JoinRows i c row ≡ map joinCode (map kept (upFrom row (rowCount c)))
-    keeps i c row = sym (kept-up joinCode 65536 (λ o. refl) row (rowCount c))
-
-    cuts : (t i row k : ℕ) (p : Pattern) → cutCodes JoinRows t i row k p ≡ map joinCode (patternRows p row t)
-    cuts t i row k p = sym (join-originals p row t)
-
 -- ---- the table from the first part on is the layout's
 
 pub table-is : (table : Table) (ps : List Part) → Laid 0 ps → codesFrom table 0 ps ≡ tableOf table ps
 table-is HRows ps h = h-rows 0 ps
-table-is JoinRows ps h = join-rows 0 0 ps h
 table-is CutRows ps h = cut-rows 0 0 ps h
 table-is StandardCones ps h = standard-cones 0 ps
 table-is CompactCones ps h = compact-cones 0 ps
@@ -159,7 +126,6 @@ cones-length f h (x ∷ ps) = omega (arith, length-append (f x) (join f ps), h x
 
 pub table-length : (table : Table) (ps : List Part) → Laid 0 ps → length (tableOf table ps) ≡ tableLength table ps
 table-length HRows ps h = standard-count 0 ps h
-table-length JoinRows ps h = length-map (rowsFrom 0 ps) joinCode ∙ length-rows 0 0 ps h
 table-length CutRows ps h = length-map (rowsFrom 0 ps) cutCode ∙ length-rows 0 0 ps h
 table-length StandardCones ps h = cones-length standardPart part ps
   where
@@ -183,7 +149,6 @@ pub few-part : (table : Table) (ps : List Part) → Laid 0 ps → Few table (blo
     → t + length (cutCodes table t i row k p) ≤ length (codesFrom table 0 ps) → Few table (t + blockRows p)
 unfolding cutCodes
 few-part HRows ps laid few t i row k p ok fits = tt
-few-part JoinRows ps laid few t i row k p ok fits = tt
 few-part StandardCones ps laid few t i row k p ok fits = tt
 few-part CompactCones ps laid few t i row k p ok fits = tt
 few-part ConeMap ps laid few t i row k p ok fits = tt

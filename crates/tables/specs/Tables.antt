@@ -5,19 +5,18 @@ use lib.ListN.{length}
 use Rattle.layout.specs.Lists.{join, upFrom}
 use Rattle.layout.specs.Cones.{Cone, rowCount}
 use Rattle.layout.specs.Patterns.{Pattern}
-use Rattle.layout.specs.Blocks.{Part, whole, cut, originalRow, patternRows, compactRows, standardRows, blockRowCount}
+use Rattle.layout.specs.Blocks.{Part, whole, cut, patternRows, compactRows, standardRows, blockRowCount}
 use Rattle.layout.specs.Compact.{compactPart, coneMap, mapPart, mapWords}
 use Rattle.layout.specs.Standard.{standardPart}
 use Rattle.layout.proofs.Sizes.{coneCount}
-use Rattle.codes.specs.Codes.{cutCode, joinCode}
+use Rattle.codes.specs.Codes.{cutCode}
 use Rattle.blocks.specs.Codes.{standardPatternRows}
 use Rattle.tables.specs.declared.Table.{Table}
-use Rattle.tables.specs.declared.Table.the-variants.{HRows, JoinRows, CutRows, StandardCones, CompactCones, ConeMap}
+use Rattle.tables.specs.declared.Table.the-variants.{HRows, CutRows, StandardCones, CompactCones, ConeMap}
 
 -- the table of the parts
 abbrev pub tableOf : Table → List Part → List ℕ
 tableOf HRows ps = standardRows ps
-tableOf JoinRows ps = map joinCode (compactRows ps)
 tableOf CutRows ps = map cutCode (compactRows ps)
 tableOf StandardCones ps = join standardPart ps
 tableOf CompactCones ps = join compactPart ps
@@ -26,7 +25,6 @@ tableOf ConeMap ps = mapWords (coneMap ps)
 -- how many words it has
 abbrev pub tableLength : Table → List Part → ℕ
 tableLength HRows ps = blockRowCount ps
-tableLength JoinRows ps = blockRowCount ps
 tableLength CutRows ps = blockRowCount ps
 tableLength StandardCones ps = coneCount ps * 3
 tableLength CompactCones ps = coneCount ps * 3
@@ -35,7 +33,6 @@ tableLength ConeMap ps = coneCount ps * 3
 -- augmented rows are few where the table holds them
 abbrev pub Few : Table → ℕ → Type 0
 Few HRows n = Unit {0}
-Few JoinRows n = Unit {0}
 Few CutRows n = n ≤ 262144
 Few StandardCones n = Unit {0}
 Few CompactCones n = Unit {0}
@@ -46,7 +43,6 @@ Few ConeMap n = Unit {0}
 -- a whole cone, number i with record c, from its first row on
 unfoldable pub wholeCodes : Table → ℕ → Cone → ℕ → List ℕ
 wholeCodes HRows i c row = upFrom row (rowCount c)
-wholeCodes JoinRows i c row = upFrom (65536 + row) (rowCount c)
 wholeCodes CutRows i c row = upFrom row (rowCount c)
 wholeCodes StandardCones i c row = standardPart (whole i c row)
 wholeCodes CompactCones i c row = compactPart (whole i c row)
@@ -55,7 +51,6 @@ wholeCodes ConeMap i c row = mapWords (mapPart (whole i c row))
 -- cone i cut by pattern p, number k, where t words are written before: among the compact rows t is its first row
 unfoldable pub cutCodes : Table → ℕ → ℕ → ℕ → ℕ → Pattern → List ℕ
 cutCodes HRows t i row k p = standardPatternRows p row
-cutCodes JoinRows t i row k p = map originalRow (patternRows p row t)
 cutCodes CutRows t i row k p = map cutCode (patternRows p row t)
 cutCodes StandardCones t i row k p = standardPart (cut i row k p)
 cutCodes CompactCones t i row k p = compactPart (cut i row k p)

@@ -30,7 +30,6 @@ const NO_PATTERN: u32 = 4294967295;
 // The rows of H; the compact route's rows, coded for its joining and for its cut; the cones of either route; the cone map.
 pub enum Table {
     HRows,
-    JoinRows,
     CutRows,
     StandardCones,
     CompactCones,
@@ -93,7 +92,6 @@ fn write_whole(table: Table, i: usize, row: u32, rows: u32, cones: &[u32], out: 
 {
     match table {
         Table::HRows => count_up(out, row, rows),
-        Table::JoinRows => count_up(out, 65536 + row, rows),
         Table::CutRows => count_up(out, row, rows),
         Table::StandardCones => copy_record(cones, i, out),
         Table::CompactCones => copy_record(cones, i, out),
@@ -239,7 +237,6 @@ fn write_cut(
 {
     match table {
         Table::HRows => blocks::standard_pattern_rows(words, at, row, out),
-        Table::JoinRows => blocks::compact_pattern_originals(words, at, row, out),
         Table::CutRows => overlaps::compact_pattern_rows(words, at, row, t as u32, out),
         Table::StandardCones => standard_pattern_cones(words, at, out),
         Table::CompactCones => compact_pattern_cones(words, at, out),

@@ -7,7 +7,7 @@ use lib.Seq.{length-take-le}
 use lib.Ieee.{Float}
 use Rattle.layout.specs.Lists.{sum, part}
 use Rattle.layout.specs.Triangle.{triangle}
-use Rattle.layout.specs.Cones.{records, rowCount}
+use Rattle.layout.specs.Cones.{records}
 use Rattle.layout.specs.Patterns.{Pattern}
 use Rattle.layout.specs.Blocks.{Part, whole, cut, partRows, blockRows, blockRowCount}
 use Rattle.layout.specs.Checks.{noCone}

@@ -1,7 +1,7 @@
 use mathlib.Core.Path.{sym, subst}
 use mathlib.Core.Bool.{Bool, true}
 use mathlib.Core.List.{[], _∷_}
-use Prim.Native.Nat.{suc, _+_, _<_}
+use Prim.Native.Nat.{suc, _+_}
 use lib.ListN.{getD, set}
 use Rattle.reverse_blocks.specs.Joins.{Counts, Countable}
 use Rattle.reverse_blocks.proofs.Laws.{counts-one}

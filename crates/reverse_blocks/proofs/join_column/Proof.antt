@@ -1,16 +1,15 @@
 use Prim.Native.Nat.{ℕ, suc, _≤_, _<_, _-_, _+_, _*_, _/_}
 use mathlib.Core.Path.{_≡_, refl, ap, sym, subst, _∙_}
-use mathlib.Core.Bool.{Bool}
 use mathlib.Core.List.{List, [], _∷_, _++_}
 use native.Mathlib.Numerals.{add-one}
 use lib.ListN.{length, getD, take, set, length-set}
 use lib.Seq.{take-suc, take-all, length-take-le}
-use lib.Ieee.{Float, nan, add, binary64}
+use lib.Ieee.{nan, add, binary64}
 use Rattle.layout.specs.Reverse.{addAt, addColumns}
 use Rattle.layout.specs.Blocks.{pairRow}
 use Rattle.blocks.proofs.Columns.{rises-le, length-column, row-at}
 use Rattle.layout.proofs.Buffers.{take-none}
-use Rattle.reverse_blocks.specs.Joins.{zValue, zAt, joinZ, Counts, columnRows}
+use Rattle.reverse_blocks.specs.Joins.{zAt, joinZ, Counts, columnRows}
 use Rattle.reverse_blocks.proofs.Laws.{z-stored, walk-one, counts-none, counts-more, countable-less, countable-left}
 use native.Mathlib.Omega.{arith}
 use borrow.Author.Needs.{needs}

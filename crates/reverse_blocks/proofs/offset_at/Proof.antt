@@ -3,7 +3,6 @@ use mathlib.Core.Bool.{Bool}
 use lib.ListN.{getD}
 use Rattle.reverse_blocks.specs.Joins.{inOrder}
 use Rattle.reverse_blocks.proofs.Laws.{reverse-at}
-use native.Mathlib.Omega.{arith}
 use borrow.Author.Needs.{needs}
 use Rattle.reverse_blocks.proofs.offset_at.Statement.{statement}
 use Rattle.reverse_blocks.proofs.offset_at.Tie as tie

@@ -2,7 +2,6 @@ use mathlib.Core.Path.{ap, sym, subst, _∙_}
 use mathlib.Core.Bool.{Bool}
 use lib.ListN.{length}
 use Rattle.reverse_cones.specs.Parts.{zAveragedBy, CountsRows}
-use native.Mathlib.Omega.{arith}
 use borrow.Author.Needs.{needs}
 use Rattle.reverse_cones.proofs.average.Statement.{statement}
 use Rattle.reverse_cones.proofs.average.Tie as tie

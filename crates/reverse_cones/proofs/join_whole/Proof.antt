@@ -1,11 +1,11 @@
 use Prim.Native.Nat.{ℕ, _+_, _-_}
-use mathlib.Core.Path.{_≡_, ap, sym, _∙_}
+use mathlib.Core.Path.{_≡_, ap, _∙_}
 use mathlib.Core.List.{List, _++_}
 use lib.ListN.{length, take, drop, length-drop}
 use lib.Seq.{length-take-le}
 use lib.Ieee.{Float}
 use Rattle.layout.specs.Lists.{part}
-use Rattle.reverse_cones.specs.Parts.{wholeValues, writtenAt}
+use Rattle.reverse_cones.specs.Parts.{wholeValues}
 use Rattle.reverse_cones.proofs.Laws.{replaced, length-whole}
 use native.Mathlib.Omega.{arith}
 use borrow.Author.Needs.{needs}

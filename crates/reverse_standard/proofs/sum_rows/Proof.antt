@@ -1,7 +1,7 @@
 use Prim.Native.Nat.{_≤_, _-_}
 use mathlib.Core.Path.{_≡_, ap, sym, _∙_}
 use mathlib.Core.List.{List, map, _++_}
-use lib.ListN.{length, take, drop, set, length-set, length-map, drop-of-length-le}
+use lib.ListN.{length, take, set, length-set, length-map, drop-of-length-le}
 use lib.Ieee.{Float, nan, add, binary64, ofBits}
 use Rattle.layout.specs.Lists.{written}
 use Rattle.layout.specs.Problem.{zero64}

@@ -4,25 +4,24 @@ use mathlib.Core.List.{map}
 use lib.ListN.{length}
 use mathlib.Core.Path.{subst}
 use lib.ListN.{length-map}
-use Rattle.layout.specs.Blocks.{cut, originalRow, patternRows, blockRows}
+use Rattle.layout.specs.Blocks.{cut, patternRows, blockRows}
 use Rattle.layout.specs.Compact.{compactPart, mapPart, mapWords}
 use Rattle.layout.specs.Standard.{standardPart}
 use Rattle.layout.proofs.Rows.{rows-count}
 use Rattle.codes.specs.Codes.{cutCode}
 use Rattle.supernode_tree.specs.Reads.{patternAt}
 use Rattle.blocks.specs.Codes.{standardPatternRows}
-use Rattle.blocks.proofs.Patterns.{standard-rows-count, original-rows-count}
+use Rattle.blocks.proofs.Patterns.{standard-rows-count}
 use Rattle.tables.specs.Tables.{cutCodes, Few}
 use Rattle.tables.specs.declared.Table.{Table}
 use Rattle.tables.proofs.Cones.{standard-words, compact-words, map-words}
-use Rattle.tables.proofs.Codes.{renamed, cut-h, cut-join, cut-cut, cut-standard, cut-compact, cut-map}
+use Rattle.tables.proofs.Codes.{renamed, cut-h, cut-cut, cut-standard, cut-compact, cut-map}
 use native.Mathlib.Omega.{arith}
 use borrow.Author.Needs.{needs}
 use Rattle.tables.proofs.write_cut.Statement.{statement}
 use Rattle.tables.proofs.write_cut.Tie as tie
 use Rattle.tables.proofs.write_cut.Reads as reads
 use Rattle.tables.proofs.write_cut.Lts as lts
-use Rattle.blocks.proofs.compact_pattern_originals.Reads as compact-pattern-originals-reads
 use Rattle.blocks.proofs.standard_pattern_rows.Reads as standard-pattern-rows-reads
 use Rattle.overlaps.proofs.compact_pattern_rows.Reads as compact-pattern-rows-reads
 use Rattle.tables.proofs.compact_pattern_cones.Reads as compact-pattern-cones-reads
@@ -38,53 +37,45 @@ rows-h c =
     let a = c .before .before .before .before .args in
     cut-h (a .table) (a .t) (a .i) (a .row) (a .k) (patternAt (a .words .now) (a .at)) (c .enum-told .given .1)
 
-rows-join : (c : tie.After-enum-told2)
-    → let a = c .before .before .before .before .args in
-    let p = patternAt (a .words .now) (a .at) in
-    cutCodes (a .table) (a .t) (a .i) (a .row) (a .k) p ≡ map originalRow (patternRows p (a .row) (a .t))
-rows-join c =
-    let a = c .before .before .before .before .args in
-    cut-join (a .table) (a .t) (a .i) (a .row) (a .k) (patternAt (a .words .now) (a .at)) (c .enum-told2 .given .1)
-
-rows-cut : (c : tie.After-enum-told3)
+rows-cut : (c : tie.After-enum-told2)
     → let a = c .before .before .before .before .args in
     let p = patternAt (a .words .now) (a .at) in
     cutCodes (a .table) (a .t) (a .i) (a .row) (a .k) p ≡ map cutCode (patternRows p (a .row) (a .t))
 rows-cut c =
     let a = c .before .before .before .before .args in
-    cut-cut (a .table) (a .t) (a .i) (a .row) (a .k) (patternAt (a .words .now) (a .at)) (c .enum-told3 .given .1)
+    cut-cut (a .table) (a .t) (a .i) (a .row) (a .k) (patternAt (a .words .now) (a .at)) (c .enum-told2 .given .1)
 
-words-standard : (c : tie.After-enum-told4)
+words-standard : (c : tie.After-enum-told3)
     → let a = c .before .before .before .before .args in
     let p = patternAt (a .words .now) (a .at) in
     cutCodes (a .table) (a .t) (a .i) (a .row) (a .k) p ≡ standardPart (cut (a .i) (a .row) (a .k) p)
 words-standard c =
     let a = c .before .before .before .before .args in
-    cut-standard (a .table) (a .t) (a .i) (a .row) (a .k) (patternAt (a .words .now) (a .at)) (c .enum-told4 .given .1)
+    cut-standard (a .table) (a .t) (a .i) (a .row) (a .k) (patternAt (a .words .now) (a .at)) (c .enum-told3 .given .1)
 
-words-compact : (c : tie.After-enum-told5)
+words-compact : (c : tie.After-enum-told4)
     → let a = c .before .before .before .before .args in
     let p = patternAt (a .words .now) (a .at) in
     cutCodes (a .table) (a .t) (a .i) (a .row) (a .k) p ≡ compactPart (cut (a .i) (a .row) (a .k) p)
 words-compact c =
     let a = c .before .before .before .before .args in
-    cut-compact (a .table) (a .t) (a .i) (a .row) (a .k) (patternAt (a .words .now) (a .at)) (c .enum-told5 .given .1)
+    cut-compact (a .table) (a .t) (a .i) (a .row) (a .k) (patternAt (a .words .now) (a .at)) (c .enum-told4 .given .1)
 
-words-map : (c : tie.After-enum-told6)
+words-map : (c : tie.After-enum-told5)
     → let a = c .before .before .before .before .args in
     let p = patternAt (a .words .now) (a .at) in
     cutCodes (a .table) (a .t) (a .i) (a .row) (a .k) p ≡ mapWords (mapPart (cut (a .i) (a .row) (a .k) p))
 words-map c =
     let a = c .before .before .before .before .args in
-    cut-map (a .table) (a .t) (a .i) (a .row) (a .k) (patternAt (a .words .now) (a .at)) (c .enum-told6 .given .1)
+    cut-map (a .table) (a .t) (a .i) (a .row) (a .k) (patternAt (a .words .now) (a .at)) (c .enum-told5 .given .1)
 
-few : (c : tie.After-enum-told3)
+few : (c : tie.After-enum-told2)
     → let a = c .before .before .before .before .args in
     a .t + blockRows (patternAt (a .words .now) (a .at)) ≤ 262144
 few c =
     let s = c .before .before .before .before in
     let a = s .args in
-    subst (λ (x : Table). Few x (a .t + blockRows (patternAt (a .words .now) (a .at)))) (c .enum-told3 .given .1) (s .pre .1 .0)
+    subst (λ (x : Table). Few x (a .t + blockRows (patternAt (a .words .now) (a .at)))) (c .enum-told2 .given .1) (s .pre .1 .0)
 
 enum-told : tie.Need-enum-told
 enum-told c = search needs
@@ -100,17 +91,6 @@ standard-pattern-rows-requires c κs =
 enum-told-2 : tie.Need-enum-told-2
 enum-told-2 c = search needs
 
-compact-pattern-originals-requires : tie.Need-compact-pattern-originals-requires
-compact-pattern-originals-requires c κs =
-    let s = c .before .before .before .before .before in
-    let a = s .args in
-    let p = patternAt (a .words .now) (a .at) in
-    let ok = s .pre .0 .0 in
-    (ok, ((s .pre .0 .1, s .pre .0 .2), omega (arith, ap length (rows-join (c .before)), original-rows-count p ok (a .row) (a .t), s .pre .1 .1)))
-
-enum-told-3 : tie.Need-enum-told-3
-enum-told-3 c = search needs
-
 cast-compact-pattern-rows : tie.Need-cast-compact-pattern-rows
 cast-compact-pattern-rows c = omega (arith, few c)
 
@@ -122,8 +102,8 @@ compact-pattern-rows-requires c κs =
     let ok = s .pre .0 .0 in
     (ok, ((s .pre .0 .1, s .pre .0 .2), (few (c .before), omega (arith, ap length (rows-cut (c .before)), (length-map (patternRows p (a .row) (a .t)) cutCode ∙ rows-count p ok (a .row) (a .t)), s .pre .1 .1))))
 
-enum-told-4 : tie.Need-enum-told-4
-enum-told-4 c = search needs
+enum-told-3 : tie.Need-enum-told-3
+enum-told-3 c = search needs
 
 standard-pattern-cones-requires : tie.Need-standard-pattern-cones-requires
 standard-pattern-cones-requires c κs =
@@ -133,8 +113,8 @@ standard-pattern-cones-requires c κs =
     let ok = s .pre .0 .0 in
     ((ok, s .pre .0 .1), omega (arith, ap length (words-standard (c .before)), standard-words p (a .i) (a .row) (a .k), s .pre .1 .1))
 
-enum-told-5 : tie.Need-enum-told-5
-enum-told-5 c = search needs
+enum-told-4 : tie.Need-enum-told-4
+enum-told-4 c = search needs
 
 compact-pattern-cones-requires : tie.Need-compact-pattern-cones-requires
 compact-pattern-cones-requires c κs =
@@ -144,8 +124,8 @@ compact-pattern-cones-requires c κs =
     let ok = s .pre .0 .0 in
     ((ok, s .pre .0 .1), omega (arith, ap length (words-compact (c .before)), compact-words p (a .i) (a .row) (a .k), s .pre .1 .1))
 
-enum-told-6 : tie.Need-enum-told-6
-enum-told-6 c = search needs
+enum-told-5 : tie.Need-enum-told-5
+enum-told-5 c = search needs
 
 cut-entries-requires : tie.Need-cut-entries-requires
 cut-entries-requires c κs =
@@ -172,18 +152,6 @@ same-length-2 c = search needs
 
 returns-2 : tie.Need-returns-2
 returns-2 c =
-    let w = c .before .before .compact-pattern-originals in
-    let s = c .before .before .before .before .before .before .before .before in
-    let a = s .args in
-    let p = patternAt (a .words .now) (a .at) in
-    let ok = s .pre .0 .0 in
-    renamed _ (map originalRow (patternRows p (a .row) (a .t))) (rows-join (c .before .before .before .before)) _ _ _ (w .ensures .0 ∙ sym (original-rows-count p ok (a .row) (a .t))) (w .ensures .1 (a .t))
-
-same-length-3 : tie.Need-same-length-3
-same-length-3 c = search needs
-
-returns-3 : tie.Need-returns-3
-returns-3 c =
     let w = c .before .before .compact-pattern-rows in
     let s = c .before .before .before .before .before .before .before .before in
     let a = s .args in
@@ -191,11 +159,11 @@ returns-3 c =
     let ok = s .pre .0 .0 in
     renamed _ (map cutCode (patternRows p (a .row) (a .t))) (rows-cut (c .before .before .before .before)) _ _ _ (w .ensures .0 ∙ sym ((length-map (patternRows p (a .row) (a .t)) cutCode ∙ rows-count p ok (a .row) (a .t)))) (w .ensures .1)
 
-same-length-4 : tie.Need-same-length-4
-same-length-4 c = search needs
+same-length-3 : tie.Need-same-length-3
+same-length-3 c = search needs
 
-returns-4 : tie.Need-returns-4
-returns-4 c =
+returns-3 : tie.Need-returns-3
+returns-3 c =
     let w = c .before .before .standard-pattern-cones in
     let s = c .before .before .before .before .before .before .before .before in
     let a = s .args in
@@ -203,11 +171,11 @@ returns-4 c =
     let ok = s .pre .0 .0 in
     renamed _ (standardPart (cut (a .i) (a .row) (a .k) p)) (words-standard (c .before .before .before .before)) _ _ _ (w .ensures .0 ∙ sym (standard-words p (a .i) (a .row) (a .k))) (w .ensures .1)
 
-same-length-5 : tie.Need-same-length-5
-same-length-5 c = search needs
+same-length-4 : tie.Need-same-length-4
+same-length-4 c = search needs
 
-returns-5 : tie.Need-returns-5
-returns-5 c =
+returns-4 : tie.Need-returns-4
+returns-4 c =
     let w = c .before .before .compact-pattern-cones in
     let s = c .before .before .before .before .before .before .before .before in
     let a = s .args in
@@ -215,11 +183,11 @@ returns-5 c =
     let ok = s .pre .0 .0 in
     renamed _ (compactPart (cut (a .i) (a .row) (a .k) p)) (words-compact (c .before .before .before .before)) _ _ _ (w .ensures .0 ∙ sym (compact-words p (a .i) (a .row) (a .k))) (w .ensures .1)
 
-same-length-6 : tie.Need-same-length-6
-same-length-6 c = search needs
+same-length-5 : tie.Need-same-length-5
+same-length-5 c = search needs
 
-returns-6 : tie.Need-returns-6
-returns-6 c =
+returns-5 : tie.Need-returns-5
+returns-5 c =
     let w = c .before .before .cut-entries in
     let s = c .before .before .before .before .before .before .before .before in
     let a = s .args in
@@ -234,15 +202,13 @@ write-cut-spec =
     enum-told
     standard-pattern-rows-requires
     enum-told-2
-    compact-pattern-originals-requires
-    enum-told-3
     cast-compact-pattern-rows
     compact-pattern-rows-requires
-    enum-told-4
+    enum-told-3
     standard-pattern-cones-requires
-    enum-told-5
+    enum-told-4
     compact-pattern-cones-requires
-    enum-told-6
+    enum-told-5
     cut-entries-requires
     same-length
     returns
@@ -253,6 +219,4 @@ write-cut-spec =
     same-length-4
     returns-4
     same-length-5
-    returns-5
-    same-length-6
-    returns-6)
+    returns-5)

@@ -1,4 +1,4 @@
-use Prim.Native.Nat.{_-_, _+_}
+use Prim.Native.Nat.{_-_}
 use mathlib.Core.Path.{_≡_, ap, sym, _∙_}
 use lib.ListN.{length, getD}
 use Rattle.layout.specs.Lists.{upFrom}
@@ -7,7 +7,7 @@ use Rattle.layout.specs.Checks.{noCone}
 use Rattle.layout.specs.Compact.{coneWords, wholeCone, entryWords}
 use Rattle.layout.proofs.Members.{length-upFrom}
 use Rattle.tables.specs.Tables.{wholeCodes}
-use Rattle.tables.proofs.Codes.{renamed, whole-h, whole-join, whole-cut, whole-standard, whole-compact, whole-map}
+use Rattle.tables.proofs.Codes.{renamed, whole-h, whole-cut, whole-standard, whole-compact, whole-map}
 use native.Mathlib.Omega.{arith}
 use borrow.Author.Needs.{needs}
 use Rattle.tables.proofs.write_whole.Statement.{statement}
@@ -28,47 +28,38 @@ rows-h c =
     whole-h (a .table) (a .i) (getD (records (a .cones .now)) (a .i) noCone) (a .row) (c .enum-told .given .1)
     ∙ ap (upFrom (a .row)) (sym (s .pre .0 .0))
 
-rows-join : (c : tie.After-enum-told2)
-    → let a = c .before .before .before .before .args in
-    wholeCodes (a .table) (a .i) (getD (records (a .cones .now)) (a .i) noCone) (a .row) ≡ upFrom (65536 + a .row) (a .rows)
-rows-join c =
-    let s = c .before .before .before .before in
-    let a = s .args in
-    whole-join (a .table) (a .i) (getD (records (a .cones .now)) (a .i) noCone) (a .row) (c .enum-told2 .given .1)
-    ∙ ap (upFrom (65536 + a .row)) (sym (s .pre .0 .0))
-
-rows-cut : (c : tie.After-enum-told3)
+rows-cut : (c : tie.After-enum-told2)
     → let a = c .before .before .before .before .args in
     wholeCodes (a .table) (a .i) (getD (records (a .cones .now)) (a .i) noCone) (a .row) ≡ upFrom (a .row) (a .rows)
 rows-cut c =
     let s = c .before .before .before .before in
     let a = s .args in
-    whole-cut (a .table) (a .i) (getD (records (a .cones .now)) (a .i) noCone) (a .row) (c .enum-told3 .given .1)
+    whole-cut (a .table) (a .i) (getD (records (a .cones .now)) (a .i) noCone) (a .row) (c .enum-told2 .given .1)
     ∙ ap (upFrom (a .row)) (sym (s .pre .0 .0))
 
-words-standard : (c : tie.After-enum-told4)
+words-standard : (c : tie.After-enum-told3)
     → let a = c .before .before .before .before .args in
     wholeCodes (a .table) (a .i) (getD (records (a .cones .now)) (a .i) noCone) (a .row) ≡ coneWords (getD (records (a .cones .now)) (a .i) noCone)
 words-standard c =
     let s = c .before .before .before .before in
     let a = s .args in
-    whole-standard (a .table) (a .i) (getD (records (a .cones .now)) (a .i) noCone) (a .row) (c .enum-told4 .given .1)
+    whole-standard (a .table) (a .i) (getD (records (a .cones .now)) (a .i) noCone) (a .row) (c .enum-told3 .given .1)
 
-words-compact : (c : tie.After-enum-told5)
+words-compact : (c : tie.After-enum-told4)
     → let a = c .before .before .before .before .args in
     wholeCodes (a .table) (a .i) (getD (records (a .cones .now)) (a .i) noCone) (a .row) ≡ coneWords (getD (records (a .cones .now)) (a .i) noCone)
 words-compact c =
     let s = c .before .before .before .before in
     let a = s .args in
-    whole-compact (a .table) (a .i) (getD (records (a .cones .now)) (a .i) noCone) (a .row) (c .enum-told5 .given .1)
+    whole-compact (a .table) (a .i) (getD (records (a .cones .now)) (a .i) noCone) (a .row) (c .enum-told4 .given .1)
 
-words-map : (c : tie.After-enum-told6)
+words-map : (c : tie.After-enum-told5)
     → let a = c .before .before .before .before .args in
     wholeCodes (a .table) (a .i) (getD (records (a .cones .now)) (a .i) noCone) (a .row) ≡ entryWords (wholeCone (a .i))
 words-map c =
     let s = c .before .before .before .before in
     let a = s .args in
-    whole-map (a .table) (a .i) (getD (records (a .cones .now)) (a .i) noCone) (a .row) (c .enum-told6 .given .1)
+    whole-map (a .table) (a .i) (getD (records (a .cones .now)) (a .i) noCone) (a .row) (c .enum-told5 .given .1)
 
 enum-told : tie.Need-enum-told
 enum-told c = search needs
@@ -82,26 +73,14 @@ count-up-requires c κs =
 enum-told-2 : tie.Need-enum-told-2
 enum-told-2 c = search needs
 
-add-count-up : tie.Need-add-count-up
-add-count-up c = search needs
-
 count-up-requires-2 : tie.Need-count-up-requires-2
 count-up-requires-2 c κs =
     let s = c .before .before .before .before .before in
     let a = s .args in
-    omega (arith, ap length (rows-join (c .before)), length-upFrom (65536 + a .row) (a .rows), s .pre .0, s .pre .1)
+    omega (arith, ap length (rows-cut (c .before)), length-upFrom (a .row) (a .rows), s .pre .0, s .pre .1)
 
 enum-told-3 : tie.Need-enum-told-3
 enum-told-3 c = search needs
-
-count-up-requires-3 : tie.Need-count-up-requires-3
-count-up-requires-3 c κs =
-    let s = c .before .before .before .before .before in
-    let a = s .args in
-    omega (arith, ap length (rows-cut (c .before)), length-upFrom (a .row) (a .rows), s .pre .0, s .pre .1)
-
-enum-told-4 : tie.Need-enum-told-4
-enum-told-4 c = search needs
 
 copy-record-requires : tie.Need-copy-record-requires
 copy-record-requires c κs =
@@ -109,8 +88,8 @@ copy-record-requires c κs =
     let a = s .args in
     omega (arith, ap length (words-standard (c .before)), s .pre .0, s .pre .1)
 
-enum-told-5 : tie.Need-enum-told-5
-enum-told-5 c = search needs
+enum-told-4 : tie.Need-enum-told-4
+enum-told-4 c = search needs
 
 copy-record-requires-2 : tie.Need-copy-record-requires-2
 copy-record-requires-2 c κs =
@@ -118,8 +97,8 @@ copy-record-requires-2 c κs =
     let a = s .args in
     omega (arith, ap length (words-compact (c .before)), s .pre .0, s .pre .1)
 
-enum-told-6 : tie.Need-enum-told-6
-enum-told-6 c = search needs
+enum-told-5 : tie.Need-enum-told-5
+enum-told-5 c = search needs
 
 whole-entry-requires : tie.Need-whole-entry-requires
 whole-entry-requires c κs =
@@ -143,40 +122,31 @@ returns-2 : tie.Need-returns-2
 returns-2 c =
     let w = c .before .before .count-up2 in
     let a = c .before .before .before .before .before .before .before .before .args in
-    renamed _ (upFrom (65536 + a .row) (a .rows)) (rows-join (c .before .before .before .before)) _ _ _ (w .ensures .0 ∙ sym (length-upFrom (65536 + a .row) (a .rows))) (w .ensures .1)
+    renamed _ (upFrom (a .row) (a .rows)) (rows-cut (c .before .before .before .before)) _ _ _ (w .ensures .0 ∙ sym (length-upFrom (a .row) (a .rows))) (w .ensures .1)
 
 same-length-3 : tie.Need-same-length-3
 same-length-3 c = search needs
 
 returns-3 : tie.Need-returns-3
 returns-3 c =
-    let w = c .before .before .count-up3 in
+    let w = c .before .before .copy-record in
     let a = c .before .before .before .before .before .before .before .before .args in
-    renamed _ (upFrom (a .row) (a .rows)) (rows-cut (c .before .before .before .before)) _ _ _ (w .ensures .0 ∙ sym (length-upFrom (a .row) (a .rows))) (w .ensures .1)
+    renamed _ (coneWords (getD (records (a .cones .now)) (a .i) noCone)) (words-standard (c .before .before .before .before)) _ _ _ (w .ensures .0) (w .ensures .1)
 
 same-length-4 : tie.Need-same-length-4
 same-length-4 c = search needs
 
 returns-4 : tie.Need-returns-4
 returns-4 c =
-    let w = c .before .before .copy-record in
+    let w = c .before .before .copy-record2 in
     let a = c .before .before .before .before .before .before .before .before .args in
-    renamed _ (coneWords (getD (records (a .cones .now)) (a .i) noCone)) (words-standard (c .before .before .before .before)) _ _ _ (w .ensures .0) (w .ensures .1)
+    renamed _ (coneWords (getD (records (a .cones .now)) (a .i) noCone)) (words-compact (c .before .before .before .before)) _ _ _ (w .ensures .0) (w .ensures .1)
 
 same-length-5 : tie.Need-same-length-5
 same-length-5 c = search needs
 
 returns-5 : tie.Need-returns-5
 returns-5 c =
-    let w = c .before .before .copy-record2 in
-    let a = c .before .before .before .before .before .before .before .before .args in
-    renamed _ (coneWords (getD (records (a .cones .now)) (a .i) noCone)) (words-compact (c .before .before .before .before)) _ _ _ (w .ensures .0) (w .ensures .1)
-
-same-length-6 : tie.Need-same-length-6
-same-length-6 c = search needs
-
-returns-6 : tie.Need-returns-6
-returns-6 c =
     let w = c .before .before .whole-entry in
     let a = c .before .before .before .before .before .before .before .before .args in
     renamed _ (entryWords (wholeCone (a .i))) (words-map (c .before .before .before .before)) _ _ _ (w .ensures .0) (w .ensures .1)
@@ -188,15 +158,12 @@ write-whole-spec =
     enum-told
     count-up-requires
     enum-told-2
-    add-count-up
     count-up-requires-2
     enum-told-3
-    count-up-requires-3
-    enum-told-4
     copy-record-requires
-    enum-told-5
+    enum-told-4
     copy-record-requires-2
-    enum-told-6
+    enum-told-5
     whole-entry-requires
     same-length
     returns
@@ -207,6 +174,4 @@ write-whole-spec =
     same-length-4
     returns-4
     same-length-5
-    returns-5
-    same-length-6
-    returns-6)
+    returns-5)
