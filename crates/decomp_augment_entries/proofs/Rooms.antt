@@ -22,10 +22,10 @@ use Rattle.decomp_augment_entries.specs.Rooms.{wordsOf}
 
 enough : (k entries : ℕ) → k ≤ 789504 → leb k (wordsOf entries) ≡ leb k (entries * 3)
 enough k entries few = elim (tested (ltb 263168 entries)) [
-  inl h ↦
-    ap (leb k) (cond-passed (ltb 263168 entries) 789504 (entries * 3) h)
-    ∙ passed (leb k 789504) (leb-iff k 789504 .1 few)
-    ∙ sym (passed (leb k (entries * 3)) (leb-iff k (entries * 3) .1 (omega (arith, ltb-iff 263168 entries .0 h))))
+  | inl h ↦
+      ap (leb k) (cond-passed (ltb 263168 entries) 789504 (entries * 3) h)
+      ∙ passed (leb k 789504) (leb-iff k 789504 .1 few)
+      ∙ sym (passed (leb k (entries * 3)) (leb-iff k (entries * 3) .1 (omega (arith, ltb-iff 263168 entries .0 h))))
   | inr h ↦ ap (leb k) (cond-failed (ltb 263168 entries) 789504 (entries * 3) h)
 ]
 

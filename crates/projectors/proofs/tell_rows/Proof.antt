@@ -1,0 +1,33 @@
+use Prim.Native.Nat.{_-_, _≤_}
+use borrow.Author.Needs.{needs}
+use Rattle.projectors.proofs.tell_rows.Statement.{statement}
+use Rattle.projectors.proofs.tell_rows.Tie as tie
+
+abbrev Inv-loop : tie.InvT-loop
+Inv-loop row₀ row = row ≤ 6
+
+abbrev μ-loop : tie.MeasureT-loop
+μ-loop row₀ row = 6 - row
+
+loop-holds : tie.Need-loop-holds Inv-loop μ-loop
+loop-holds c = search needs
+
+tell-row-requires : tie.Need-tell-row-requires Inv-loop μ-loop
+tell-row-requires c κs = search needs
+
+add-row : tie.Need-add-row Inv-loop μ-loop
+add-row c = search needs
+
+loop-less : tie.Need-loop-less Inv-loop μ-loop
+loop-less c = search needs
+
+loop-again : tie.Need-loop-again Inv-loop μ-loop
+loop-again c = search needs
+
+returns : tie.Need-returns Inv-loop μ-loop
+returns c = search needs
+
+pub tell-rows-spec : {M : Type 1} → statement M
+tell-rows-spec =
+    tie.close
+    (tie.spec Inv-loop μ-loop loop-holds tell-row-requires add-row loop-less loop-again returns)
