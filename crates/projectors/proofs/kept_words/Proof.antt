@@ -1,8 +1,8 @@
 use lib.ListN.{length}
 use Prim.Native.Nat.{_-_, _≤_}
 use borrow.Author.Needs.{needs}
-use Rattle.three_projectors.proofs.kept_values.Statement.{statement}
-use Rattle.three_projectors.proofs.kept_values.Tie as tie
+use Rattle.projectors.proofs.kept_words.Statement.{statement}
+use Rattle.projectors.proofs.kept_words.Tie as tie
 
 abbrev Inv-loop : tie.InvT-loop
 Inv-loop list i₀ i = i ≤ length list
@@ -34,8 +34,8 @@ loop-again c = search needs
 returns-2 : tie.Need-returns-2 Inv-loop μ-loop
 returns-2 c = search needs
 
-pub kept-values-spec : {M : Type 1} → statement M
-kept-values-spec =
+pub kept-words-spec : {M : Type 1} → statement M
+kept-words-spec =
     tie.close
     (tie.spec
     Inv-loop

@@ -2,8 +2,8 @@ use mathlib.Core.Path.{_≡_}
 use lib.ListN.{length}
 use Prim.Native.Nat.{_-_, _≤_}
 use borrow.Author.Needs.{needs}
-use Rattle.three_projectors.proofs.original_rows.Statement.{statement}
-use Rattle.three_projectors.proofs.original_rows.Tie as tie
+use Rattle.projectors.proofs.original_rows.Statement.{statement}
+use Rattle.projectors.proofs.original_rows.Tie as tie
 
 abbrev Inv-loop : tie.InvT-loop
 Inv-loop route map x out₀ rows row₀ out row = (row ≤ rows) × (length out ≡ rows)
