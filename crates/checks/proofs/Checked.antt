@@ -72,6 +72,3 @@ problem-checked p e =
           (joined-passes (p .n) (p .m) (p .cones) (p .patternCount) (p .patternWords)
           (and-iff (columns && rows) (conesBounded (p .cones)) .1 (both, bounded)) reading atLast);
     }
-
-pub problem-sound : (p : Problem) → problemRefusal p ≡ 0 → Sound (p .m) (p .cones) (p .patternCount) (p .patternWords)
-problem-sound p e = problem-checked p e .sound

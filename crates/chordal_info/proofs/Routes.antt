@@ -11,7 +11,7 @@ use Rattle.layout.specs.Checks.{layout, check8, check9, check10, firstFailing}
 use Rattle.layout.specs.Answers.{routeOf}
 use Rattle.chordal_info.specs.Covered.{entriesRight}
 use Rattle.chordal_info.specs.Sizes.{rowsFit}
-use Rattle.chordal_info.specs.Routes.{entriesCheck, routeChecks, joinRouteChecks, joinCountChecks, Counted}
+use Rattle.chordal_info.specs.Routes.{entriesCheck, joinRouteChecks, joinCountChecks, Counted}
 use Rattle.chordal_info.proofs.Sizes.{rows-fit}
 
 -- ---- the first that fails, whatever checks 9 and 10 are

@@ -1,11 +1,10 @@
 -- `written xs old` as loops and calls build it: a list copied, one value repeated, a part lent and written.
 use Prim.Native.Nat.{ℕ, _+_, _-_, _≤_, _<_}
-use native.Mathlib.Numerals.{add-one}
 use native.Mathlib.Omega.{arith}
 use mathlib.Core.Path.{_≡_, ap, sym, _∙_}
 use mathlib.Core.List.{List, [], _∷_, _++_, append-assoc}
-use lib.ListN.{length, getD, take, drop, set, replicate, length-append, length-drop, length-replicate, replicate-append-replicate, take-append-drop, drop-of-length-le}
-use lib.Seq.{take-suc, take-all, length-take-le, take-append-seam, drop-append-seam, drop-append-le, drop-drop}
+use lib.ListN.{length, take, drop, set, replicate, length-append, length-drop, length-replicate, replicate-append-replicate, take-append-drop, drop-of-length-le}
+use lib.Seq.{length-take-le, take-append-seam, drop-append-seam, drop-append-le, drop-drop}
 use Rattle.layout.specs.Lists.{written}
 use Rattle.layout.proofs.Starts.{length-written}
 use Rattle.layout.proofs.Keeps.{append-nil}

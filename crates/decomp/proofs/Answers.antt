@@ -1,11 +1,10 @@
 -- A call's number by its route, what an output holds, and how many α an accepted problem has.
-use Prim.Native.Nat.{ℕ, zero, suc, _+_, _≤_, _<_}
+use Prim.Native.Nat.{ℕ, zero, suc, _≤_, _<_}
 use native.Mathlib.Omega.{arith}
-use mathlib.Core.Path.{_≡_, refl, sym, ap, _∙_}
+use mathlib.Core.Path.{_≡_, refl, sym, _∙_}
 use mathlib.Core.List.{List, [], _∷_, map}
 use lib.ListN.{length}
-use lib.Dec.{T}
-use Rattle.layout.specs.Lists.{sum, written}
+use Rattle.layout.specs.Lists.{sum}
 use Rattle.layout.specs.Problem.{Problem, Route}
 use Rattle.layout.specs.Cones.{Cone, Kind, zeroCone, nonnegative, secondOrder, exponential, power, genPower, psdTriangle, noKind, kindOf, nvars, alphas, records, rowCount, alphaCount}
 use Rattle.layout.specs.Checks.{refusal}

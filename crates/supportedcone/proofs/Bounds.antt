@@ -1,8 +1,8 @@
 -- What check 1 says of a record's sizes, and so of its rows.
 use Prim.Native.Nat.{ℕ, zero, suc, _≤_}
 use native.Mathlib.Omega.{arith}
-use mathlib.Core.Path.{_≡_, sym, subst}
-use mathlib.Core.Bool.{Bool, true, not, _&&_, _||_}
+use mathlib.Core.Path.{_≡_}
+use mathlib.Core.Bool.{true, not, _&&_, _||_}
 use lib.Dec.{T, leb, leb→le}
 use Rattle.layout.specs.Cones.{Cone, rowCount, isPsd}
 use Rattle.layout.specs.Triangle.{triangle}

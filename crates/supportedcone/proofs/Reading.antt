@@ -1,7 +1,7 @@
 -- Records that read as no kind, and what a reading tells.
 use Prim.Native.Nat.{ℕ, zero, suc, _≤_, _<_}
 use mathlib.Core.Path.{_≡_, refl, sym, ap, subst, _∙_}
-use mathlib.Core.Bool.{Bool, true, false, cond, _&&_}
+use mathlib.Core.Bool.{Bool, true, false, cond}
 use mathlib.Core.Logic.{_⊎_, inl, inr}
 use mathlib.Core.List.{List, [], _∷_}
 use lib.ListN.{length, getD}
@@ -145,6 +145,3 @@ answer-told (Is (PowerConeT α)) = refl
 answer-told (Is (GenPowerConeT a c)) = refl
 answer-told (Is (PSDTriangleConeT a)) = refl
 answer-told Bad = refl
-
-pub told-one : (r q : ReadCone) → told r ≡ told q → r ≡ q
-told-one r q e = sym (answer-told r) ∙ ap answerOf e ∙ answer-told q

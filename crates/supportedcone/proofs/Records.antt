@@ -11,8 +11,7 @@ use lib.Ieee.Bits.{is-true}
 use borrow.Author.Tests.{lt-ltb}
 use Rattle.layout.specs.Cones.{Cone, records, wholeRecords, reads, rowCount}
 use Rattle.layout.specs.Lists.{all}
-use Rattle.layout.specs.Patterns.{Pattern}
-use Rattle.layout.specs.Checks.{noCone, sizesBounded, conesBounded, conesRead, namesItsCone}
+use Rattle.layout.specs.Checks.{noCone, sizesBounded, conesBounded, conesRead}
 use Rattle.layout.proofs.Tests.{and-iff, lt-or-le}
 use Rattle.layout.proofs.Members.{all-at}
 use Rattle.layout.proofs.Records.{record-count, record-at}
@@ -70,10 +69,6 @@ unread-rows ws i h e = elim (lt-or-le i (length (records ws))) [
 pub psd-in : (ws : List ℕ) (i v : ℕ) → i < length (records ws) → isPsdOf ws i v ≡ (eqb (getD ws (i * 3) 0) 6 && eqb (getD ws (i * 3 + 1) 0) v)
 psd-in ws i v h =
     rw (lt-ltb i (length (records ws)) h) (ap (λ (c : Cone). eqb (c .kind) 6 && eqb (c .first) v) (record-in ws i h))
-
--- check 5's test of a pattern's cone
-pub names-its-cone : (ws : List ℕ) (p : Pattern) → namesItsCone (records ws) p ≡ isPsdOf ws (p .origIndex) (p .vertexCount)
-names-its-cone ws p = refl
 
 -- ---- what a caller has once checks 1 and 4 passed
 

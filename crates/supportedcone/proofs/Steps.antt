@@ -1,14 +1,12 @@
 -- Sums over a list, one element at a time; three elements stored.
-use Prim.Native.Nat.{ℕ, _+_, _-_, _≤_, _<_}
-use native.Mathlib.Nat.{le-refl}
+use Prim.Native.Nat.{ℕ, _+_, _≤_, _<_}
 use native.Mathlib.Numerals.{add-one}
 use native.Mathlib.Omega.{arith}
 use mathlib.Core.Path.{_≡_, refl, sym, ap, _∙_}
-use mathlib.Core.Bool.{Bool, true, false}
 use mathlib.Core.List.{List, [], _∷_, map}
-use lib.ListN.{length, getD, take, drop, set, length-drop, take-append-drop, drop-of-length-le}
-use lib.Seq.{take-suc, take-all, drop-cons}
-use Rattle.layout.specs.Lists.{all, sum, written}
+use lib.ListN.{length, getD, take, drop, set, take-append-drop}
+use lib.Seq.{take-suc, take-all}
+use Rattle.layout.specs.Lists.{sum, written}
 use Rattle.layout.proofs.Keeps.{map-append}
 use Rattle.layout.proofs.Starts.{sum-append}
 

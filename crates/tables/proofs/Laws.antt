@@ -3,14 +3,13 @@ use Prim.Native.Nat.{ℕ, _+_, _*_, _≤_, _<_}
 use native.Mathlib.Numerals.{add-one}
 use native.Mathlib.Omega.{arith}
 use mathlib.Core.Path.{_≡_, refl, ap, sym, _∙_}
-use mathlib.Core.List.{List, [], _∷_, _++_, map, reverse, reverse-cons, append-assoc}
+use mathlib.Core.List.{List, [], _∷_, _++_, reverse, append-assoc}
 use lib.ListN.{length, getD, take, drop, set, length-append, length-drop}
 use lib.Seq.{take-add, take-at, drop-at, drop-drop, getD-drop}
 use Rattle.layout.specs.Lists.{below, join, upFrom, written}
 use Rattle.layout.specs.Compact.{blockOf, entryWords}
 use Rattle.layout.proofs.Members.{length-upFrom, getD-below}
 use Rattle.layout.proofs.Joins.{upFrom-last}
-use Rattle.layout.proofs.Keeps.{map-append}
 use Rattle.layout.proofs.Buffers.{set-written}
 use Rattle.blocks.proofs.Orders.{down-more}
 

@@ -11,7 +11,6 @@ use Rattle.layout.proofs.Tests.{and-iff}
 use Rattle.checks.proofs.Order.{problem-then-route, first-given}
 use Rattle.checks.proofs.Checked.{problem-checked}
 use Rattle.chordal_info.proofs.Routes.{entries-check}
-use native.Mathlib.Omega.{arith}
 use borrow.Author.Needs.{needs}
 use Rattle.decomp.proofs.refuse.Statement.{statement}
 use Rattle.decomp.proofs.refuse.Tie as tie

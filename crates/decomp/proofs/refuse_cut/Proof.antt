@@ -1,13 +1,11 @@
 use Prim.Native.Nat.{ℕ}
-use mathlib.Core.Path.{_≡_, refl, sym, ap, _∙_}
+use mathlib.Core.Path.{_≡_, sym, ap, _∙_}
 use mathlib.Core.Bool.{Bool, cond}
 use mathlib.Core.List.{List}
-use lib.ListN.{length, replicate}
-use Rattle.layout.specs.Lists.{written}
+use lib.ListN.{replicate}
 use Rattle.layout.specs.Problem.{Problem, problem}
 use Rattle.layout.specs.Answers.{output, onRoute, routeOf, roomy, sizes, sizesRefusal, cutRefusal}
 use Rattle.decomp.proofs.Rooms.{sizes-first, rooms-next}
-use native.Mathlib.Omega.{arith}
 use borrow.Author.Needs.{needs}
 use Rattle.decomp.proofs.refuse_cut.Statement.{statement}
 use Rattle.decomp.proofs.refuse_cut.Tie as tie

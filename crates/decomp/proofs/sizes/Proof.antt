@@ -1,14 +1,13 @@
-use Prim.Native.Nat.{ℕ, _≤_, _<_}
+use Prim.Native.Nat.{ℕ}
 use mathlib.Core.Path.{_≡_, refl, sym, ap, subst, _∙_}
 use mathlib.Core.List.{List}
 use lib.ListN.{length}
 use borrow.Author.Tests.{le-leb, lt-leb}
 use Rattle.layout.specs.Lists.{written}
-use Rattle.layout.specs.Problem.{Problem, Route, problem}
+use Rattle.layout.specs.Problem.{Problem, problem}
 use Rattle.layout.specs.Blocks.{blockRowCount, overlapCount}
 use Rattle.layout.specs.Checks.{layout, refusal}
-use Rattle.layout.specs.Answers.{orElse, roomRefusal, routeOf, onRoute, sizesRefusal, sizes}
-use Rattle.layout.proofs.Sizes.{coneCount}
+use Rattle.layout.specs.Answers.{orElse, roomRefusal, routeOf, onRoute, sizesRefusal}
 use Rattle.layout.proofs.Accepted.{accepted-sound}
 use Rattle.checks.proofs.Order.{first-given}
 use Rattle.chordal_info.specs.Sizes.{Fitting, routeSizes}

@@ -1,4 +1,3 @@
-use Prim.Native.Nat.{_-_}
 use mathlib.Core.Path.{_≡_, ap, sym, _∙_}
 use lib.ListN.{drop}
 use Rattle.layout.specs.Patterns.{Pattern, read, readHead, readClique, cliqueCount}

@@ -1,7 +1,5 @@
-use mathlib.Core.Path.{_≡_, sym, _∙_}
-use mathlib.Core.Bool.{true}
+use mathlib.Core.Path.{sym, _∙_}
 use borrow.Author.Tests.{not-true, not-false, eq-eqb, ne-eqb}
-use Rattle.layout.specs.Lists.{sameNumbers}
 use borrow.Author.Needs.{needs}
 use Rattle.same_layout.proofs.layouts_agree.Statement.{statement}
 use Rattle.same_layout.proofs.layouts_agree.Tie as tie

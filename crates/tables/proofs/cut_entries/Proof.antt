@@ -1,4 +1,4 @@
-use Prim.Native.Nat.{ℕ, _-_, _*_}
+use Prim.Native.Nat.{ℕ, _*_}
 use mathlib.Core.Path.{ap, _∙_}
 use mathlib.Core.List.{map, reverse}
 use Rattle.layout.specs.Lists.{below, written}

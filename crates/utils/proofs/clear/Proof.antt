@@ -1,6 +1,6 @@
 use Rattle.utils.proofs.Windows.{fill-more, fill-done}
 use lib.ListN.{length, drop, replicate, length-set}
-use Prim.Native.Nat.{_+_, _-_, _≤_}
+use Prim.Native.Nat.{_-_, _≤_}
 use mathlib.Core.Path.{_≡_, _∙_}
 use mathlib.Core.List.{_++_}
 use mathlib.Core.Bool.{false}
