@@ -5,7 +5,7 @@ use native.Mathlib.Omega.{arith}
 use mathlib.Core.Path.{_≡_, refl, sym, ap, subst, _∙_}
 use mathlib.Core.Bool.{Bool, true, false, not, _&&_}
 use mathlib.Core.List.{List, [], _∷_, _++_}
-use lib.ListN.{length, drop, set, replicate, length-append}
+use lib.ListN.{length, drop, set, length-append}
 use lib.Dec.{eqb}
 use borrow.Author.Tests.{ne-eqb}
 use Rattle.layout.specs.Lists.{all, join}
@@ -22,8 +22,8 @@ use Rattle.supernode_tree.proofs.Offsets.{after, Written, written-more, written
 use Rattle.vertex_set.proofs.Walks.{all-append}
 use Rattle.clique_tree.specs.Trees.{parentOk, snodesOf}
 use Rattle.clique_tree.proofs.Trees.{cliqueOk, treeFrom}
-use Rattle.accepted.specs.Accepted.{Met, MeetsMore, SnodesHold}
-use Rattle.accepted.proofs.Marks.{met-none, met-all}
+use Rattle.accepted.specs.Accepted.{AllAre, Met, MeetsMore, SnodesHold}
+use Rattle.accepted.proofs.Marks.{met-none, met-all, met-marks}
 
 -- ---- one more, after those that were read
 
@@ -88,18 +88,19 @@ pub record Walked (ws : List ℕ) (first count : ℕ) (marks : List Bool) (offse
   pub reads : readCliques c (drop first ws) ≡ read cliques (drop at ws)
   pub tree : treeFrom count 0 cliques ≡ true
   pub full : all filled cliques ≡ true
-  pub met : Met marks (snodesOf cliques)
+  pub met : Met false marks (snodesOf cliques)
   pub many : length (snodesOf cliques) ≡ total
   pub starts : Written ws first 1 c offsets
 
-pub walked-none : (ws : List ℕ) (first count n : ℕ) (offsets : List ℕ) → Walked ws first count (replicate n false) offsets 0 first 0
-walked-none ws first count n offsets = record {
+pub walked-none : (ws : List ℕ) (first count : ℕ) (marks : List Bool) (offsets : List ℕ) → AllAre true marks
+    → Walked ws first count marks offsets 0 first 0
+walked-none ws first count marks offsets a = record {
   cliques = [];
   as-many = refl;
   reads = refl;
   tree = refl;
   full = refl;
-  met = met-none n;
+  met = met-none false marks a;
   many = refl;
   starts = λ j l. absurd (omega arith);
 }
@@ -109,7 +110,7 @@ module _ (ws : List ℕ) (first count : ℕ) (marks : List Bool) (offsets : List
   pub walked-more : (q : CliqueAt) (new : List Bool) → CliqueInside (length ws) at (Found q)
       → readClique (drop at ws) ≡ read (cliqueOf ws q) (drop (q .next) ws)
       → parentOk count c (q .parent) (q .«separator_count») ≡ true → (q .«snode_count» ≡ 0 → ⊥)
-      → MeetsMore marks (cliqueOf ws q .snode) new → c < length offsets
+      → MeetsMore false marks (cliqueOf ws q .snode) new → c < length offsets
       → Walked ws first count new (set offsets c at) (total + q .«snode_count») (q .next) (c + 1)
   walked-more q new inside e ok some meets room =
       let cs = w .cliques in
@@ -125,7 +126,7 @@ module _ (ws : List ℕ) (first count : ℕ) (marks : List Bool) (offsets : List
         reads = many-last readClique c (drop first ws) (drop at ws) (drop (q .next) ws) cs (cliqueOf ws q) (w .reads) e;
         tree = tree-last count 0 cs (cliqueOf ws q) (w .tree) (ap (λ (i : ℕ). cliqueOk count i (cliqueOf ws q)) n ∙ ap (parentOk count c (q .parent)) t ∙ ok);
         full = all-last filled cs (cliqueOf ws q) (w .full) (rw (ne-eqb (length (cliqueOf ws q .snode)) 0 (λ z. some (sym s ∙ z))));
-        met = subst (Met new) (sym j) (meets (snodesOf cs) (w .met));
+        met = subst (Met false new) (sym j) (meets (snodesOf cs) (w .met));
         many = omega (arith, ap length j, length-append (snodesOf cs) (cliqueOf ws q .snode), w .many, s);
         starts = written-more ws first 1 offsets c at room (w .starts) (sym (ap rest (w .reads)) ∙ ap (after ws first) (sym o));
       }
@@ -145,8 +146,11 @@ module _ (ws : List ℕ) (first count : ℕ) (marks : List Bool) (offsets : List
           tree = ap (treeFrom count 0) f ∙ w .tree;
           filled = ap (all filled) f ∙ w .full;
           many = ap (λ (cs : List Clique). length (snodesOf cs)) f ∙ w .many ∙ e;
-          permutation = ap (λ (cs : List Clique). isPermutation (snodesOf cs)) f ∙ met-all marks (snodesOf (w .cliques)) (w .met) (w .many ∙ e);
+          permutation = ap (λ (cs : List Clique). isPermutation (snodesOf cs)) f ∙ met-all false marks (snodesOf (w .cliques)) (w .met) (w .many ∙ e);
         }
 
     pub walked-offsets : OffsetsEvery 1 ws first count offsets
     walked-offsets = written-all ws first 1 offsets c count (omega arith) (w .starts)
+
+    pub walked-marks : total ≡ length marks → AllAre false marks
+    walked-marks e = met-marks false marks (snodesOf (w .cliques)) (w .met) (w .many ∙ e)

@@ -1,14 +1,13 @@
 -- What a walk that finds nothing wrong says of patterns.
-use Prim.Native.Nat.{ℕ, _≤_}
+use Prim.Native.Nat.{ℕ, _≤_, _<_}
 use mathlib.Core.Path.{_≡_}
-use mathlib.Core.Bool.{Bool, true, false, not}
+use mathlib.Core.Bool.{Bool, true, false, not, cond}
 use mathlib.Core.List.{List, _++_}
-use lib.ListN.{length, drop}
+use lib.ListN.{length, getD, drop}
 use lib.Dec.{T, eqb, ltb}
-use Rattle.layout.specs.Lists.{all, distinct}
+use Rattle.layout.specs.Lists.{has, all, distinct}
 use Rattle.layout.specs.Patterns.{read, readHead, readCliques, readPattern, patterns}
 use Rattle.layout.specs.Checks.{isPermutation, patternsRead, treeRight, cliquesRight}
-use Rattle.utils.specs.Windows.{Marked}
 use Rattle.supernode_tree.specs.Reads.{headOf, whole, Whole, rest, cliquesFrom, patternAt}
 use Rattle.supernode_tree.specs.declared.Pattern.{Pattern as PatternAt}
 use Rattle.sparsity_pattern.specs.Sparsity.{patternRight}
@@ -22,15 +21,19 @@ Holds cones count ws =
 
 -- ---- marks
 
--- the numbers met: no two alike, each has a mark, and it is set
-pub record Met (marks : List Bool) (met : List ℕ) : Type 0 where
-  pub marked : Marked 0 marks met
+-- each mark is b
+abbrev pub AllAre : Bool → List Bool → Type 0
+AllAre b marks = (v : ℕ) → v < length marks → getD marks v false ≡ b
+
+-- the numbers met: no two alike, each has a mark, and those marks and no others are b
+pub record Met (b : Bool) (marks : List Bool) (met : List ℕ) : Type 0 where
+  pub marked : (v : ℕ) → v < length marks → getD marks v false ≡ cond (has v met) b (not b)
   pub once : T (distinct met)
   pub below : T (all (λ x. ltb x (length marks)) met)
 
 -- after any that were met the words are met too
-abbrev pub MeetsMore : List Bool → List ℕ → List Bool → Type 0
-MeetsMore old ws new = (met : List ℕ) → Met old met → Met new (met ++ ws)
+abbrev pub MeetsMore : Bool → List Bool → List ℕ → List Bool → Type 0
+MeetsMore b old ws new = (met : List ℕ) → Met b old met → Met b new (met ++ ws)
 
 -- ---- cliques
 

@@ -1,20 +1,19 @@
 // Checks 5, 6 and 7 of patterns that are right, in two walks over the cliques. Only a true answer says something: where it is
 // false the checks themselves find the number.
 ghost use mathlib.Core.Path.{_≡_};
-ghost use mathlib.Core.Bool.{true};
+ghost use mathlib.Core.Bool.{true, false};
 ghost use Prim.Native.Nat.{_+_, _≤_, _<_};
 ghost use lib.ListN.{length};
-ghost use Rattle.layout.specs.Checks.{isPermutation};
 ghost use Rattle.supernode_tree.specs.Offsets.{OffsetsEvery};
-ghost use Rattle.accepted.specs.Accepted.{Holds, MeetsMore, SnodesHold, CliquesHold, MembersHold, HoldsAt};
+ghost use Rattle.accepted.specs.Accepted.{Holds, AllAre, MeetsMore, SnodesHold, CliquesHold, MembersHold, HoldsAt};
 use supernode_tree::Clique;
 use supernode_tree::CliqueRead;
 use supernode_tree::Pattern;
 use supernode_tree::PatternRead;
 
-// Marks the words' numbers, unless one has no mark or is marked already.
-fn mark_new(words: &[u32], marks: &mut [bool]) -> bool
-    ensures { λ r. ⌜ (r ≡ true → MeetsMore (now (marks .entry)) (now (words .entry)) (now (marks .exit))) ⌝ }
+// Sets the marks of the words' numbers to b, unless one has no mark or is b already.
+fn mark_all(words: &[u32], b: bool, marks: &mut [bool]) -> bool
+    ensures { λ r. ⌜ (r ≡ true → MeetsMore b (now (marks .entry)) (now (words .entry)) (now (marks .exit))) ⌝ }
 {
     let mut i = 0;
     while i < words.len() {
@@ -22,26 +21,17 @@ fn mark_new(words: &[u32], marks: &mut [bool]) -> bool
         if marks.len() <= x {
             return false;
         }
-        if marks[x] {
+        if marks[x] == b {
             return false;
         }
-        marks[x] = true;
+        marks[x] = b;
         i += 1;
     }
     true
 }
 
-// The words hold each number below their length, with a mark for each.
-fn ordering_holds(words: &[u32], marks: &mut [bool]) -> bool
-    requires { ⌜ length (now words) ≡ length (now marks) ⌝ }
-    ensures { λ r. ⌜ (r ≡ true → isPermutation (now (words .entry)) ≡ true) ⌝ }
-{
-    utils::clear(&mut *marks);
-    mark_new(words, marks)
-}
-
-// Parents and snodes, with a mark for each vertex; leaves the offset of each clique. Answers where the words after the cliques
-// start, or 0 where something is not right.
+// Parents and snodes. Each vertex has a mark and loses it, so that none is left to clear; each clique leaves its offset. Answers
+// where the words after the cliques start, or 0 where something is not right.
 fn snodes_hold(
     words: &[u32],
     first: usize,
@@ -50,10 +40,10 @@ fn snodes_hold(
     offsets: &mut [usize],
 ) -> usize
     requires { ⌜ first ≤ length (now words) ⌝ }
+    requires { ⌜ AllAre true (now marks) ⌝ }
     requires { ⌜ count ≤ length (now offsets) ⌝ }
-    ensures { λ r. ⌜ (0 < r → SnodesHold (now (words .entry)) first count (length (now (marks .entry))) r × OffsetsEvery 1 (now (words .entry)) first count (now (offsets .exit))) ⌝ }
+    ensures { λ r. ⌜ (0 < r → SnodesHold (now (words .entry)) first count (length (now (marks .entry))) r × OffsetsEvery 1 (now (words .entry)) first count (now (offsets .exit)) × AllAre false (now (marks .exit))) ⌝ }
 {
-    utils::clear(&mut *marks);
     let mut total = 0;
     let mut at = first;
     let mut c = 0;
@@ -69,7 +59,7 @@ fn snodes_hold(
         }
         let a = q.snode;
         let e = q.separator;
-        if !mark_new(&words[a..e], &mut *marks) {
+        if !mark_all(&words[a..e], false, &mut *marks) {
             return 0;
         }
         offsets[c as usize] = at;
@@ -83,17 +73,20 @@ fn snodes_hold(
     at
 }
 
-// A pattern's cliques, with a mark for each vertex and room for their offsets. Answers where the words after them start, or 0.
+// A pattern's cliques, with marks for the vertices, room for the cliques' offsets, and marks to look at separators. Answers
+// where the words after them start, or 0.
 fn cliques_hold(
     words: &[u32],
     first: usize,
     count: u32,
     marks: &mut [bool],
     offsets: &mut [usize],
+    others: &mut [bool],
 ) -> usize
     requires { ⌜ first ≤ length (now words) ⌝ }
-    requires { ⌜ 0 < length (now marks) ⌝ }
-    ensures { λ r. ⌜ (0 < r → CliquesHold (now (words .entry)) first count (length (now (marks .entry))) r) ⌝ }
+    requires { ⌜ AllAre true (now marks) ⌝ }
+    requires { ⌜ 0 < length (now others) ⌝ }
+    ensures { λ r. ⌜ (0 < r → CliquesHold (now (words .entry)) first count (length (now (marks .entry))) r × AllAre false (now (marks .exit))) ⌝ }
 {
     if count == 0 {
         return 0;
@@ -101,29 +94,37 @@ fn cliques_hold(
     if offsets.len() < count as usize {
         return 0;
     }
-    let next = snodes_hold(words, first, count, &mut *marks, &mut *offsets);
+    let n = marks.len();
+    let next = snodes_hold(words, first, count, marks, &mut *offsets);
     if next == 0 {
         return 0;
     }
-    let n = marks.len();
-    if !clique_tree::separators_by(words, first, count, n, 1, offsets, marks) {
+    if !clique_tree::separators_by(words, first, count, n, 1, offsets, others) {
         return 0;
     }
     next
 }
 
-// A pattern whose head was read, with a mark for each vertex: its ordering and its cliques.
-fn members_hold(words: &[u32], p: Pattern, marks: &mut [bool], offsets: &mut [usize]) -> usize
+// A pattern whose head was read, with a mark for each vertex: its ordering sets them all, and its snodes take them away.
+fn members_hold(
+    words: &[u32],
+    p: Pattern,
+    marks: &mut [bool],
+    offsets: &mut [usize],
+    others: &mut [bool],
+) -> usize
     requires { ⌜ (p .cliques ≡ p .ordering + p .«vertex_count») × (p .cliques ≤ length (now words)) ⌝ }
-    requires { ⌜ (p .«vertex_count» ≡ length (now marks)) × (0 < length (now marks)) ⌝ }
-    ensures { λ r. ⌜ (0 < r → MembersHold (now (words .entry)) p r) ⌝ }
+    requires { ⌜ p .«vertex_count» ≡ length (now marks) ⌝ }
+    requires { ⌜ AllAre false (now marks) ⌝ }
+    requires { ⌜ 0 < length (now others) ⌝ }
+    ensures { λ r. ⌜ (0 < r → MembersHold (now (words .entry)) p r × AllAre false (now (marks .exit))) ⌝ }
 {
     let a = p.ordering;
     let e = p.cliques;
-    if !ordering_holds(&words[a..e], &mut *marks) {
+    if !mark_all(&words[a..e], true, &mut *marks) {
         return 0;
     }
-    cliques_hold(words, e, p.clique_count, marks, offsets)
+    cliques_hold(words, e, p.clique_count, marks, offsets, others)
 }
 
 // The same with marks to spare, and its cone.
@@ -133,21 +134,21 @@ fn pattern_holds(
     p: Pattern,
     marks: &mut [bool],
     offsets: &mut [usize],
+    others: &mut [bool],
 ) -> usize
     requires { ⌜ (p .cliques ≡ p .ordering + p .«vertex_count») × (p .cliques ≤ length (now words)) ⌝ }
-    ensures { λ r. ⌜ (0 < r → HoldsAt (now (cones .entry)) (now (words .entry)) p r) ⌝ }
+    requires { ⌜ AllAre false (now marks) ⌝ }
+    requires { ⌜ 0 < length (now others) ⌝ }
+    ensures { λ r. ⌜ (0 < r → HoldsAt (now (cones .entry)) (now (words .entry)) p r × AllAre false (now (marks .exit))) ⌝ }
 {
     let n = p.vertex_count;
-    if n == 0 {
-        return 0;
-    }
     if marks.len() < n {
         return 0;
     }
     if !supportedcone::is_psd_of(cones, p.orig_index as usize, n) {
         return 0;
     }
-    members_hold(words, p, &mut marks[0..n], offsets)
+    members_hold(words, p, &mut marks[0..n], offsets, others)
 }
 
 // Where this is true, checks 5, 6 and 7 hold.
@@ -156,6 +157,7 @@ pub fn patterns_hold(cones: &[u32], count: u32, words: &[u32]) -> bool
 {
     let mut marks = [false; 256];
     let mut offsets = [0usize; 256];
+    let mut others = [false; 256];
     let mut least: u64 = 0;
     let mut at = 0;
     let mut left = count;
@@ -168,7 +170,7 @@ pub fn patterns_hold(cones: &[u32], count: u32, words: &[u32]) -> bool
             return false;
         }
         least = origin + 1;
-        at = pattern_holds(cones, words, p, &mut marks, &mut offsets);
+        at = pattern_holds(cones, words, p, &mut marks, &mut offsets, &mut others);
         if at == 0 {
             return false;
         }

@@ -34,23 +34,32 @@ same-length-3 c = search needs
 same-length-4 : tie.Need-same-length-4
 same-length-4 c = search needs
 
-returns-4 : tie.Need-returns-4
-returns-4 c = λ z. absurd (omega arith)
-
 same-length-5 : tie.Need-same-length-5
 same-length-5 c = search needs
+
+returns-4 : tie.Need-returns-4
+returns-4 c = λ z. absurd (omega arith)
 
 same-length-6 : tie.Need-same-length-6
 same-length-6 c = search needs
 
+same-length-7 : tie.Need-same-length-7
+same-length-7 c = search needs
+
+same-length-8 : tie.Need-same-length-8
+same-length-8 c = search needs
+
 returns-5 : tie.Need-returns-5
 returns-5 c =
     let h = c .before .before .before .before .before .before .before .before .before .before .before .snodes-hold .ensures (omega arith) in
-    λ z. record {
-      snodes = h .0;
-      some = ne-eqb _ _ (c .before .before .before .before .before .before .before .before .before .before .before .before .before .before .before .if1 .left);
-      separators = sym (c .before .before .before .separators-by .ensures) ∙ not-false _ (c .if4 .left);
-    }
+    λ z. (
+      record {
+        snodes = h .0;
+        some = ne-eqb _ _ (c .before .before .before .before .before .before .before .before .before .before .before .before .before .before .before .if1 .left);
+        separators = sym (c .before .before .before .separators-by .ensures) ∙ not-false _ (c .if4 .left);
+      },
+      h .2,
+    )
 
 pub cliques-hold-spec : {M : Type 1} → statement M
 cliques-hold-spec =
@@ -65,7 +74,9 @@ cliques-hold-spec =
     separators-by-requires
     same-length-3
     same-length-4
-    returns-4
     same-length-5
+    returns-4
     same-length-6
+    same-length-7
+    same-length-8
     returns-5)

@@ -5,7 +5,7 @@ use borrow.Author.Tests.{not-false}
 use Rattle.supernode_tree.proofs.Words.{clique-found}
 use Rattle.supernode_tree.proofs.Cliques.{snode-part}
 use Rattle.accepted.specs.Accepted.{SnodesHold}
-use Rattle.accepted.proofs.Walked.{Walked, walked-none, walked-more, walked-snodes, walked-offsets}
+use Rattle.accepted.proofs.Walked.{Walked, walked-none, walked-more, walked-snodes, walked-offsets, walked-marks}
 use native.Mathlib.Omega.{arith}
 use borrow.Author.Needs.{needs}
 use Rattle.accepted.proofs.snodes_hold.Statement.{statement}
@@ -19,19 +19,15 @@ Inv-loop words first count marks₀ offsets₀ total₀ at₀ c₀ marks offsets
 abbrev μ-loop : tie.MeasureT-loop
 μ-loop words first count marks₀ offsets₀ total₀ at₀ c₀ marks offsets total at c = count - c
 
-clear-requires : tie.Need-clear-requires Inv-loop μ-loop
-clear-requires c κs = search needs
-
 loop-holds : tie.Need-loop-holds Inv-loop μ-loop
 loop-holds c =
-    let k = c .before .before in
-    let s = c .before .before .before .before .before .before .before in (
+    let s = c .before .before .before in (
       omega arith,
       omega arith,
       omega arith,
       refl,
       refl,
-      rw (k .clear .ensures) (walked-none (s .args .words .now) (s .args .first) (s .args .count) (length (s .args .marks .now)) (s .args .offsets .now)),
+      walked-none (s .args .words .now) (s .args .first) (s .args .count) (s .args .marks .now) (s .args .offsets .now) (s .pre .1 .0),
     )
 
 read-requires : tie.Need-read-requires Inv-loop μ-loop
@@ -73,20 +69,20 @@ same-length-6 c = search needs
 returns-3 : tie.Need-returns-3 Inv-loop μ-loop
 returns-3 c = λ z. absurd (omega arith)
 
-mul-mark-new : tie.Need-mul-mark-new Inv-loop μ-loop
-mul-mark-new c = let inside = rw (c .before .before .before .before .before .q .given .1) at (c .before .before .before .before .before .before .before .read .ensures .1) in omega arith
+mul-mark-all : tie.Need-mul-mark-all Inv-loop μ-loop
+mul-mark-all c = let inside = rw (c .before .before .before .before .before .q .given .1) at (c .before .before .before .before .before .before .before .read .ensures .1) in omega arith
 
-sub-mark-new : tie.Need-sub-mark-new Inv-loop μ-loop
-sub-mark-new c = let inside = rw (c .before .before .before .before .before .q .given .1) at (c .before .before .before .before .before .before .before .read .ensures .1) in omega arith
+sub-mark-all : tie.Need-sub-mark-all Inv-loop μ-loop
+sub-mark-all c = let inside = rw (c .before .before .before .before .before .q .given .1) at (c .before .before .before .before .before .before .before .read .ensures .1) in omega arith
 
-part-mark-new-start : tie.Need-part-mark-new-start Inv-loop μ-loop
-part-mark-new-start c = let inside = rw (c .before .before .before .before .before .q .given .1) at (c .before .before .before .before .before .before .before .read .ensures .1) in omega arith
+part-mark-all-start : tie.Need-part-mark-all-start Inv-loop μ-loop
+part-mark-all-start c = let inside = rw (c .before .before .before .before .before .q .given .1) at (c .before .before .before .before .before .before .before .read .ensures .1) in omega arith
 
-part-mark-new-end : tie.Need-part-mark-new-end Inv-loop μ-loop
-part-mark-new-end c = let inside = rw (c .before .before .before .before .before .q .given .1) at (c .before .before .before .before .before .before .before .read .ensures .1) in omega arith
+part-mark-all-end : tie.Need-part-mark-all-end Inv-loop μ-loop
+part-mark-all-end c = let inside = rw (c .before .before .before .before .before .q .given .1) at (c .before .before .before .before .before .before .before .read .ensures .1) in omega arith
 
-mark-new-requires : tie.Need-mark-new-requires Inv-loop μ-loop
-mark-new-requires c κs = search needs
+mark-all-requires : tie.Need-mark-all-requires Inv-loop μ-loop
+mark-all-requires c κs = search needs
 
 same-length-7 : tie.Need-same-length-7 Inv-loop μ-loop
 same-length-7 c = search needs
@@ -110,7 +106,7 @@ add-total : tie.Need-add-total Inv-loop μ-loop
 add-total c = let inside = rw (c .before .before .before .before .before .before .before .before .before .before .before .before .q .given .1) at (c .before .before .before .before .before .before .before .before .before .before .before .before .before .before .read .ensures .1) in omega arith
 
 add-c : tie.Need-add-c Inv-loop μ-loop
-add-c c = omega (arith, c .before .before .before .before .before .before .before .before .before .before .before .before .before .before .before .before .before .before .before .before .before .before .before .before .fits)
+add-c c = omega (arith, c .before .before .before .before .before .before .before .before .before .before .before .before .before .before .before .before .before .before .before .before .fits)
 
 loop-less : tie.Need-loop-less Inv-loop μ-loop
 loop-less c = search needs
@@ -122,7 +118,7 @@ loop-again c =
     let q = g .0 .0 in
     let r = c .before .before .before .before .before .before .before .before .before .before .before .before .before .before in
     let l = r .before .before in
-    let s = c .before .before .before .before .before .before .before .before .before .before .before .before .before .before .before .before .before .before .before .before .before .before .before .before in
+    let s = c .before .before .before .before .before .before .before .before .before .before .before .before .before .before .before .before .before .before .before .before in
     let ws = s .args .words .now in
     let at = l .loop .at in
     let inside = rw (g .1) at (r .read .ensures .1) in (
@@ -131,9 +127,9 @@ loop-again c =
       omega arith,
       omega arith,
       simp length-set (l .loop .inv .4),
-      walked-more ws (s .args .first) (s .args .count) (l .loop .marks) (l .loop .offsets) (l .loop .total) at (l .loop .c) (l .loop .inv .5) q (m .mark-new .last .1 .0) inside
+      walked-more ws (s .args .first) (s .args .count) (l .loop .marks) (l .loop .offsets) (l .loop .total) at (l .loop .c) (l .loop .inv .5) q (m .mark-all .last .1 .1 .0) inside
           (clique-found ws at _ q (r .read .ensures .0) (g .1)) (sym (c .before .before .before .before .before .before .before .before .before .before .parent-right .ensures) ∙ not-false _ (c .before .before .before .before .before .before .before .before .before .if1 .left)) (c .before .before .before .before .before .before .before .if2 .left)
-          (rw (snode-part ws at q inside) at (m .mark-new .ensures (not-false _ (c .before .if3 .left)))) (omega arith),
+          (rw (snode-part ws at q inside) at (m .mark-all .ensures (not-false _ (c .before .if3 .left)))) (omega arith),
     )
 
 same-length-9 : tie.Need-same-length-9 Inv-loop μ-loop
@@ -154,16 +150,18 @@ same-length-12 c = search needs
 returns-6 : tie.Need-returns-6 Inv-loop μ-loop
 returns-6 c =
     let l = c .before .before in
-    let s = c .before .before .before .before .before .before .before .before .before .before in
+    let s = c .before .before .before .before .before .before in
     let ws = s .args .words .now in
     let first = s .args .first in
     let count = s .args .count in
+    let w = l .loop .inv .5 in
     let end : l .loop .c ≡ count = omega arith in
     let n : length (l .loop .marks) ≡ length (s .args .marks .now) = omega arith in
     λ _. (
       subst (λ (k : ℕ). SnodesHold ws first count k (l .loop .at)) n
-          (walked-snodes ws first count (l .loop .marks) (l .loop .offsets) (l .loop .total) (l .loop .at) (l .loop .c) (l .loop .inv .5) end (omega arith) (l .loop .inv .0)),
-      walked-offsets ws first count (l .loop .marks) (l .loop .offsets) (l .loop .total) (l .loop .at) (l .loop .c) (l .loop .inv .5) end,
+          (walked-snodes ws first count (l .loop .marks) (l .loop .offsets) (l .loop .total) (l .loop .at) (l .loop .c) w end (omega arith) (l .loop .inv .0)),
+      walked-offsets ws first count (l .loop .marks) (l .loop .offsets) (l .loop .total) (l .loop .at) (l .loop .c) w end,
+      walked-marks ws first count (l .loop .marks) (l .loop .offsets) (l .loop .total) (l .loop .at) (l .loop .c) w end (omega arith),
     )
 
 pub snodes-hold-spec : {M : Type 1} → statement M
@@ -172,7 +170,6 @@ snodes-hold-spec =
     (tie.spec
     Inv-loop
     μ-loop
-    clear-requires
     loop-holds
     read-requires
     enum-known-q
@@ -187,11 +184,11 @@ snodes-hold-spec =
     same-length-5
     same-length-6
     returns-3
-    mul-mark-new
-    sub-mark-new
-    part-mark-new-start
-    part-mark-new-end
-    mark-new-requires
+    mul-mark-all
+    sub-mark-all
+    part-mark-all-start
+    part-mark-all-end
+    mark-all-requires
     same-length-7
     same-length-8
     returns-4

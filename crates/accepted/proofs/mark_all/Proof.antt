@@ -7,23 +7,23 @@ use lib.Seq.{take-all}
 use Rattle.layout.proofs.Tests.{differ}
 use Rattle.utils.proofs.Windows.{take-more, take-none}
 use Rattle.accepted.specs.Accepted.{Met}
-use Rattle.accepted.proofs.Marks.{met-more}
+use Rattle.accepted.proofs.Marks.{beq-differ, met-more}
 use native.Mathlib.Omega.{arith}
 use borrow.Author.Needs.{needs}
-use Rattle.accepted.proofs.mark_new.Statement.{statement}
-use Rattle.accepted.proofs.mark_new.Tie as tie
+use Rattle.accepted.proofs.mark_all.Statement.{statement}
+use Rattle.accepted.proofs.mark_all.Tie as tie
 
 abbrev Inv-loop : tie.InvT-loop
-Inv-loop words marks₀ i₀ marks i =
-    (i ≤ length words) × (length marks ≡ length marks₀) × ((met : List ℕ) → Met marks₀ met → Met marks (met ++ take i words))
+Inv-loop words b marks₀ i₀ marks i =
+    (i ≤ length words) × (length marks ≡ length marks₀) × ((met : List ℕ) → Met b marks₀ met → Met b marks (met ++ take i words))
 
 abbrev μ-loop : tie.MeasureT-loop
-μ-loop words marks₀ i₀ marks i = length words - i
+μ-loop words b marks₀ i₀ marks i = length words - i
 
 loop-holds : tie.Need-loop-holds Inv-loop μ-loop
 loop-holds c =
     let ws = c .args .words .now in
-    (omega arith, refl, λ met m. subst (Met (c .args .marks .now)) (take-none met ws) m)
+    (omega arith, refl, λ met m. subst (Met (c .args .b) (c .args .marks .now)) (take-none met ws) m)
 
 mul-x : tie.Need-mul-x Inv-loop μ-loop
 mul-x c = search needs
@@ -67,7 +67,7 @@ loop-again c =
       simp length-set (l .loop .inv .1),
       λ met m.
           let h : i < length ws = omega arith in
-          rw (take-more met ws i h) (met-more (l .loop .marks) (met ++ take i ws) (getD ws i 0) (omega arith) (c .if2 .left) (l .loop .inv .2 met m)),
+          rw (take-more met ws i h) (met-more (l .before .args .b) (l .loop .marks) (met ++ take i ws) (getD ws i 0) (omega arith) (beq-differ _ _ (c .if2 .left)) (l .loop .inv .2 met m)),
     )
 
 same-length-3 : tie.Need-same-length-3 Inv-loop μ-loop
@@ -80,8 +80,8 @@ returns-3 c =
     let e : take (l .loop .i) ws ≡ ws = take-all (l .loop .i) ws (c .loop-test .left) in
     λ _ met m. rw e at (l .loop .inv .2 met m)
 
-pub mark-new-spec : {M : Type 1} → statement M
-mark-new-spec =
+pub mark-all-spec : {M : Type 1} → statement M
+mark-all-spec =
     tie.close
     (tie.spec
     Inv-loop
