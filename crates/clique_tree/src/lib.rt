@@ -21,7 +21,7 @@ use supernode_tree::PatternRead;
 // ---- check 6
 
 // The c-th of count cliques has a later parent, or is the last and has neither parent nor separator.
-fn parent_right(q: Clique, c: u32, count: u32) -> bool
+pub fn parent_right(q: Clique, c: u32, count: u32) -> bool
     requires { ⌜ c < count ⌝ }
     ensures { λ r. ⌜ r ≡ parentOk count c (q .parent) (q .«separator_count») ⌝ }
 {
@@ -204,7 +204,8 @@ fn separator_right(words: &[u32], q: Clique, m: Members, n: usize, marks: &mut [
     vertex_set::once_in(&words[a..e], &words[b..f], n, marks)
 }
 
-fn separators_by(
+// Each separator, with the offset of each step-th clique.
+pub fn separators_by(
     words: &[u32],
     first: usize,
     count: u32,

@@ -134,7 +134,8 @@ fn once_in_by(us: &[u32], ms: &[u32], n: usize, marks: &mut [bool]) -> bool
     }
 }
 
-// By walks where they cost no more than the marks do, and where a number is not below n; else by marks.
+// By walks where both are short, since then they cost no more than the marks do, and where a number is not below n; else by
+// marks.
 pub fn once_in(us: &[u32], ms: &[u32], n: usize, marks: &mut [bool]) -> bool
     requires { ⌜ 0 < length (now marks) ⌝ }
     ensures { λ r. ⌜ r ≡ onceIn (now (ms .entry)) (now (us .entry)) ⌝ }
@@ -142,7 +143,7 @@ pub fn once_in(us: &[u32], ms: &[u32], n: usize, marks: &mut [bool]) -> bool
     if us.len() == 0 {
         return true;
     }
-    if ms.len() <= marks.len() / us.len() {
+    if us.len() <= 16 && ms.len() <= 16 {
         return once_in_walk(us, ms);
     }
     if !utils::all_below(us, n) {

@@ -9,9 +9,6 @@ use Rattle.vertex_set.proofs.once_in.Tie as tie
 returns : tie.Need-returns
 returns c = let s = c .before .before .before .before in sym (once-empty (s .args .ms .now) (s .args .us .now) (omega arith))
 
-div-if2 : tie.Need-div-if2
-div-if2 c = search needs
-
 once-in-walk-requires : tie.Need-once-in-walk-requires
 once-in-walk-requires c κs = search needs
 
@@ -28,7 +25,7 @@ returns-3 : tie.Need-returns-3
 returns-3 c = search needs
 
 once-in-by-requires : tie.Need-once-in-by-requires
-once-in-by-requires c κs = (sym (c .before .before .all-below .ensures) ∙ not-false _ (c .before .if3 .left), omega arith)
+once-in-by-requires c κs = (sym (c .before .before .all-below .ensures) ∙ not-false _ (c .before .if4 .left), omega arith)
 
 same-length : tie.Need-same-length
 same-length c = search needs
@@ -41,7 +38,6 @@ once-in-spec =
     tie.close
     (tie.spec
     returns
-    div-if2
     once-in-walk-requires
     returns-2
     all-below-requires

@@ -1,0 +1,180 @@
+// Checks 5, 6 and 7 of patterns that are right, in two walks over the cliques. Only a true answer says something: where it is
+// false the checks themselves find the number.
+ghost use mathlib.Core.Path.{_≡_};
+ghost use mathlib.Core.Bool.{true, false};
+ghost use Prim.Native.Nat.{_+_, _≤_, _<_};
+ghost use lib.ListN.{length};
+ghost use Rattle.supernode_tree.specs.Offsets.{OffsetsEvery};
+ghost use Rattle.accepted.specs.Accepted.{Holds, AllAre, MeetsMore, SnodesHold, CliquesHold, MembersHold, HoldsAt};
+use supernode_tree::Clique;
+use supernode_tree::CliqueRead;
+use supernode_tree::Pattern;
+use supernode_tree::PatternRead;
+
+// Sets the marks of the words' numbers to b, unless one has no mark or is b already.
+fn mark_all(words: &[u32], b: bool, marks: &mut [bool]) -> bool
+    ensures { λ r. ⌜ (r ≡ true → MeetsMore b (now (marks .entry)) (now (words .entry)) (now (marks .exit))) ⌝ }
+{
+    let mut i = 0;
+    while i < words.len() {
+        let x = words[i] as usize;
+        if marks.len() <= x {
+            return false;
+        }
+        if marks[x] == b {
+            return false;
+        }
+        marks[x] = b;
+        i += 1;
+    }
+    true
+}
+
+// Parents and snodes. Each vertex has a mark and loses it, so that none is left to clear; each clique leaves its offset. Answers
+// where the words after the cliques start, or 0 where something is not right.
+fn snodes_hold(
+    words: &[u32],
+    first: usize,
+    count: u32,
+    marks: &mut [bool],
+    offsets: &mut [usize],
+) -> usize
+    requires { ⌜ first ≤ length (now words) ⌝ }
+    requires { ⌜ AllAre true (now marks) ⌝ }
+    requires { ⌜ count ≤ length (now offsets) ⌝ }
+    ensures { λ r. ⌜ (0 < r → SnodesHold (now (words .entry)) first count (length (now (marks .entry))) r × OffsetsEvery 1 (now (words .entry)) first count (now (offsets .exit)) × AllAre false (now (marks .exit))) ⌝ }
+{
+    let mut total = 0;
+    let mut at = first;
+    let mut c = 0;
+    while c < count {
+        let CliqueRead::Clique(q) = Clique::read(words, at) else {
+            return 0;
+        };
+        if !clique_tree::parent_right(q, c, count) {
+            return 0;
+        }
+        if q.snode_count == 0 {
+            return 0;
+        }
+        let a = q.snode;
+        let e = q.separator;
+        if !mark_all(&words[a..e], false, &mut *marks) {
+            return 0;
+        }
+        offsets[c as usize] = at;
+        total += q.snode_count;
+        at = q.next;
+        c += 1;
+    }
+    if total != marks.len() {
+        return 0;
+    }
+    at
+}
+
+// A pattern's cliques, with marks for the vertices, room for the cliques' offsets, and marks to look at separators. Answers
+// where the words after them start, or 0.
+fn cliques_hold(
+    words: &[u32],
+    first: usize,
+    count: u32,
+    marks: &mut [bool],
+    offsets: &mut [usize],
+    others: &mut [bool],
+) -> usize
+    requires { ⌜ first ≤ length (now words) ⌝ }
+    requires { ⌜ AllAre true (now marks) ⌝ }
+    requires { ⌜ 0 < length (now others) ⌝ }
+    ensures { λ r. ⌜ (0 < r → CliquesHold (now (words .entry)) first count (length (now (marks .entry))) r × AllAre false (now (marks .exit))) ⌝ }
+{
+    if count == 0 {
+        return 0;
+    }
+    if offsets.len() < count as usize {
+        return 0;
+    }
+    let n = marks.len();
+    let next = snodes_hold(words, first, count, marks, &mut *offsets);
+    if next == 0 {
+        return 0;
+    }
+    if !clique_tree::separators_by(words, first, count, n, 1, offsets, others) {
+        return 0;
+    }
+    next
+}
+
+// A pattern whose head was read, with a mark for each vertex: its ordering sets them all, and its snodes take them away.
+fn members_hold(
+    words: &[u32],
+    p: Pattern,
+    marks: &mut [bool],
+    offsets: &mut [usize],
+    others: &mut [bool],
+) -> usize
+    requires { ⌜ (p .cliques ≡ p .ordering + p .«vertex_count») × (p .cliques ≤ length (now words)) ⌝ }
+    requires { ⌜ p .«vertex_count» ≡ length (now marks) ⌝ }
+    requires { ⌜ AllAre false (now marks) ⌝ }
+    requires { ⌜ 0 < length (now others) ⌝ }
+    ensures { λ r. ⌜ (0 < r → MembersHold (now (words .entry)) p r × AllAre false (now (marks .exit))) ⌝ }
+{
+    let a = p.ordering;
+    let e = p.cliques;
+    if !mark_all(&words[a..e], true, &mut *marks) {
+        return 0;
+    }
+    cliques_hold(words, e, p.clique_count, marks, offsets, others)
+}
+
+// The same with marks to spare, and its cone.
+fn pattern_holds(
+    cones: &[u32],
+    words: &[u32],
+    p: Pattern,
+    marks: &mut [bool],
+    offsets: &mut [usize],
+    others: &mut [bool],
+) -> usize
+    requires { ⌜ (p .cliques ≡ p .ordering + p .«vertex_count») × (p .cliques ≤ length (now words)) ⌝ }
+    requires { ⌜ AllAre false (now marks) ⌝ }
+    requires { ⌜ 0 < length (now others) ⌝ }
+    ensures { λ r. ⌜ (0 < r → HoldsAt (now (cones .entry)) (now (words .entry)) p r × AllAre false (now (marks .exit))) ⌝ }
+{
+    let n = p.vertex_count;
+    if marks.len() < n {
+        return 0;
+    }
+    if !supportedcone::is_psd_of(cones, p.orig_index as usize, n) {
+        return 0;
+    }
+    members_hold(words, p, &mut marks[0..n], offsets, others)
+}
+
+// Where this is true, checks 5, 6 and 7 hold.
+pub fn patterns_hold(cones: &[u32], count: u32, words: &[u32]) -> bool
+    ensures { λ r. ⌜ (r ≡ true → Holds (now (cones .entry)) count (now (words .entry))) ⌝ }
+{
+    let mut marks = [false; 256];
+    let mut offsets = [0usize; 256];
+    let mut others = [false; 256];
+    let mut least: u64 = 0;
+    let mut at = 0;
+    let mut left = count;
+    while 0 < left {
+        let PatternRead::Pattern(p) = Pattern::read(words, at) else {
+            return false;
+        };
+        let origin = p.orig_index as u64;
+        if origin < least {
+            return false;
+        }
+        least = origin + 1;
+        at = pattern_holds(cones, words, p, &mut marks, &mut offsets, &mut others);
+        if at == 0 {
+            return false;
+        }
+        left -= 1;
+    }
+    at == words.len()
+}
