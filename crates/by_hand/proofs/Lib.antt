@@ -2,5 +2,10 @@ pub mod Counted
 pub mod Stars
 pub mod Calling
 pub mod Locals
+pub mod Lending
+pub mod Outputs
 pub mod Params
+pub mod Places
+pub mod Operands
+pub mod Walking
 pub mod Values

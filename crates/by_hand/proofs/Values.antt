@@ -43,3 +43,12 @@ fitting f = (tt, (tt, (record { fits = f }, tt)))
 -- what is said of its last value
 abbrev pub left : (R : RattleType) → RefT (List (R .Denot)) → List (R .Denot) → Fml
 left R x l = fsep (finally R (x .name) l) (feq ℕ (length l) (length (x .now)))
+
+-- ---- values in a row as a list for each, as a contract binds them
+abbrev pub Singles : List Val → Type 0
+Singles [] = Unit {0}
+Singles (v ∷ vs) = List Val × Singles vs
+
+abbrev pub singles : (vs : List Val) → Singles vs
+singles [] = tt
+singles (v ∷ vs) = (v ∷ [], singles vs)

@@ -1,0 +1,45 @@
+-- The `&mut [R]` parameters that a function walked by hand hands on, as a list.
+--     Lists os         a list for each: their last values.        alongside     of two lists of outputs
+--     lefts os ws      what is said of them
+--     Units k X        k units, and X: what is bound of last values where k parameters have none.        units, after     put before, and taken off
+use Prim.Native.Nat.{ℕ, zero, suc, _<_, _^_}
+use mathlib.Core.List.{List, [], _∷_, _++_}
+use lib.ListN.{length}
+use mir.Syntax.{Lifetime}
+use base.Fml.{Fml}
+use denote.RattleType.{RattleType}
+use denote.Ref.{RefT}
+use Rattle.by_hand.proofs.Values.{left}
+
+pub record Output : Type 2 where
+  pub lifetime : Lifetime
+  pub R : RattleType
+  pub ref : RefT (List (R .Denot))
+  pub fits : length (ref .now) < 2 ^ 64
+
+abbrev pub output : Lifetime → (R : RattleType) (x : RefT (List (R .Denot))) → length (x .now) < 2 ^ 64 → Output
+output ℓ R x fits = record { lifetime = ℓ; R = R; ref = x; fits = fits }
+
+abbrev pub Lists : List Output → Type 0
+Lists [] = Unit {0}
+Lists (o ∷ os) = List (o .R .Denot) × Lists os
+
+abbrev pub alongside : (os us : List Output) → Lists os → Lists us → Lists (os ++ us)
+alongside [] us vs ws = ws
+alongside (o ∷ os) us vs ws = (vs .0, alongside os us (vs .1) ws)
+
+abbrev pub lefts : (os : List Output) → Lists os → List Fml
+lefts [] ws = []
+lefts (o ∷ os) ws = left (o .R) (o .ref) (ws .0) ∷ lefts os (ws .1)
+
+abbrev pub Units : ℕ → Type 0 → Type 0
+Units zero X = X
+Units (suc k) X = Unit {0} × Units k X
+
+abbrev pub units : {X : Type 0} (k : ℕ) → X → Units k X
+units zero x = x
+units (suc k) x = (tt, units k x)
+
+abbrev pub after : {X : Type 0} (k : ℕ) → Units k X → X
+after zero u = u
+after (suc k) u = after k (u .1)
