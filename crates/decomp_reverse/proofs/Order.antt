@@ -1,24 +1,25 @@
 -- A joining's refusals in order, and what one that is refused nothing is given.
-use Prim.Native.Nat.{ℕ, zero, suc, _+_, _≤_}
+use Prim.Native.Nat.{ℕ, _≤_}
 use native.Mathlib.Omega.{arith}
-use mathlib.Core.Path.{_≡_, refl, sym, subst, _∙_}
+use mathlib.Core.Path.{_≡_, refl, sym, ap, subst, _∙_}
 use mathlib.Core.Bool.{Bool, true, false, cond, _&&_}
 use mathlib.Core.List.{List, [], _∷_}
 use lib.ListN.{length, take}
-use lib.Dec.{T, eqb, lit<}
+use lib.Dec.{T, lit<}
 use lib.Ieee.{Float}
 use Rattle.layout.specs.Problem.{Route, standard, compact, Solution, solution, one64}
 use Rattle.layout.specs.Blocks.{Part, blockRowCount, overlapCount}
 use Rattle.layout.specs.Checks.{Sound, firstFailing}
-use Rattle.layout.specs.Answers.{orElse, roomy, joinedParts, joinChecks, joinRefusal, joined, solutionFits, mapRight, scalars, routeOf}
+use Rattle.layout.specs.Answers.{orElse, roomy, joinedParts, joinChecks, joinRefusal, joined, solutionFits, mapRight, scalars}
 use Rattle.layout.proofs.Tests.{and-iff, leb-iff, eqb-iff}
 use Rattle.layout.proofs.Accepted.{passed}
 use Rattle.checks.specs.Order.{joinedRefusal}
 use Rattle.checks.proofs.Order.{joined-then-route, first-given, both-zero}
 use Rattle.checks.proofs.Checked.{joined-sound}
-use Rattle.chordal_info.specs.Routes.{joinRouteChecks}
+use Rattle.chordal_info.specs.Routes.{joinRouteChecks, Counted}
 use Rattle.chordal_info.proofs.Sizes.{rows-fit, rows-few}
 use Rattle.reverse.specs.Joined.{Joinable, joinedOf}
+use Rattle.decomp_reverse.specs.Fits.{lengthsFit}
 
 -- the answer at each place
 pub join-order : (a : ℕ) (room fit : Bool) →
@@ -43,20 +44,23 @@ checks-passed route n m cones count words e =
       rows-few route m (blockRowCount ps) (overlapCount ps) (subst T (sym (rows-fit route m ps)) (passed 7 2 last later (lit< tt))),
     )
 
--- ---- a solution's lengths from counts, by the route's number
+-- the first seven, where they refuse; and those of the route, where they do not
+module _ (route : Route) (n m : ℕ) (cones : List ℕ) (count : ℕ) (words : List ℕ) where
+  abbrev later : ℕ
+  later = firstFailing 8 (joinRouteChecks route n m (joinedParts cones count words))
 
-module _ (n m : ℕ) where
-  pub standard-fits : (route rows : ℕ) (ps : List Part) (sol : Solution) → route ≡ 0 → rows ≡ blockRowCount ps
-      → (eqb (length (sol .x)) (n + rows) && eqb (length (sol .s)) (m + rows) && eqb (length (sol .z)) (m + rows))
-      ≡ solutionFits (routeOf route) n m ps sol
-  standard-fits route rows ps sol e f = rw (e, f)
+  pub seven-refused : (joinedRefusal n m cones count words ≡ 0 → ⊥) → joinedRefusal n m cones count words ≡ joinChecks route n m cones count words
+  seven-refused h = sym (joined-then-route route n m cones count words ∙ first-given (joinedRefusal n m cones count words) later h)
 
-  pub compact-fits : (route rows overlaps : ℕ) (ps : List Part) (sol : Solution) → (route ≡ 0 → ⊥) → rows ≡ blockRowCount ps
-      → overlaps ≡ overlapCount ps
-      → (eqb (length (sol .x)) (n + overlaps) && eqb (length (sol .s)) rows && eqb (length (sol .z)) rows)
-      ≡ solutionFits (routeOf route) n m ps sol
-  compact-fits zero rows overlaps ps sol h e f = absurd (h refl)
-  compact-fits (suc route) rows overlaps ps sol h e f = rw (e, f)
+  pub seven-passed : joinedRefusal n m cones count words ≡ 0 → later ≡ joinChecks route n m cones count words
+  seven-passed e = sym (joined-then-route route n m cones count words ∙ ap (λ (k : ℕ). orElse k later) e)
+
+-- ---- a solution's lengths from counts
+
+pub counted-fits : (route : Route) (n m rows overlaps : ℕ) (ps : List Part) (sol : Solution) → Counted ps rows overlaps
+    → lengthsFit route n m rows overlaps sol ≡ solutionFits route n m ps sol
+counted-fits standard n m rows overlaps ps sol h = rw (h .0)
+counted-fits compact n m rows overlaps ps sol h = rw (h .0, h .1)
 
 -- ---- nothing is refused
 

@@ -1,1 +1,2 @@
 pub mod Begins
+pub mod Fits

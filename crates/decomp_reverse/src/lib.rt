@@ -11,8 +11,11 @@ ghost use Rattle.layout.specs.Blocks.{blockRowCount};
 ghost use Rattle.layout.specs.Checks.{Sound};
 ghost use Rattle.layout.specs.Compact.{blockOf, coneMap, mapWords};
 ghost use Rattle.layout.specs.Answers.{output, roomy, onRoute, routeOf, joinedParts, solutionFits, mapRight, joinChecks, joinRefusal, joined, scalars as scalarsOf};
+ghost use Rattle.checks.specs.Order.{joinedRefusal};
+ghost use Rattle.chordal_info.specs.Routes.{Counted};
 ghost use Rattle.reverse.specs.Joined.{Joinable, joinedOf};
 ghost use Rattle.decomp_reverse.specs.Begins.{begins};
+ghost use Rattle.decomp_reverse.specs.Fits.{lengthsFit};
 use parts::Met;
 use parts::Place;
 use reverse_standard::Scalars;
@@ -129,7 +132,28 @@ fn lengths_are(x: &[f64], s: &[f64], z: &[f64], columns: usize, rows: usize) -> 
     z.len() == rows
 }
 
-// Check 12: whether the solution has the augmented problem's lengths.
+// Check 12: whether the solution has the augmented problem's lengths, whose blocks' rows and overlaps are counted.
+fn lengths_fit(
+    route: u32,
+    n: u32,
+    m: u32,
+    rows: u64,
+    overlaps: u64,
+    x: &[f64],
+    s: &[f64],
+    z: &[f64],
+) -> bool
+    requires { ⌜ (rows ≤ 262144) × (overlaps ≤ rows) ⌝ }
+    ensures { λ r. ⌜ r ≡ lengthsFit (routeOf route) n m rows overlaps (solution (now (x .entry)) (now (s .entry)) (now (z .entry)) one64 one64) ⌝ }
+{
+    let k = rows as usize;
+    if route == 0 {
+        return lengths_are(x, s, z, n as usize + k, m as usize + k);
+    }
+    lengths_are(x, s, z, n as usize + overlaps as usize, k)
+}
+
+// The same, counted here.
 pub fn solution_fits(
     route: u32,
     n: u32,
@@ -146,11 +170,7 @@ pub fn solution_fits(
     ensures { λ r. ⌜ r ≡ solutionFits (routeOf route) n m (joinedParts (now (cones .entry)) count (now (words .entry))) (solution (now (x .entry)) (now (s .entry)) (now (z .entry)) one64 one64) ⌝ }
 {
     let d = parts::get_decomposed_dim_and_overlaps(m, cones, count, words);
-    let rows = d.rows as usize;
-    if route == 0 {
-        return lengths_are(x, s, z, n as usize + rows, m as usize + rows);
-    }
-    lengths_are(x, s, z, n as usize + d.overlaps as usize, rows)
+    lengths_fit(route, n, m, d.rows, d.overlaps, x, s, z)
 }
 
 // And on the compact route the cone map.
@@ -161,16 +181,18 @@ fn solution_right(
     cones: &[u32],
     count: u32,
     words: &[u32],
+    rows: u64,
+    overlaps: u64,
     x: &[f64],
     s: &[f64],
     z: &[f64],
     entries: &[u32],
 ) -> bool
     requires { ⌜ Sound m (now cones) count (now words) ⌝ }
-    requires { ⌜ blockRowCount (joinedParts (now cones) count (now words)) ≤ 262144 ⌝ }
+    requires { ⌜ Counted (joinedParts (now cones) count (now words)) rows overlaps × (rows ≤ 262144) ⌝ }
     ensures { λ r. ⌜ r ≡ (solutionFits (routeOf route) n m (joinedParts (now (cones .entry)) count (now (words .entry))) (solution (now (x .entry)) (now (s .entry)) (now (z .entry)) one64 one64) && mapRight (routeOf route) (joinedParts (now (cones .entry)) count (now (words .entry))) (now (entries .entry))) ⌝ }
 {
-    if !solution_fits(route, n, m, cones, count, words, x, s, z) {
+    if !lengths_fit(route, n, m, rows, overlaps, x, s, z) {
         return false;
     }
     if route == 0 {
@@ -179,7 +201,57 @@ fn solution_right(
     map_right(m, cones, count, words, entries)
 }
 
+// Checks 8 to 12 in order, where checks 1 to 7 have passed.
+fn refuse_counted(
+    route: u32,
+    n: u32,
+    m: u32,
+    cones: &[u32],
+    count: u32,
+    words: &[u32],
+    rows: u64,
+    overlaps: u64,
+    x: &[f64],
+    s: &[f64],
+    z: &[f64],
+    entries: &[u32],
+    x_room: usize,
+    s_room: usize,
+    z_room: usize,
+    scalars_room: usize,
+) -> u32
+    requires { ⌜ joinedRefusal n m (now cones) count (now words) ≡ 0 ⌝ }
+    requires { ⌜ Counted (joinedParts (now cones) count (now words)) rows overlaps ⌝ }
+    ensures { λ r. ⌜ r ≡ joinRefusal (routeOf route) n m (now (cones .entry)) count (now (words .entry)) (solution (now (x .entry)) (now (s .entry)) (now (z .entry)) one64 one64) (now (entries .entry)) («x_room» ∷ «s_room» ∷ «z_room» ∷ «scalars_room» ∷ []) ⌝ }
+{
+    let r = chordal_info::check_join_counted(route, n, m, rows, overlaps);
+    if r != 0 {
+        return r;
+    }
+    if !room_enough(n, m, x_room, s_room, z_room, scalars_room) {
+        return 11;
+    }
+    if !solution_right(
+        route,
+        n,
+        m,
+        cones,
+        count,
+        words,
+        rows,
+        overlaps,
+        x,
+        s,
+        z,
+        entries,
+    ) {
+        return 12;
+    }
+    0
+}
+
 // Checks 1 to 12 in order, with the room of each output: the number of the first that fails, or 0. Any number but 0 names the compact route.
+// The blocks are counted once for all checks.
 fn refuse_join(
     route: u32,
     n: u32,
@@ -198,17 +270,29 @@ fn refuse_join(
 ) -> u32
     ensures { λ r. ⌜ r ≡ joinRefusal (routeOf route) n m (now (cones .entry)) count (now (words .entry)) (solution (now (x .entry)) (now (s .entry)) (now (z .entry)) one64 one64) (now (entries .entry)) («x_room» ∷ «s_room» ∷ «z_room» ∷ «scalars_room» ∷ []) ⌝ }
 {
-    let r = check_join(route, n, m, cones, count, words);
+    let r = checks::check_joined(n, m, cones, count, words);
     if r != 0 {
         return r;
     }
-    if !room_enough(n, m, x_room, s_room, z_room, scalars_room) {
-        return 11;
-    }
-    if !solution_right(route, n, m, cones, count, words, x, s, z, entries) {
-        return 12;
-    }
-    0
+    let d = parts::get_decomposed_dim_and_overlaps(m, cones, count, words);
+    refuse_counted(
+        route,
+        n,
+        m,
+        cones,
+        count,
+        words,
+        d.rows,
+        d.overlaps,
+        x,
+        s,
+        z,
+        entries,
+        x_room,
+        s_room,
+        z_room,
+        scalars_room,
+    )
 }
 
 // ---- the joining

@@ -27,7 +27,7 @@ fn copy_x(n: u32, x: &[f64], out: &mut [f64])
 
 // ---- all cones
 
-// s and z, with their values from the first cone's on.
+// s and z, with their values from the first cone's on. The buffers are made once for all patterns.
 fn join_parts(
     standard: bool,
     m: u32,
@@ -46,6 +46,8 @@ fn join_parts(
     ensures { λ _. ⌜ now («s_out» .exit) ≡ written (valuesFrom (sPart standard) (joinedParts (now (cones .entry)) count (now (words .entry))) (now (s .entry))) (now («s_out» .entry)) ⌝ }
     ensures { λ _. ⌜ now («z_out» .exit) ≡ written (valuesFrom (zPart standard) (joinedParts (now (cones .entry)) count (now (words .entry))) (now (z .entry))) (now («z_out» .entry)) ⌝ }
 {
+    let mut offsets = [0usize; 256];
+    let mut vertices = [0u32; 256];
     let mut place = Place::start(m, cones, count, words);
     let mut row = 0usize;
     let mut t = 0usize;
@@ -74,6 +76,8 @@ fn join_parts(
                     &mut *s_out,
                     &mut *z_out,
                     &mut *counts,
+                    &mut offsets,
+                    &mut vertices,
                 );
                 row += n;
                 place = next;

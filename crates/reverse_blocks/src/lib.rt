@@ -120,7 +120,7 @@ fn offset_at(standard: bool, offsets: &[usize], i: usize) -> usize
     offsets[offsets.len() - 1 - i]
 }
 
-// The blocks of the cliques at some offsets, in the order of the route; how many entries.
+// The blocks of the cliques at some offsets, in the order of the route; how many entries. Each clique's vertices are written to a buffer first.
 fn join_cliques(
     standard: bool,
     words: &[u32],
@@ -131,22 +131,23 @@ fn join_cliques(
     s_out: &mut [f64],
     z_out: &mut [f64],
     counts: &mut [u32],
+    vertices: &mut [u32],
 ) -> usize
     requires { ⌜ Standing (now words) (now ordering) (now offsets) × (triangle (length (now ordering)) ≤ length (now «s_out»)) ⌝ }
     requires { ⌜ (length (join (rowsHere 0 (now words) (now ordering)) (inOrder standard (now offsets))) ≤ length (now s)) × (length (now z) ≡ length (now s)) ⌝ }
     requires { ⌜ (length (now «z_out») ≡ length (now «s_out»)) × (length (now «s_out») ≤ 65536) ⌝ }
     requires { ⌜ Countable standard (length (now «s_out»)) (length (join (rowsHere 0 (now words) (now ordering)) (inOrder standard (now offsets)))) (now counts) ⌝ }
+    requires { ⌜ 256 ≤ length (now vertices) ⌝ }
     ensures { λ r. ⌜ r ≡ length (join (rowsHere 0 (now (words .entry)) (now (ordering .entry))) (inOrder standard (now (offsets .entry)))) ⌝ }
     ensures { λ _. ⌜ now («s_out» .exit) ≡ addColumns (join (rowsHere 0 (now (words .entry)) (now (ordering .entry))) (inOrder standard (now (offsets .entry)))) (now (s .entry)) (now («s_out» .entry)) ⌝ }
     ensures { λ _. ⌜ now («z_out» .exit) ≡ joinZ standard (join (rowsHere 0 (now (words .entry)) (now (ordering .entry))) (inOrder standard (now (offsets .entry)))) (now (z .entry)) (now («z_out» .entry)) ⌝ }
     ensures { λ _. ⌜ Counts standard (join (rowsHere 0 (now (words .entry)) (now (ordering .entry))) (inOrder standard (now (offsets .entry)))) (now (counts .entry)) (now (counts .exit)) ⌝ }
 {
-    let mut vertices = [0u32; 256];
     let mut t = 0;
     let mut i = 0;
     while i < offsets.len() {
         let at = offset_at(standard, offsets, i);
-        let k = blocks::clique_vertices(words, ordering, at, &mut vertices);
+        let k = blocks::clique_vertices(words, ordering, at, &mut *vertices);
         t += join_block(
             standard,
             &vertices[..k],
@@ -161,7 +162,7 @@ fn join_cliques(
     t
 }
 
-// The blocks of the pattern at an offset; how many entries.
+// The blocks of the pattern at an offset; how many entries. The caller lends the buffers, since to clear them costs more than a small pattern.
 pub fn join_pattern(
     standard: bool,
     words: &[u32],
@@ -171,11 +172,14 @@ pub fn join_pattern(
     s_out: &mut [f64],
     z_out: &mut [f64],
     counts: &mut [u32],
+    offsets: &mut [usize],
+    vertices: &mut [u32],
 ) -> usize
     requires { ⌜ RightPattern (patternAt (now words) at) × (patternAt (now words) at .vertexCount ≤ 256) ⌝ }
     requires { ⌜ (triangle (patternAt (now words) at .vertexCount) ≤ length (now «s_out»)) × (length (now «z_out») ≡ length (now «s_out»)) × (length (now «s_out») ≤ 65536) ⌝ }
     requires { ⌜ (blockRows (patternAt (now words) at) ≤ length (now s)) × (length (now z) ≡ length (now s)) ⌝ }
     requires { ⌜ Countable standard (length (now «s_out»)) (blockRows (patternAt (now words) at)) (now counts) ⌝ }
+    requires { ⌜ (256 ≤ length (now offsets)) × (256 ≤ length (now vertices)) ⌝ }
     ensures { λ r. ⌜ r ≡ blockRows (patternAt (now (words .entry)) at) ⌝ }
     ensures { λ _. ⌜ now («s_out» .exit) ≡ addColumns (ownRows standard (patternAt (now (words .entry)) at)) (now (s .entry)) (now («s_out» .entry)) ⌝ }
     ensures { λ _. ⌜ now («z_out» .exit) ≡ joinZ standard (ownRows standard (patternAt (now (words .entry)) at)) (now (z .entry)) (now («z_out» .entry)) ⌝ }
@@ -184,8 +188,7 @@ pub fn join_pattern(
     let PatternRead::Pattern(p) = Pattern::read(words, at) else {
         return 0;
     };
-    let mut offsets = [0usize; 256];
-    clique_offsets(words, p.cliques, p.clique_count, &mut offsets);
+    clique_offsets(words, p.cliques, p.clique_count, &mut *offsets);
     let a = p.ordering;
     let e = p.cliques;
     let k = p.clique_count as usize;
@@ -199,5 +202,6 @@ pub fn join_pattern(
         s_out,
         z_out,
         counts,
+        vertices,
     )
 }

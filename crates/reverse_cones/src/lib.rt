@@ -78,11 +78,14 @@ fn join_rows(
     s_out: &mut [f64],
     z_out: &mut [f64],
     counts: &mut [u32],
+    offsets: &mut [usize],
+    vertices: &mut [u32],
 ) -> usize
     requires { ⌜ RightPattern (patternAt (now words) at) × (patternAt (now words) at .vertexCount ≤ 256) ⌝ }
     requires { ⌜ (length (now «s_out») ≡ triangle (patternAt (now words) at .vertexCount)) × (length (now «z_out») ≡ triangle (patternAt (now words) at .vertexCount)) ⌝ }
     requires { ⌜ (blockRows (patternAt (now words) at) ≤ 262144) × (blockRows (patternAt (now words) at) ≤ length (now s)) × (length (now z) ≡ length (now s)) ⌝ }
     requires { ⌜ CountsRows standard (length (now «s_out»)) (now counts) ⌝ }
+    requires { ⌜ (256 ≤ length (now offsets)) × (256 ≤ length (now vertices)) ⌝ }
     ensures { λ r. ⌜ r ≡ blockRows (patternAt (now (words .entry)) at) ⌝ }
     ensures { λ _. ⌜ now («s_out» .exit) ≡ sCut standard (patternAt (now (words .entry)) at) (now (s .entry)) ⌝ }
     ensures { λ _. ⌜ now («z_out» .exit) ≡ zCut standard (patternAt (now (words .entry)) at) (now (z .entry)) ⌝ }
@@ -100,6 +103,8 @@ fn join_rows(
         s_out,
         &mut *z_out,
         &mut *counts,
+        offsets,
+        vertices,
     );
     average(standard, z_out, counts);
     k
@@ -118,11 +123,14 @@ pub fn join_cut(
     s_out: &mut [f64],
     z_out: &mut [f64],
     counts: &mut [u32],
+    offsets: &mut [usize],
+    vertices: &mut [u32],
 ) -> usize
     requires { ⌜ RightPattern (patternAt (now words) at) × (patternAt (now words) at .vertexCount ≤ 256) × (n ≡ triangle (patternAt (now words) at .vertexCount)) ⌝ }
     requires { ⌜ (row + n ≤ length (now «s_out»)) × (row + n ≤ length (now «z_out»)) ⌝ }
     requires { ⌜ (blockRows (patternAt (now words) at) ≤ 262144) × (t + blockRows (patternAt (now words) at) ≤ length (now s)) × (length (now z) ≡ length (now s)) ⌝ }
     requires { ⌜ CountsRows standard n (now counts) ⌝ }
+    requires { ⌜ (256 ≤ length (now offsets)) × (256 ≤ length (now vertices)) ⌝ }
     ensures { λ r. ⌜ r ≡ blockRows (patternAt (now (words .entry)) at) ⌝ }
     ensures { λ _. ⌜ now («s_out» .exit) ≡ writtenAt row (sCut standard (patternAt (now (words .entry)) at) (drop t (now (s .entry)))) (now («s_out» .entry)) ⌝ }
     ensures { λ _. ⌜ now («z_out» .exit) ≡ writtenAt row (zCut standard (patternAt (now (words .entry)) at) (drop t (now (z .entry)))) (now («z_out» .entry)) ⌝ }
@@ -137,5 +145,7 @@ pub fn join_cut(
         &mut s_out[row..e],
         &mut z_out[row..e],
         counts,
+        offsets,
+        vertices,
     )
 }

@@ -6,7 +6,7 @@ ghost use lib.ListN.{length};
 ghost use lib.Ieee.{add, binary64};
 ghost use Rattle.layout.specs.Lists.{below};
 ghost use Rattle.layout.specs.Problem.{zero64, one64};
-ghost use Rattle.reverse_standard.specs.Averages.{averagedBy};
+ghost use Rattle.reverse_standard.specs.Averages.{averagedBy, shared};
 
 // The two scalars of a solution.
 pub struct Scalars {
@@ -38,6 +38,17 @@ pub fn sum_rows(out: &mut [f64], values: &[f64])
     }
 }
 
+// z on a row where count columns stand. The quotient comes before the test, so that no branch waits for counts that follow no rule.
+fn row_average(v: f64, count: u32) -> f64
+    ensures { λ r. ⌜ r ≡ shared count v ⌝ }
+{
+    let quotient = v / count as f64;
+    if 1 < count {
+        return quotient;
+    }
+    v
+}
+
 // Divides each row by the number of its columns where that is above 1.
 pub fn take_averages(z: &mut [f64], counts: &[u32])
     requires { ⌜ length (now z) ≤ length (now counts) ⌝ }
@@ -45,10 +56,7 @@ pub fn take_averages(z: &mut [f64], counts: &[u32])
 {
     let mut i = 0;
     while i < z.len() {
-        let count = counts[i];
-        if 1 < count {
-            z[i] = z[i] / count as f64;
-        }
+        z[i] = row_average(z[i], counts[i]);
         i += 1;
     }
 }

@@ -1,11 +1,8 @@
-use Prim.Native.Nat.{ℕ}
-use mathlib.Core.Path.{_≡_, sym, ap, _∙_}
-use Rattle.layout.specs.Checks.{firstFailing}
-use Rattle.layout.specs.Answers.{orElse, routeOf, joinedParts}
+use mathlib.Core.Path.{_≡_, sym, _∙_}
+use Rattle.layout.specs.Answers.{routeOf}
 use Rattle.checks.specs.Order.{joinedRefusal}
-use Rattle.checks.proofs.Order.{joined-then-route, first-given}
 use Rattle.checks.proofs.Checked.{joined-sound}
-use Rattle.chordal_info.specs.Routes.{joinRouteChecks}
+use Rattle.decomp_reverse.proofs.Order.{seven-refused, seven-passed}
 use borrow.Author.Needs.{needs}
 use Rattle.decomp_reverse.proofs.check_join.Statement.{statement}
 use Rattle.decomp_reverse.proofs.check_join.Tie as tie
@@ -17,12 +14,8 @@ returns : tie.Need-returns
 returns c =
     let k = c .before in
     let a = k .before .before .before .args in
-    let route = routeOf (a .route) in
     k .check-joined .ensures
-    ∙ sym (joined-then-route route (a .n) (a .m) (a .cones .now) (a .count) (a .words .now)
-    ∙ first-given (joinedRefusal (a .n) (a .m) (a .cones .now) (a .count) (a .words .now))
-    (firstFailing 8 (joinRouteChecks route (a .n) (a .m) (joinedParts (a .cones .now) (a .count) (a .words .now))))
-    (λ z. c .if1 .taken (k .check-joined .ensures ∙ z)))
+    ∙ seven-refused (routeOf (a .route)) (a .n) (a .m) (a .cones .now) (a .count) (a .words .now) (λ z. c .if1 .taken (k .check-joined .ensures ∙ z))
 
 -- checks 1 to 7 passed
 seven : (c : tie.Else1) → let a = c .before .before .before .before .args in joinedRefusal (a .n) (a .m) (a .cones .now) (a .count) (a .words .now) ≡ 0
@@ -36,10 +29,7 @@ check-join-route-requires c κs =
 returns-2 : tie.Need-returns-2
 returns-2 c =
     let a = c .before .before .before .before .before .args in
-    let route = routeOf (a .route) in
-    c .check-join-route .ensures
-    ∙ sym (joined-then-route route (a .n) (a .m) (a .cones .now) (a .count) (a .words .now)
-    ∙ ap (λ (k : ℕ). orElse k (firstFailing 8 (joinRouteChecks route (a .n) (a .m) (joinedParts (a .cones .now) (a .count) (a .words .now))))) (seven (c .before)))
+    c .check-join-route .ensures ∙ seven-passed (routeOf (a .route)) (a .n) (a .m) (a .cones .now) (a .count) (a .words .now) (seven (c .before))
 
 pub check-join-spec : {M : Type 1} → statement M
 check-join-spec =

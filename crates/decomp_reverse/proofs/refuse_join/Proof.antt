@@ -1,81 +1,55 @@
-use Prim.Native.Nat.{ℕ}
 use mathlib.Core.Path.{_≡_, sym, _∙_}
-use mathlib.Core.Bool.{Bool, true, _&&_}
+use mathlib.Core.Bool.{Bool, _&&_}
 use mathlib.Core.List.{[], _∷_}
-use borrow.Author.Tests.{not-true, not-false}
 use Rattle.layout.specs.Problem.{solution, one64}
 use Rattle.layout.specs.Answers.{routeOf, roomy, joinedParts, solutionFits, mapRight, joinChecks}
-use Rattle.decomp_reverse.proofs.Order.{join-order, checks-passed}
+use Rattle.checks.specs.Order.{joinedRefusal}
+use Rattle.checks.proofs.Checked.{joined-sound}
+use Rattle.decomp_reverse.proofs.Order.{join-order, seven-refused}
 use borrow.Author.Needs.{needs}
 use Rattle.decomp_reverse.proofs.refuse_join.Statement.{statement}
 use Rattle.decomp_reverse.proofs.refuse_join.Tie as tie
 
-abbrev start : tie.After-check-join → tie.Start
+abbrev start : tie.After-check-joined → tie.Start
 start k = k .before .before .before .before .before .before .before
 
--- checks 1 to 10, 11 and 12
-abbrev ten : tie.Start → ℕ
-ten s = let a = s .args in joinChecks (routeOf (a .route)) (a .n) (a .m) (a .cones .now) (a .count) (a .words .now)
-
-abbrev room : tie.Start → Bool
-room s = let a = s .args in roomy (a .n ∷ a .m ∷ a .m ∷ 2 ∷ []) (a .x-room ∷ a .s-room ∷ a .z-room ∷ a .scalars-room ∷ [])
-
-abbrev fit : tie.Start → Bool
-fit s =
-    let a = s .args in
-    let ps = joinedParts (a .cones .now) (a .count) (a .words .now) in
-    solutionFits (routeOf (a .route)) (a .n) (a .m) ps (solution (a .x .now) (a .s .now) (a .z .now) one64 one64)
-    && mapRight (routeOf (a .route)) ps (a .entries .now)
-
-passed : (c : tie.Else1) → ten (start (c .before)) ≡ 0
-passed c = sym (c .before .check-join .ensures) ∙ c .if1 .left
-
-roomed : (c : tie.Else2) → room (start (c .before .before .before)) ≡ true
-roomed c = sym (c .before .room-enough .ensures) ∙ not-false _ (c .if2 .left)
-
-check-join-requires : tie.Need-check-join-requires
-check-join-requires c κs = search needs
+check-joined-requires : tie.Need-check-joined-requires
+check-joined-requires c κs = search needs
 
 returns : tie.Need-returns
 returns c =
     let k = c .before in
-    let s = start k in
-    k .check-join .ensures ∙ sym (join-order (ten s) (room s) (fit s) .0 (λ z. c .if1 .taken (k .check-join .ensures ∙ z)))
+    let a = start k .args in
+    let route = routeOf (a .route) in
+    let ps = joinedParts (a .cones .now) (a .count) (a .words .now) in
+    let room : Bool = roomy (a .n ∷ a .m ∷ a .m ∷ 2 ∷ []) (a .x-room ∷ a .s-room ∷ a .z-room ∷ a .scalars-room ∷ []) in
+    let fit : Bool = solutionFits route (a .n) (a .m) ps (solution (a .x .now) (a .s .now) (a .z .now) one64 one64) && mapRight route ps (a .entries .now) in
+    let e = k .check-joined .ensures ∙ seven-refused route (a .n) (a .m) (a .cones .now) (a .count) (a .words .now) (λ z. c .if1 .taken (k .check-joined .ensures ∙ z)) in
+    e ∙ sym (join-order (joinChecks route (a .n) (a .m) (a .cones .now) (a .count) (a .words .now)) room fit .0 (λ z. c .if1 .taken (e ∙ z)))
 
-room-enough-requires : tie.Need-room-enough-requires
-room-enough-requires c κs = search needs
+-- checks 1 to 7 passed
+seven : (c : tie.Else1) → let a = start (c .before) .args in joinedRefusal (a .n) (a .m) (a .cones .now) (a .count) (a .words .now) ≡ 0
+seven c = sym (c .before .check-joined .ensures) ∙ c .if1 .left
+
+get-decomposed-dim-and-overlaps-requires : tie.Need-get-decomposed-dim-and-overlaps-requires
+get-decomposed-dim-and-overlaps-requires c κs =
+    let a = start (c .before) .args in
+    joined-sound (a .n) (a .m) (a .cones .now) (a .count) (a .words .now) (seven c)
+
+refuse-counted-requires : tie.Need-refuse-counted-requires
+refuse-counted-requires c κs =
+    let d = c .get-decomposed-dim-and-overlaps .ensures in
+    (seven (c .before), (d .0, d .1 .0))
 
 returns-2 : tie.Need-returns-2
-returns-2 c =
-    let s = start (c .before .before .before) in
-    sym (join-order (ten s) (room s) (fit s) .1 (passed (c .before .before)) (sym (c .before .room-enough .ensures) ∙ not-true _ (c .if2 .taken)))
-
-solution-right-requires : tie.Need-solution-right-requires
-solution-right-requires c κs =
-    let e = c .before .before in
-    let a = start (e .before) .args in
-    checks-passed (routeOf (a .route)) (a .n) (a .m) (a .cones .now) (a .count) (a .words .now) (passed e)
-
-returns-3 : tie.Need-returns-3
-returns-3 c =
-    let e = c .before .before in
-    let s = start (e .before .before .before) in
-    sym (join-order (ten s) (room s) (fit s) .2 (passed (e .before .before)) (roomed e) (sym (c .before .solution-right .ensures) ∙ not-true _ (c .if3 .taken)))
-
-returns-4 : tie.Need-returns-4
-returns-4 c =
-    let e = c .before .before in
-    let s = start (e .before .before .before) in
-    sym (join-order (ten s) (room s) (fit s) .3 (passed (e .before .before)) (roomed e) (sym (c .before .solution-right .ensures) ∙ not-false _ (c .if3 .left)))
+returns-2 c = c .refuse-counted .ensures
 
 pub refuse-join-spec : {M : Type 1} → statement M
 refuse-join-spec =
     tie.close
     (tie.spec
-    check-join-requires
+    check-joined-requires
     returns
-    room-enough-requires
-    returns-2
-    solution-right-requires
-    returns-3
-    returns-4)
+    get-decomposed-dim-and-overlaps-requires
+    refuse-counted-requires
+    returns-2)

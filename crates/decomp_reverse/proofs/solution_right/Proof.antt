@@ -7,11 +7,14 @@ use Rattle.layout.specs.Blocks.{Part}
 use Rattle.layout.specs.Answers.{routeOf, joinedParts, solutionFits, mapRight}
 use Rattle.layout.proofs.Tests.{and-cases}
 use Rattle.chordal_info.proofs.Sizes.{route-standard, route-compact}
+use Rattle.chordal_info.proofs.Counts.{overlaps-few}
+use Rattle.decomp_reverse.proofs.Order.{counted-fits}
+use native.Mathlib.Omega.{arith}
 use borrow.Author.Needs.{needs}
 use Rattle.decomp_reverse.proofs.solution_right.Statement.{statement}
 use Rattle.decomp_reverse.proofs.solution_right.Tie as tie
 
-abbrev start : tie.After-solution-fits → tie.Start
+abbrev start : tie.After-lengths-fit → tie.Start
 start k = k .before .before .before .before .before .before .before
 
 abbrev ps : tie.Start → List Part
@@ -28,16 +31,24 @@ entries s = mapRight (routeOf (s .args .route)) (ps s) (s .args .entries .now)
 both : (s : tie.Start) → (lengths s ≡ false → (lengths s && entries s) ≡ false) × (lengths s ≡ true → (lengths s && entries s) ≡ entries s)
 both s = and-cases (lengths s) (entries s) (lengths s && entries s) refl
 
-fit : (c : tie.Else1) → lengths (start (c .before)) ≡ true
-fit c = sym (c .before .solution-fits .ensures) ∙ not-false _ (c .if1 .left)
+right : (k : tie.After-lengths-fit) → k .lengths-fit .result ≡ lengths (start k)
+right k =
+    let a = start k .args in
+    k .lengths-fit .ensures
+    ∙ counted-fits (routeOf (a .route)) (a .n) (a .m) (a .rows) (a .overlaps) (ps (start k)) (solution (a .x .now) (a .s .now) (a .z .now) one64 one64) (start k .pre .1 .0)
 
-solution-fits-requires : tie.Need-solution-fits-requires
-solution-fits-requires c κs = search needs
+fit : (c : tie.Else1) → lengths (start (c .before)) ≡ true
+fit c = sym (right (c .before)) ∙ not-false _ (c .if1 .left)
+
+lengths-fit-requires : tie.Need-lengths-fit-requires
+lengths-fit-requires c κs =
+    let s = c .before .before .before .before .before .before in
+    (s .pre .1 .1, omega (arith, overlaps-few (ps s), s .pre .1 .0))
 
 returns : tie.Need-returns
 returns c =
     let s = start (c .before) in
-    sym (both s .0 (sym (c .before .solution-fits .ensures) ∙ not-true _ (c .if1 .taken)))
+    sym (both s .0 (sym (right (c .before)) ∙ not-true _ (c .if1 .taken)))
 
 returns-2 : tie.Need-returns-2
 returns-2 c =
@@ -55,4 +66,4 @@ returns-3 c =
 
 pub solution-right-spec : {M : Type 1} → statement M
 solution-right-spec =
-    tie.close (tie.spec solution-fits-requires returns returns-2 map-right-requires returns-3)
+    tie.close (tie.spec lengths-fit-requires returns returns-2 map-right-requires returns-3)

@@ -2,7 +2,7 @@ use Prim.Native.Nat.{ℕ, _+_, _-_, _≤_}
 use mathlib.Core.Path.{_≡_, refl, ap, sym, subst, _∙_}
 use mathlib.Core.Bool.{Bool, true, false}
 use mathlib.Core.List.{List, [], _∷_, map}
-use lib.ListN.{length, getD, take, drop, length-drop}
+use lib.ListN.{length, getD, take, drop, length-drop, length-replicate}
 use lib.Seq.{length-take-le}
 use lib.Ieee.{Float}
 use Rattle.layout.specs.Lists.{sum, part}
@@ -27,15 +27,16 @@ use Rattle.reverse.proofs.join_parts.Statement.{statement}
 use Rattle.reverse.proofs.join_parts.Tie as tie
 
 abbrev Inv-loop : tie.InvT-loop
-Inv-loop standard m cones count words s z s-out₀ z-out₀ counts₀ place₀ row₀ t₀ s-out z-out counts place row t =
+Inv-loop standard m cones count words s z s-out₀ z-out₀ counts₀ offsets₀ vertices₀ place₀ row₀ t₀ s-out z-out counts offsets vertices place row t =
     let ps = joinedParts cones count words in
     let left = ahead cones words place in
     Joins (sPart standard) m (valuesFrom (sPart standard) ps s) s s-out₀ left row t s-out
     × Joins (zPart standard) m (valuesFrom (zPart standard) ps z) z z-out₀ left row t z-out
     × (length counts ≡ length counts₀) × (row + sum (map coneRows left) ≡ m) × (t + blockRowCount left ≡ blockRowCount ps) × Stands m cones words place
+    × (length offsets ≡ 256) × (length vertices ≡ 256)
 
 abbrev μ-loop : tie.MeasureT-loop
-μ-loop standard m cones count words s z s-out₀ z-out₀ counts₀ place₀ row₀ t₀ s-out z-out counts place row t = length (ahead cones words place)
+μ-loop standard m cones count words s z s-out₀ z-out₀ counts₀ offsets₀ vertices₀ place₀ row₀ t₀ s-out z-out counts offsets vertices place row t = length (ahead cones words place)
 
 abbrev start : (l : tie.At-loop Inv-loop μ-loop) → tie.Start Inv-loop μ-loop
 start l = l .before .before .before .before .before .before .before .before .before
@@ -142,6 +143,8 @@ loop-holds c =
       omega (arith, ap (λ (qs : List Part). sum (map coneRows qs)) e, sound-total (s .pre .0 .0)),
       omega (arith, ap blockRowCount e),
       c .start .ensures .1,
+      length-replicate {A = ℕ} 256 0,
+      length-replicate {A = ℕ} 256 0,
     )
 
 next-requires : tie.Need-next-requires Inv-loop μ-loop
@@ -214,6 +217,8 @@ loop-again c =
       omega (arith, l .loop .inv .3, ap (λ (qs : List Part). sum (map coneRows qs)) e, h .0),
       omega (arith, l .loop .inv .4, ap blockRowCount e, h .0),
       h .5,
+      l .loop .inv .6,
+      l .loop .inv .7,
     )
 
 enum-known-met-2 : tie.Need-enum-known-met-2 Inv-loop μ-loop
@@ -224,9 +229,15 @@ cone-rows-requires c κs =
     let h = met-cut c .1 in
     (h .1, h .2)
 
+slice-aggregate-join-cut : tie.Need-slice-aggregate-join-cut Inv-loop μ-loop
+slice-aggregate-join-cut c = search needs
+
+slice-aggregate-join-cut-2 : tie.Need-slice-aggregate-join-cut-2 Inv-loop μ-loop
+slice-aggregate-join-cut-2 c = search needs
+
 join-cut-requires : tie.Need-join-cut-requires Inv-loop μ-loop
 join-cut-requires c κs =
-    let r = c .before .before .before in
+    let r = c .before .before .before .before .before in
     let k = r .before in
     let l = k .before .before .before .before in
     let s = start l in
@@ -240,33 +251,33 @@ join-cut-requires c κs =
         (omega (arith, n, f .0, l .loop .inv .0 .size, s .pre .1 .1), omega (arith, n, f .0, l .loop .inv .1 .size, s .pre .1 .1)),
         (
           (f .2, f .1, s .pre .1 .0 .1),
-          counts-rows (a .standard) (a .m) (r .cone-rows .result) (a .counts .now) (l .loop .counts) (omega (arith, n, f .0)) (omega (arith, n, small)) (l .loop .inv .2) (s .pre .1 .1 .2),
+          (counts-rows (a .standard) (a .m) (r .cone-rows .result) (a .counts .now) (l .loop .counts) (omega (arith, n, f .0)) (omega (arith, n, small)) (l .loop .inv .2) (s .pre .1 .1 .2), (omega (arith, l .loop .inv .6), omega (arith, l .loop .inv .7))),
         ),
       ),
     )
 
 add-t-2 : tie.Need-add-t-2 Inv-loop μ-loop
 add-t-2 c =
-    let j = c .before .before .before .before .before .before in
-    let k = j .before .before .before .before .before in
+    let j = c .before .before .before .before .before .before .before .before in
+    let k = j .before .before .before .before .before .before .before in
     let s = start (k .before .before .before .before) in
     omega (arith, j .join-cut .ensures .0, fits-cut k .1, s .pre .0 .1, s .pre .1 .0)
 
 add-row-2 : tie.Need-add-row-2 Inv-loop μ-loop
 add-row-2 c =
-    let j = c .before .before .before .before .before .before in
-    let k = j .before .before .before .before .before in
-    omega (arith, j .before .before .before .before .cone-rows .ensures, fits-cut k .0, start (k .before .before .before .before) .pre .0 .0 .few)
+    let j = c .before .before .before .before .before .before .before .before in
+    let k = j .before .before .before .before .before .before .before in
+    omega (arith, j .before .before .before .before .before .before .cone-rows .ensures, fits-cut k .0, start (k .before .before .before .before) .pre .0 .0 .few)
 
 loop-less-2 : tie.Need-loop-less-2 Inv-loop μ-loop
 loop-less-2 c =
-    let k = c .before .before .before .before .before .before .before .before .before .before .before in
+    let k = c .before .before .before .before .before .before .before .before .before .before .before .before .before .before .before in
     omega (arith, ap length (met-cut k .0))
 
 loop-again-2 : tie.Need-loop-again-2 Inv-loop μ-loop
 loop-again-2 c =
-    let j = c .before .before .before .before .before .before in
-    let r = j .before .before .before .before in
+    let j = c .before .before .before .before .before .before .before .before in
+    let r = j .before .before .before .before .before .before in
     let k = r .before in
     let l = k .before .before .before .before in
     let s = start l in
@@ -292,6 +303,8 @@ loop-again-2 c =
       omega (arith, l .loop .inv .3, ap (λ (qs : List Part). sum (map coneRows qs)) e, n),
       omega (arith, l .loop .inv .4, ap blockRowCount e, w .ensures .0),
       h .6,
+      w .kept .1 .1 .1 .1 .1 .1 .1 .1 .1 .1 .1 .0 ∙ l .loop .inv .6,
+      w .kept .1 .1 .1 .1 .1 .1 .1 .1 .1 .1 .1 .1 .0 ∙ l .loop .inv .7,
     )
 
 enum-told : tie.Need-enum-told Inv-loop μ-loop
@@ -340,6 +353,8 @@ join-parts-spec =
     loop-again
     enum-known-met-2
     cone-rows-requires
+    slice-aggregate-join-cut
+    slice-aggregate-join-cut-2
     join-cut-requires
     add-t-2
     add-row-2

@@ -1,7 +1,7 @@
 use Prim.Native.Nat.{ℕ, suc, _≤_, _<_, _-_, _+_}
 use mathlib.Core.Path.{_≡_, refl, ap, sym, subst, _∙_}
 use mathlib.Core.List.{List, [], _++_}
-use lib.ListN.{length, getD, take, drop, length-append, length-map, length-drop, length-replicate}
+use lib.ListN.{length, getD, take, drop, length-append, length-map, length-drop}
 use lib.Seq.{take-all, length-take-le}
 use lib.Ieee.{Float}
 use lib.Dec.{T}
@@ -25,7 +25,7 @@ use Rattle.reverse_blocks.proofs.join_cliques.Tie as tie
 abbrev Inv-loop : tie.InvT-loop
 Inv-loop standard words ordering offsets s z s-out₀ z-out₀ counts₀ vertices₀ t₀ i₀ s-out z-out counts vertices t i =
     let B = join (rowsHere 0 words ordering) (take i (inOrder standard offsets)) in
-    (i ≤ length offsets) × (t ≡ length B) × (length vertices ≡ 256)
+    (i ≤ length offsets) × (t ≡ length B) × (length vertices ≡ length vertices₀)
     × (length s-out ≡ length s-out₀) × (length z-out ≡ length z-out₀) × (length counts ≡ length counts₀)
     × (s-out ≡ addColumns B s s-out₀) × (z-out ≡ joinZ standard B z z-out₀) × Counts standard B counts₀ counts
 
@@ -33,7 +33,7 @@ abbrev μ-loop : tie.MeasureT-loop
 μ-loop standard words ordering offsets s z s-out₀ z-out₀ counts₀ vertices₀ t₀ i₀ s-out z-out counts vertices t i = length offsets - i
 
 abbrev start : (l : tie.At-loop Inv-loop μ-loop) → tie.Start Inv-loop μ-loop
-start l = l .before .before .before .before .before .before .before .before .before
+start l = l .before .before .before .before .before .before .before .before .before .before
 
 -- the offsets in order, and a clique's rows
 abbrev order : tie.Start Inv-loop μ-loop → List ℕ
@@ -76,12 +76,12 @@ size v = sym (length-map (pairs (found v)) (pairRow 0) ∙ length-pairs (found v
 
 loop-holds : tie.Need-loop-holds Inv-loop μ-loop
 loop-holds c =
-    let s = c .before .before .before .before .before .before .before .before in
+    let s = c .before .before .before .before .before .before .before .before .before in
     let a = s .args in
     let none : [] ≡ join (rowsAt s) (take 0 (order s)) = ap (join (rowsAt s)) (sym (take-none (order s))) in (
       omega arith,
       ap length none,
-      length-replicate {A = ℕ} 256 0,
+      refl,
       refl,
       refl,
       refl,
@@ -93,9 +93,6 @@ loop-holds c =
 offset-at-requires : tie.Need-offset-at-requires Inv-loop μ-loop
 offset-at-requires c κs = search needs
 
-slice-aggregate-clique-vertices : tie.Need-slice-aggregate-clique-vertices Inv-loop μ-loop
-slice-aggregate-clique-vertices c = search needs
-
 clique-vertices-requires : tie.Need-clique-vertices-requires Inv-loop μ-loop
 clique-vertices-requires c κs =
     let i = c .before .before in
@@ -104,12 +101,12 @@ clique-vertices-requires c κs =
     let a = s .args in (
       subst (Stands (a .words .now) (a .ordering .now)) (sym (c .before .offset-at .ensures))
           (standing-order (a .standard) (a .words .now) (a .ordering .now) (a .offsets .now) (s .pre .0 .0) (l .loop .i) (inside i)),
-      omega (arith, l .loop .inv .2),
+      omega (arith, l .loop .inv .2, s .pre .1 .1 .1 .1),
     )
 
-array-share-prefix-vertices : tie.Need-array-share-prefix-vertices Inv-loop μ-loop
-array-share-prefix-vertices c =
-    let v = c .before in
+slice-reshare-prefix-join-block : tie.Need-slice-reshare-prefix-join-block Inv-loop μ-loop
+slice-reshare-prefix-join-block c =
+    let v = c .before .before in
     let l = at-clique v .before in
     let a = start l .args in
     omega (
@@ -119,40 +116,41 @@ array-share-prefix-vertices c =
       standing-order (a .standard) (a .words .now) (a .ordering .now) (a .offsets .now) (start l .pre .0 .0) (l .loop .i) (inside (at-clique v)) .sortable .few,
       v .clique-vertices .kept .1 .1 .1 .0,
       l .loop .inv .2,
+      start l .pre .1 .1 .1 .1,
     )
 
 slice-aggregate-join-block : tie.Need-slice-aggregate-join-block Inv-loop μ-loop
 slice-aggregate-join-block c =
-    let v = c .before .before in
+    let v = c .before .before .before in
     v .clique-vertices .ensures .0 ∙ sym (ap length (v .clique-vertices .ensures .1))
 
 mul-join-block : tie.Need-mul-join-block Inv-loop μ-loop
-mul-join-block c = let v = c .before .before in omega (arith, fits (at-clique v), start (at-clique v .before) .pre .1 .0, start (at-clique v .before) .good)
+mul-join-block c = let v = c .before .before .before in omega (arith, fits (at-clique v), start (at-clique v .before) .pre .1 .0, start (at-clique v .before) .good)
 
 sub-join-block : tie.Need-sub-join-block Inv-loop μ-loop
-sub-join-block c = let v = c .before .before in omega (arith, fits (at-clique v), start (at-clique v .before) .pre .1 .0, start (at-clique v .before) .good)
+sub-join-block c = let v = c .before .before .before in omega (arith, fits (at-clique v), start (at-clique v .before) .pre .1 .0, start (at-clique v .before) .good)
 
 part-join-block-start : tie.Need-part-join-block-start Inv-loop μ-loop
-part-join-block-start c = let v = c .before .before in omega (arith, fits (at-clique v), start (at-clique v .before) .pre .1 .0, start (at-clique v .before) .good)
+part-join-block-start c = let v = c .before .before .before in omega (arith, fits (at-clique v), start (at-clique v .before) .pre .1 .0, start (at-clique v .before) .good)
 
 part-join-block-end : tie.Need-part-join-block-end Inv-loop μ-loop
-part-join-block-end c = let v = c .before .before in omega (arith, fits (at-clique v), start (at-clique v .before) .pre .1 .0, start (at-clique v .before) .good)
+part-join-block-end c = let v = c .before .before .before in omega (arith, fits (at-clique v), start (at-clique v .before) .pre .1 .0, start (at-clique v .before) .good)
 
 mul-join-block-2 : tie.Need-mul-join-block-2 Inv-loop μ-loop
-mul-join-block-2 c = let v = c .before .before .before in omega (arith, fits (at-clique v), start (at-clique v .before) .pre .1 .0, start (at-clique v .before) .good)
+mul-join-block-2 c = let v = c .before .before .before .before in omega (arith, fits (at-clique v), start (at-clique v .before) .pre .1 .0, start (at-clique v .before) .good)
 
 sub-join-block-2 : tie.Need-sub-join-block-2 Inv-loop μ-loop
-sub-join-block-2 c = let v = c .before .before .before in omega (arith, fits (at-clique v), start (at-clique v .before) .pre .1 .0, start (at-clique v .before) .good)
+sub-join-block-2 c = let v = c .before .before .before .before in omega (arith, fits (at-clique v), start (at-clique v .before) .pre .1 .0, start (at-clique v .before) .good)
 
 part-join-block-start-2 : tie.Need-part-join-block-start-2 Inv-loop μ-loop
-part-join-block-start-2 c = let v = c .before .before .before in omega (arith, fits (at-clique v), start (at-clique v .before) .pre .1 .0, start (at-clique v .before) .good)
+part-join-block-start-2 c = let v = c .before .before .before .before in omega (arith, fits (at-clique v), start (at-clique v .before) .pre .1 .0, start (at-clique v .before) .good)
 
 part-join-block-end-2 : tie.Need-part-join-block-end-2 Inv-loop μ-loop
-part-join-block-end-2 c = let v = c .before .before .before in omega (arith, fits (at-clique v), start (at-clique v .before) .pre .1 .0, start (at-clique v .before) .good)
+part-join-block-end-2 c = let v = c .before .before .before .before in omega (arith, fits (at-clique v), start (at-clique v .before) .pre .1 .0, start (at-clique v .before) .good)
 
 join-block-requires : tie.Need-join-block-requires Inv-loop μ-loop
 join-block-requires c κs =
-    let v = c .before .before .before .before .before .before .before in
+    let v = c .before .before .before .before .before .before .before .before in
     let i = at-clique v in
     let l = i .before in
     let s = start l in
@@ -175,7 +173,7 @@ join-block-requires c κs =
           (omega (arith, s .pre .1 .1 .0, l .loop .inv .4, n), omega (arith, s .pre .1 .1 .0, n)),
           subst (λ (m : ℕ). Countable (a .standard) m (triangle (length (found v))) (l .loop .counts)) (sym n)
               (countable-left (a .standard) (length (a .s-out .now)) (length (join (rowsAt s) (order s))) (triangle (length (found v))) (done l) (a .counts .now) (l .loop .counts) (l .loop .inv .5)
-              (omega (arith, size v, fits i, l .loop .inv .1)) (l .loop .inv .8) (s .pre .1 .1 .1)),
+              (omega (arith, size v, fits i, l .loop .inv .1)) (l .loop .inv .8) (s .pre .1 .1 .1 .0)),
         ),
       ),
     )
@@ -183,13 +181,13 @@ join-block-requires c κs =
 add-t : tie.Need-add-t Inv-loop μ-loop
 add-t c =
     let k = c .before .before .before .before .before .before in
-    let v = k .before .before .before .before .before .before .before .before in
+    let v = k .before .before .before .before .before .before .before .before .before in
     let s = start (at-clique v .before) in
     omega (arith, k .join-block .ensures .0, size v, fits (at-clique v), s .pre .1 .0, s .good)
 
 add-i : tie.Need-add-i Inv-loop μ-loop
 add-i c =
-    let i = c .before .before .before .before .before .before .before .before .before .before .before .before .before .before .before .before .before in
+    let i = c .before .before .before .before .before .before .before .before .before .before .before .before .before .before .before .before .before .before in
     omega (arith, i .loop-test .taken, start (i .before) .good)
 
 loop-less : tie.Need-loop-less Inv-loop μ-loop
@@ -198,7 +196,7 @@ loop-less c = search needs
 loop-again : tie.Need-loop-again Inv-loop μ-loop
 loop-again c =
     let k = c .before .before .before .before .before .before in
-    let v = k .before .before .before .before .before .before .before .before in
+    let v = k .before .before .before .before .before .before .before .before .before in
     let i = at-clique v in
     let l = i .before in
     let s = start l in
@@ -237,6 +235,9 @@ same-length-2 c = c .before .loop .inv .4
 same-length-3 : tie.Need-same-length-3 Inv-loop μ-loop
 same-length-3 c = c .before .loop .inv .5
 
+same-length-4 : tie.Need-same-length-4 Inv-loop μ-loop
+same-length-4 c = c .before .loop .inv .2
+
 returns : tie.Need-returns Inv-loop μ-loop
 returns c =
     let l = c .before in
@@ -262,9 +263,8 @@ join-cliques-spec =
     μ-loop
     loop-holds
     offset-at-requires
-    slice-aggregate-clique-vertices
     clique-vertices-requires
-    array-share-prefix-vertices
+    slice-reshare-prefix-join-block
     slice-aggregate-join-block
     mul-join-block
     sub-join-block
@@ -282,4 +282,5 @@ join-cliques-spec =
     same-length
     same-length-2
     same-length-3
+    same-length-4
     returns)

@@ -1,7 +1,7 @@
 use Prim.Native.Nat.{ℕ, _≤_, _-_}
 use mathlib.Core.Path.{_≡_, ap, sym, subst, _∙_}
 use mathlib.Core.List.{List}
-use lib.ListN.{length, take, drop, length-replicate}
+use lib.ListN.{length, take, drop}
 use lib.Seq.{length-take-le}
 use Rattle.layout.specs.Lists.{join}
 use Rattle.layout.specs.Triangle.{triangle}
@@ -20,7 +20,7 @@ use Rattle.reverse_blocks.proofs.join_pattern.Statement.{statement}
 use Rattle.reverse_blocks.proofs.join_pattern.Tie as tie
 
 abbrev start : tie.After-known-told → tie.Start
-start k = k .before .before .before .before .before .before .before .before .before .before
+start k = k .before .before .before .before .before .before .before .before .before .before .before .before
 
 abbrev here : tie.Start → Pattern
 here s = patternAt (s .args .words .now) (s .args .at)
@@ -52,7 +52,7 @@ abbrev offsets : tie.After-clique-offsets → List ℕ
 offsets o = o .clique-offsets .last .1 .1 .1 .0
 
 room : (o : tie.After-clique-offsets) → o .before .before .before .p .given .0 .0 .«clique_count» ≤ length (offsets o)
-room o = omega (arith, few (o .before .before), o .clique-offsets .kept .1 .1 .1 .0, length-replicate {A = ℕ} 256 0)
+room o = omega (arith, few (o .before .before), o .clique-offsets .kept .1 .1 .1 .0, start (o .before .before) .pre .1 .1 .1 .1 .0)
 
 standing : (o : tie.After-clique-offsets) → let s = start (o .before .before) in StandAt (s .args .words .now) (here s .cliques) (offsets o)
 standing o =
@@ -90,46 +90,43 @@ enum-told c = search needs
 
 returns : tie.Need-returns
 returns c =
-    let s = c .before .before .before .before .before .before .before .before .before in
+    let s = c .before .before .before .before .before .before .before .before .before .before .before in
     absurd (not-short (s .args .words .now) (s .args .at) _ (s .pre .0 .0) (c .before .before .read .ensures .0) (c .enum-told .given .1))
-
-slice-aggregate-clique-offsets : tie.Need-slice-aggregate-clique-offsets
-slice-aggregate-clique-offsets c = search needs
 
 clique-offsets-requires : tie.Need-clique-offsets-requires
 clique-offsets-requires c κs =
     let k = c .before in
     let s = start k in (
       cliques-here (s .args .words .now) (s .args .at) _ (s .pre .0 .0) (k .before .before .before .read .ensures .0) (k .before .p .given .0 .0) (k .before .p .given .1),
-      omega (arith, few k, length-replicate {A = ℕ} 256 0),
+      omega (arith, few k, s .pre .1 .1 .1 .1 .0),
     )
 
 cast-k : tie.Need-cast-k
 cast-k c = search needs
 
 mul-join-cliques : tie.Need-mul-join-cliques
-mul-join-cliques c = let i = inside (c .before .before .before .before) in omega arith
+mul-join-cliques c = let i = inside (c .before .before .before .before .before) in omega arith
 
 sub-join-cliques : tie.Need-sub-join-cliques
-sub-join-cliques c = let i = inside (c .before .before .before .before) in omega arith
+sub-join-cliques c = let i = inside (c .before .before .before .before .before) in omega arith
 
 part-join-cliques-start : tie.Need-part-join-cliques-start
-part-join-cliques-start c = let i = inside (c .before .before .before .before) in omega arith
+part-join-cliques-start c = let i = inside (c .before .before .before .before .before) in omega arith
 
 part-join-cliques-end : tie.Need-part-join-cliques-end
-part-join-cliques-end c = let i = inside (c .before .before .before .before) in omega arith
+part-join-cliques-end c = let i = inside (c .before .before .before .before .before) in omega arith
 
-array-share-prefix-offsets : tie.Need-array-share-prefix-offsets
-array-share-prefix-offsets c = omega (arith, few (c .before .before .before .before .before))
+slice-reshare-prefix-join-cliques : tie.Need-slice-reshare-prefix-join-cliques
+slice-reshare-prefix-join-cliques c = omega (arith, room (c .before .before .before .before))
 
 slice-aggregate-join-cliques : tie.Need-slice-aggregate-join-cliques
 slice-aggregate-join-cliques c =
-    let o = c .before .before .before .before in
+    let o = c .before .before .before .before .before in
     sym (length-take-le _ (offsets o) (omega (arith, room o)))
 
 join-cliques-requires : tie.Need-join-cliques-requires
 join-cliques-requires c κs =
-    let o = c .before .before .before .before .before .before .before in
+    let o = c .before .before .before .before .before .before .before .before .before in
     let k = o .before .before in
     let s = start k in
     let a = s .args in
@@ -141,7 +138,7 @@ join-cliques-requires c κs =
       ),
       (
         (omega (arith, size o, s .pre .1 .1 .0), s .pre .1 .1 .0 .1),
-        ((s .pre .1 .0 .1, s .pre .1 .0 .2), subst (λ (n : ℕ). Countable (a .standard) (length (a .s-out .now)) n (a .counts .now)) (sym (size o)) (s .pre .1 .1 .1)),
+        ((s .pre .1 .0 .1, s .pre .1 .0 .2), (subst (λ (n : ℕ). Countable (a .standard) (length (a .s-out .now)) n (a .counts .now)) (sym (size o)) (s .pre .1 .1 .1 .0), s .pre .1 .1 .1 .1 .1)),
       ),
     )
 
@@ -154,10 +151,16 @@ same-length-2 c = search needs
 same-length-3 : tie.Need-same-length-3
 same-length-3 c = search needs
 
+same-length-4 : tie.Need-same-length-4
+same-length-4 c = search needs
+
+same-length-5 : tie.Need-same-length-5
+same-length-5 c = search needs
+
 returns-2 : tie.Need-returns-2
 returns-2 c =
-    let j = c .before .before .before .before .before .before in
-    let o = j .before .before .before .before .before .before .before .before in
+    let j = c .before .before .before .before .before .before .before .before in
+    let o = j .before .before .before .before .before .before .before .before .before .before in
     let a = start (o .before .before) .args in
     let w = j .join-cliques .ensures in (
       w .0 ∙ size o,
@@ -178,17 +181,18 @@ join-pattern-spec =
     enum-known-p
     enum-told
     returns
-    slice-aggregate-clique-offsets
     clique-offsets-requires
     cast-k
     mul-join-cliques
     sub-join-cliques
     part-join-cliques-start
     part-join-cliques-end
-    array-share-prefix-offsets
+    slice-reshare-prefix-join-cliques
     slice-aggregate-join-cliques
     join-cliques-requires
     same-length
     same-length-2
     same-length-3
+    same-length-4
+    same-length-5
     returns-2)

@@ -75,7 +75,7 @@ part-join-rows-end-4 c = search needs
 
 join-rows-requires : tie.Need-join-rows-requires
 join-rows-requires c κs =
-    let s = c .before .before .before .before .before .before .before .before .before .before .before in
+    let s = c .before .before .before .before .before .before .before .before .before .before .before .before .before .before .before in
     let a = s .args in
     let s-lent = lent s (a .s-out .now) (s .pre .1 .0 .0) in
     let z-lent = lent s (a .z-out .now) (s .pre .1 .0 .1) in
@@ -86,7 +86,7 @@ join-rows-requires c κs =
         (s-lent ∙ s .pre .0 .2, z-lent ∙ s .pre .0 .2),
         (
           (s .pre .1 .1 .0 .0, omega (arith, s-left, s .pre .1 .1 .0), omega (arith, s-left, z-left, s .pre .1 .1 .0)),
-          rows-kept (a .standard) (a .n) (length (take (a .row + a .n - a .row) (drop (a .row) (a .s-out .now)))) (a .counts .now) (a .counts .now) (omega (arith, s-lent)) refl (s .pre .1 .1 .1),
+          (rows-kept (a .standard) (a .n) (length (take (a .row + a .n - a .row) (drop (a .row) (a .s-out .now)))) (a .counts .now) (a .counts .now) (omega (arith, s-lent)) refl (s .pre .1 .1 .1 .0), s .pre .1 .1 .1 .1),
         ),
       ),
     )
@@ -100,10 +100,16 @@ same-length-2 c = search needs
 same-length-3 : tie.Need-same-length-3
 same-length-3 c = search needs
 
+same-length-4 : tie.Need-same-length-4
+same-length-4 c = search needs
+
+same-length-5 : tie.Need-same-length-5
+same-length-5 c = search needs
+
 returns : tie.Need-returns
 returns c =
-    let j = c .before .before .before .before .before .before in
-    let s = j .before .before .before .before .before .before .before .before .before .before .before .before in
+    let j = c .before .before .before .before .before .before .before .before .before .before in
+    let s = j .before .before .before .before .before .before .before .before .before .before .before .before .before .before .before .before in
     let a = s .args in
     let p = here s in
     let w = j .join-rows in
@@ -146,4 +152,6 @@ join-cut-spec =
     same-length
     same-length-2
     same-length-3
+    same-length-4
+    same-length-5
     returns)

@@ -27,7 +27,7 @@ zeros s = replicate (triangle (here s .vertexCount)) zero64
 
 -- where the outputs were filled, and the counts cleared
 abbrev start : tie.After-fill-values → tie.Start
-start f = f .before .before .before .before .before .before .before .before
+start f = f .before .before .before .before .before .before .before .before .before .before
 
 abbrev s-filled : tie.After-clear-counts → tie.After-fill-values
 s-filled k = k .before .before .before .before .before .before .before .before
@@ -46,7 +46,7 @@ z-zeros f =
 
 -- after the pattern was joined: as many rows as the cone has, and the counts
 abbrev cleared : tie.After-join-pattern → tie.After-clear-counts
-cleared j = j .before .before .before .before .before .before
+cleared j = j .before .before .before .before .before .before .before .before
 
 abbrev z-joined : tie.After-join-pattern → List Float
 z-joined j = j .join-pattern .last .1 .1 .1 .1 .1 .1 .0
@@ -66,7 +66,7 @@ room j =
     let s = start (s-filled k) in
     let a = s .args in
     rows-kept (a .standard) (length (a .s-out .now)) (length (z-joined j)) (a .counts .now) (counted j) (omega (arith, size j))
-    (j .join-pattern .kept .1 .1 .1 .1 .1 .1 .1 .0 ∙ k .clear-counts .kept .1 .1 .0) (s .pre .1 .1 .1)
+    (j .join-pattern .kept .1 .1 .1 .1 .1 .1 .1 .0 ∙ k .clear-counts .kept .1 .1 .0) (s .pre .1 .1 .1 .0)
 
 fill-values-requires : tie.Need-fill-values-requires
 fill-values-requires c κs = search needs
@@ -79,7 +79,7 @@ clear-counts-requires c κs = search needs
 
 join-pattern-requires : tie.Need-join-pattern-requires
 join-pattern-requires c κs =
-    let k = c .before .before .before .before .before in
+    let k = c .before .before .before .before .before .before .before in
     let f = s-filled k in
     let s = start f in
     let a = s .args in
@@ -92,16 +92,19 @@ join-pattern-requires c κs =
         (omega (arith, n, s .pre .1 .0), omega (arith, n, m, s .pre .1 .0), omega (arith, n, s .pre .1 .0, small)),
         (
           (s .pre .1 .1 .0 .1, s .pre .1 .1 .0 .2),
-          subst (λ (q : ℕ). Countable (a .standard) q (blockRows p) (k .clear-counts .last .1 .1 .0)) (sym n)
-              (countable (a .standard) (length (a .s-out .now)) (blockRows p) (k .clear-counts .last .1 .1 .0) (s .pre .1 .1 .0 .0)
-              (rows-kept (a .standard) (length (a .s-out .now)) (length (a .s-out .now)) (a .counts .now) (k .clear-counts .last .1 .1 .0) (omega arith) (k .clear-counts .kept .1 .1 .0) (s .pre .1 .1 .1))
-              (k .clear-counts .ensures)),
+          (
+            subst (λ (q : ℕ). Countable (a .standard) q (blockRows p) (k .clear-counts .last .1 .1 .0)) (sym n)
+                (countable (a .standard) (length (a .s-out .now)) (blockRows p) (k .clear-counts .last .1 .1 .0) (s .pre .1 .1 .0 .0)
+                (rows-kept (a .standard) (length (a .s-out .now)) (length (a .s-out .now)) (a .counts .now) (k .clear-counts .last .1 .1 .0) (omega arith) (k .clear-counts .kept .1 .1 .0) (s .pre .1 .1 .1 .0))
+                (k .clear-counts .ensures)),
+            s .pre .1 .1 .1 .1,
+          ),
         ),
       ),
     )
 
 average-requires : tie.Need-average-requires
-average-requires c κs = room (c .before .before .before .before .before .before .before .before)
+average-requires c κs = room (c .before .before .before .before .before .before .before .before .before .before .before .before)
 
 same-length : tie.Need-same-length
 same-length c = search needs
@@ -112,10 +115,16 @@ same-length-2 c = search needs
 same-length-3 : tie.Need-same-length-3
 same-length-3 c = search needs
 
+same-length-4 : tie.Need-same-length-4
+same-length-4 c = search needs
+
+same-length-5 : tie.Need-same-length-5
+same-length-5 c = search needs
+
 returns : tie.Need-returns
 returns c =
     let v = c .before .before in
-    let j = v .before .before .before .before .before .before .before .before .before in
+    let j = v .before .before .before .before .before .before .before .before .before .before .before .before .before in
     let k = cleared j in
     let f = s-filled k in
     let s = start f in
@@ -144,4 +153,6 @@ join-rows-spec =
     same-length
     same-length-2
     same-length-3
+    same-length-4
+    same-length-5
     returns)
