@@ -2,9 +2,11 @@
 // false the checks themselves find the number.
 ghost use mathlib.Core.Path.{_≡_};
 ghost use mathlib.Core.Bool.{true, false};
-ghost use Prim.Native.Nat.{_+_, _≤_, _<_};
-ghost use lib.ListN.{length};
+ghost use Prim.Native.Nat.{_+_, _-_, _≤_, _<_};
+ghost use lib.ListN.{length, take, drop};
+ghost use Rattle.supernode_tree.specs.Reads.{Whole, cliquesFrom};
 ghost use Rattle.supernode_tree.specs.Offsets.{OffsetsEvery};
+ghost use Rattle.clique_tree.specs.Trees.{separatorOk, separatorsOk};
 ghost use Rattle.accepted.specs.Accepted.{Holds, AllAre, MeetsMore, SnodesHold, CliquesHold, MembersHold, HoldsAt};
 use supernode_tree::Clique;
 use supernode_tree::CliqueRead;
@@ -73,6 +75,70 @@ fn snodes_hold(
     at
 }
 
+// A read clique's separator repeats no member, and its parent's clique, which has its offset, holds each.
+fn separator_holds(
+    words: &[u32],
+    first: usize,
+    count: u32,
+    q: Clique,
+    offsets: &[usize],
+    n: usize,
+    marks: &mut [bool],
+) -> bool
+    requires { ⌜ Whole (now words) first count ⌝ }
+    requires { ⌜ count ≤ length (now offsets) ⌝ }
+    requires { ⌜ OffsetsEvery 1 (now words) first count (now offsets) ⌝ }
+    requires { ⌜ (q .separator ≤ q .next) × (q .next ≤ length (now words)) ⌝ }
+    requires { ⌜ 0 < length (now marks) ⌝ }
+    ensures { λ r. ⌜ (r ≡ true → separatorOk (cliquesFrom (now (words .entry)) first count) (q .parent) (take (q .next - q .separator) (drop (q .separator) (now (words .entry)))) ≡ true) ⌝ }
+{
+    let a = q.separator;
+    let e = q.next;
+    if a == e {
+        return true;
+    }
+    if count <= q.parent {
+        return false;
+    }
+    let at = offsets[q.parent as usize];
+    let CliqueRead::Clique(m) = Clique::read(words, at) else {
+        return false;
+    };
+    let b = m.snode;
+    let f = m.next;
+    vertex_set::once_in(&words[a..e], &words[b..f], n, marks)
+}
+
+// Each separator, with the offset of each clique.
+fn separators_hold(
+    words: &[u32],
+    first: usize,
+    count: u32,
+    offsets: &[usize],
+    n: usize,
+    marks: &mut [bool],
+) -> bool
+    requires { ⌜ Whole (now words) first count ⌝ }
+    requires { ⌜ count ≤ length (now offsets) ⌝ }
+    requires { ⌜ OffsetsEvery 1 (now words) first count (now offsets) ⌝ }
+    requires { ⌜ 0 < length (now marks) ⌝ }
+    ensures { λ r. ⌜ (r ≡ true → separatorsOk (cliquesFrom (now (words .entry)) first count) ≡ true) ⌝ }
+{
+    let mut at = first;
+    let mut left = count;
+    while 0 < left {
+        let CliqueRead::Clique(q) = Clique::read(words, at) else {
+            return false;
+        };
+        if !separator_holds(words, first, count, q, offsets, n, &mut *marks) {
+            return false;
+        }
+        at = q.next;
+        left -= 1;
+    }
+    true
+}
+
 // A pattern's cliques, with marks for the vertices, room for the cliques' offsets, and marks to look at separators. Answers
 // where the words after them start, or 0.
 fn cliques_hold(
@@ -99,7 +165,7 @@ fn cliques_hold(
     if next == 0 {
         return 0;
     }
-    if !clique_tree::separators_by(words, first, count, n, 1, offsets, others) {
+    if !separators_hold(words, first, count, offsets, n, others) {
         return 0;
     }
     next

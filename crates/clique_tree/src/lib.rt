@@ -204,8 +204,7 @@ fn separator_right(words: &[u32], q: Clique, m: Members, n: usize, marks: &mut [
     vertex_set::once_in(&words[a..e], &words[b..f], n, marks)
 }
 
-// Each separator, with the offset of each step-th clique.
-pub fn separators_by(
+fn separators_by(
     words: &[u32],
     first: usize,
     count: u32,

@@ -1,4 +1,3 @@
-use mathlib.Core.Path.{sym, _∙_}
 use borrow.Author.Tests.{ne-eqb, not-false}
 use native.Mathlib.Omega.{arith}
 use borrow.Author.Needs.{needs}
@@ -23,10 +22,10 @@ same-length-2 c = search needs
 returns-3 : tie.Need-returns-3
 returns-3 c = λ z. absurd (omega arith)
 
-separators-by-requires : tie.Need-separators-by-requires
-separators-by-requires c κs =
+separators-hold-requires : tie.Need-separators-hold-requires
+separators-hold-requires c κs =
     let h = c .before .before .before .before .before .before .before .snodes-hold .ensures (omega arith) in
-    (h .0 .stand, ((omega arith, omega arith), (h .1, omega arith)))
+    (h .0 .stand, (omega arith, (h .1, omega arith)))
 
 same-length-3 : tie.Need-same-length-3
 same-length-3 c = search needs
@@ -56,7 +55,7 @@ returns-5 c =
       record {
         snodes = h .0;
         some = ne-eqb _ _ (c .before .before .before .before .before .before .before .before .before .before .before .before .before .before .before .if1 .left);
-        separators = sym (c .before .before .before .separators-by .ensures) ∙ not-false _ (c .if4 .left);
+        separators = c .before .before .before .separators-hold .ensures (not-false _ (c .if4 .left));
       },
       h .2,
     )
@@ -71,7 +70,7 @@ cliques-hold-spec =
     same-length
     same-length-2
     returns-3
-    separators-by-requires
+    separators-hold-requires
     same-length-3
     same-length-4
     same-length-5
