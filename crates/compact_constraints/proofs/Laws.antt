@@ -4,13 +4,15 @@ use native.Mathlib.Omega.{arith}
 use mathlib.Core.Path.{_≡_, sym, ap, subst, _∙_}
 use mathlib.Core.Bool.{Bool, false}
 use mathlib.Core.List.{List, map}
-use lib.ListN.{length, replicate, length-replicate}
+use lib.ListN.{length, take, replicate, length-replicate}
 use lib.Dec.{T, leb, lit<}
+use Rattle.layout.specs.Lists.{written}
 use Rattle.layout.specs.Problem.{Problem, Csc, compact}
 use Rattle.layout.specs.Blocks.{compactRows, blockRowCount, overlapCount}
 use Rattle.layout.specs.Checks.{Sound, layout, checks, startsRight}
 use Rattle.layout.specs.Compact.{compactA, compactB}
 use Rattle.layout.proofs.Tests.{and-iff, leb-iff}
+use Rattle.layout.proofs.Buffers.{take-written}
 use Rattle.layout.proofs.Accepted.{passed, accepted-sound}
 use Rattle.layout.proofs.Laid.{sound-laid}
 use Rattle.codes.specs.Codes.{cutCode}
@@ -26,6 +28,14 @@ use Rattle.augment_compact.specs.Places.{placed, CodesKnown, ColumnsRise}
 use Rattle.augment_compact.proofs.Cut.{cut-compact, tied-count}
 use Rattle.augment_compact.proofs.Places.{few-rows, accepted-starts, accepted-rise, accepted-known, accepted-placing}
 use Rattle.compact_constraints.specs.Constraints.{completed, Accepted}
+
+-- the first k of a table to which xs was written
+pub front : (xs old new : List ℕ) (k : ℕ) → k ≡ length xs → new ≡ written xs old → take k new ≡ xs
+front xs old new k e w = ap (λ (n : ℕ). take n new) e ∙ ap (take (length xs)) w ∙ take-written xs old
+
+-- a table just cleared has room for n
+pub cleared : (n size : ℕ) → n ≤ size → n ≤ length (replicate {A = ℕ} size 0)
+cleared n size h = omega (arith, length-replicate {A = ℕ} size 0)
 
 -- flags just cleared are down, and there are enough for n rows
 pub flags-down : (n size : ℕ) → n ≤ 64 * size → size ≤ 4096 → Clear n (replicate size false)

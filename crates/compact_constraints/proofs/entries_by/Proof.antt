@@ -15,8 +15,7 @@ use Rattle.csc.specs.Matrix.{matrix}
 use Rattle.columns.specs.Marks.{Placing, Clear}
 use Rattle.augment_compact.specs.Cut.{tiedRows, cutRows, cutValues}
 use Rattle.augment_compact.specs.Places.{placed, CodesKnown}
-use Rattle.augment.proofs.Laws.{front}
-use Rattle.compact_constraints.proofs.Laws.{sound, codes-count, few-augmented, rows-inside, columns-right, codes-known, codes-placing, rows-room, values-b, rows-A, values-A}
+use Rattle.compact_constraints.proofs.Laws.{front, sound, codes-count, few-augmented, rows-inside, columns-right, codes-known, codes-placing, rows-room, values-b, rows-A, values-A}
 use Rattle.compact_constraints.proofs.entries_by.Statement.{statement}
 use Rattle.compact_constraints.proofs.entries_by.Tie as tie
 
