@@ -1,9 +1,10 @@
 -- What a caller of the writers cites: the tables of the cut by the parts' own lists, and what the checks say of the lengths.
-use Prim.Native.Nat.{ℕ, suc, _+_, _-_, _≤_}
+use Prim.Native.Nat.{ℕ, suc, _+_, _-_, _*_, _≤_}
 use native.Mathlib.Omega.{arith}
 use mathlib.Core.Path.{_≡_, refl, sym, ap, _∙_}
 use mathlib.Core.List.{List, [], _∷_, _++_}
-use lib.ListN.{length, take, drop, set, replicate, length-set, length-replicate}
+use lib.ListN.{length, take, drop, set, length-set, length-drop, drop-of-length-le}
+use lib.Seq.{take-all, take-at, drop-at, drop-drop, length-take-le}
 use lib.Dec.{T, lit<}
 use Rattle.layout.specs.Lists.{written}
 use Rattle.layout.specs.Problem.{Problem, Csc, Route, standard}
@@ -16,8 +17,9 @@ use Rattle.layout.proofs.Accepted.{passed, accepted-sound}
 use Rattle.layout.proofs.Laid.{sound-laid}
 use Rattle.layout.proofs.Columns.{RightStarts, starts-right}
 use Rattle.layout.proofs.Sizes.{standard-count}
-use Rattle.layout.proofs.Buffers.{take-written}
-use Rattle.augment_standard.specs.Beside.{besideStarts, besideRows, besideValues, besideH}
+use Rattle.layout.proofs.Keeps.{append-nil}
+use Rattle.augment_standard.specs.Beside.{hRows, besideStarts, besideRows, besideValues, besideH}
+use Rattle.augment_standard.proofs.Columns.{length-hRows}
 use Rattle.augment_standard.proofs.Beside.{beside-standard}
 use Rattle.csc.proofs.Writing.{written-after}
 
@@ -39,12 +41,34 @@ pub three-then : (a b c : ℕ) (ys old : List ℕ) {vs : List ℕ} → 3 + lengt
     → take 3 ws ++ (vs ++ drop (length ws - 3) (drop 3 ws)) ≡ written (a ∷ b ∷ c ∷ ys) old
 three-then a b c ys old h e = written-after (a ∷ b ∷ c ∷ []) ys old h (three old a b c (omega arith)) e
 
--- a table just cleared has room for n
-pub cleared : (n size : ℕ) → n ≤ size → n ≤ length (replicate {A = ℕ} size 0)
-cleared n size h = omega (arith, length-replicate {A = ℕ} size 0)
+-- the original rows of k columns of H are written to the part after k places, and then spread
+module _ (m k : ℕ) (os old : List ℕ) (e : length os ≡ k) (room : 2 * k ≤ length old) where
+  abbrev table : List ℕ
+  table = take k old ++ (os ++ drop k (drop k old))
 
-pub within : (m n size : ℕ) → m + n ≤ size → n ≤ size
-within m n size h = omega arith
+  placed : {vs : List ℕ} → vs ≡ written os (take (length old - k) (drop k old))
+      → take k old ++ (vs ++ drop (length old - k) (drop k old)) ≡ table
+  placed f =
+      rw (
+        f,
+        e,
+        take-all (length old - k) (drop k old) (omega (arith, length-drop k old)),
+        drop-of-length-le (drop k old) {i = length old - k} (omega (arith, length-drop k old)),
+        append-nil (os ++ drop k (drop k old)),
+      )
+
+  after : drop k table ≡ os ++ drop k (drop k old)
+  after = drop-at (take k old) (os ++ drop k (drop k old)) k (length-take-le k old (omega arith))
+
+  kept : drop (k + k) table ≡ drop (k + k) old
+  kept = sym (drop-drop k k table) ∙ ap (drop k) after ∙ drop-at os (drop k (drop k old)) k e ∙ drop-drop k k old
+
+  pub spread-in-place : {vs : List ℕ} → vs ≡ written os (take (length old - k) (drop k old))
+      → let ws = take k old ++ (vs ++ drop (length old - k) (drop k old)) in
+      written (hRows m (take k (drop k ws))) ws ≡ written (hRows m os) old
+  spread-in-place f =
+      let twice : length (hRows m os) ≡ k + k = omega (arith, length-hRows m os) in
+      rw (placed f, after, take-at os (drop k (drop k old)) k e, twice) (ap (λ (rest : List ℕ). hRows m os ++ rest) kept)
 
 -- how many rows H has
 module _ {m : ℕ} {cones : List ℕ} {count : ℕ} {words : List ℕ} (h : Sound m cones count words) where
@@ -53,10 +77,6 @@ module _ {m : ℕ} {cones : List ℕ} {count : ℕ} {words : List ℕ} (h : Soun
 
   pub rows-count : length (standardRows (joinedParts cones count words)) ≡ blockRowCount (joinedParts cones count words)
   rows-count = standard-count 0 ps (sound-laid h .0)
-
--- the first k of a table to which xs was written
-pub front : (xs old new : List ℕ) (k : ℕ) → k ≡ length xs → new ≡ written xs old → take k new ≡ xs
-front xs old new k e w = ap (λ (n : ℕ). take n new) e ∙ ap (take (length xs)) w ∙ take-written xs old
 
 -- ---- a problem that a route accepts
 

@@ -12,7 +12,7 @@ ghost use Rattle.layout.specs.Compact.{extendedP};
 ghost use Rattle.layout.specs.Standard.{standardP, standardQ, standardA, standardB, standardCones};
 ghost use Rattle.layout.specs.Answers.{joinedParts};
 ghost use Rattle.csc.specs.Matrix.{matrix};
-ghost use Rattle.augment_standard.specs.Beside.{besideStarts, besideRows, besideValues};
+ghost use Rattle.augment_standard.specs.Beside.{hRows, besideStarts, besideRows, besideValues};
 ghost use Rattle.augment.specs.Cut.{zeroThenParts};
 use tables::Table;
 
@@ -46,43 +46,14 @@ pub fn write_p(
 
 // ---- the standard route
 
-// Writes the rows of A beside H, over zero beside -I, with a table that has room for the rows of H.
-fn rows_by(
-    m: u32,
-    cones: &[u32],
-    count: u32,
-    words: &[u32],
-    a_rows: &[u32],
-    table: &mut [u32],
-    out: &mut [u32],
-)
+// Writes the rows of the k columns of H, over -I: first the rows of H after k places, which are then spread over all 2k.
+fn h_rows(m: u32, cones: &[u32], count: u32, words: &[u32], k: usize, out: &mut [u32])
     requires { ⌜ Sound m (now cones) count (now words) ⌝ }
-    requires { ⌜ (m + blockRowCount (joinedParts (now cones) count (now words)) ≤ 262144) × (blockRowCount (joinedParts (now cones) count (now words)) ≤ length (now table)) × (length (now «a_rows») + 2 * blockRowCount (joinedParts (now cones) count (now words)) ≤ length (now out)) ⌝ }
-    ensures { λ _. ⌜ now (table .exit) ≡ written (standardRows (joinedParts (now (cones .entry)) count (now (words .entry)))) (now (table .entry)) ⌝ }
-    ensures { λ _. ⌜ now (out .exit) ≡ written (besideRows (now («a_rows» .entry)) m (standardRows (joinedParts (now (cones .entry)) count (now (words .entry))))) (now (out .entry)) ⌝ }
+    requires { ⌜ (k ≡ blockRowCount (joinedParts (now cones) count (now words))) × (m + k ≤ 262144) × (2 * k ≤ length (now out)) ⌝ }
+    ensures { λ _. ⌜ now (out .exit) ≡ written (hRows m (standardRows (joinedParts (now (cones .entry)) count (now (words .entry))))) (now (out .entry)) ⌝ }
 {
-    let k = tables::write_table(Table::HRows, m, cones, count, words, &mut *table);
-    augment_standard::write_rows(out, a_rows, &table[..k], m);
-}
-
-// The same with a table of its own, for at most 4096 rows of H: the large table takes longer to clear than they take to write.
-fn few_rows(m: u32, cones: &[u32], count: u32, words: &[u32], a_rows: &[u32], out: &mut [u32])
-    requires { ⌜ Sound m (now cones) count (now words) ⌝ }
-    requires { ⌜ (m + blockRowCount (joinedParts (now cones) count (now words)) ≤ 262144) × (blockRowCount (joinedParts (now cones) count (now words)) ≤ 4096) × (length (now «a_rows») + 2 * blockRowCount (joinedParts (now cones) count (now words)) ≤ length (now out)) ⌝ }
-    ensures { λ _. ⌜ now (out .exit) ≡ written (besideRows (now («a_rows» .entry)) m (standardRows (joinedParts (now (cones .entry)) count (now (words .entry))))) (now (out .entry)) ⌝ }
-{
-    let mut table = [0u32; 4096];
-    rows_by(m, cones, count, words, a_rows, &mut table, out);
-}
-
-// For any number of them that check 10 accepts.
-fn many_rows(m: u32, cones: &[u32], count: u32, words: &[u32], a_rows: &[u32], out: &mut [u32])
-    requires { ⌜ Sound m (now cones) count (now words) ⌝ }
-    requires { ⌜ (m + blockRowCount (joinedParts (now cones) count (now words)) ≤ 262144) × (length (now «a_rows») + 2 * blockRowCount (joinedParts (now cones) count (now words)) ≤ length (now out)) ⌝ }
-    ensures { λ _. ⌜ now (out .exit) ≡ written (besideRows (now («a_rows» .entry)) m (standardRows (joinedParts (now (cones .entry)) count (now (words .entry))))) (now (out .entry)) ⌝ }
-{
-    let mut table = [0u32; 262144];
-    rows_by(m, cones, count, words, a_rows, &mut table, out);
+    tables::write_table(Table::HRows, m, cones, count, words, &mut out[k..]);
+    augment_standard::spread_rows(out, k, m);
 }
 
 // Writes the rows of A beside the k columns of H.
@@ -99,11 +70,8 @@ fn standard_a_rows(
     requires { ⌜ (k ≡ blockRowCount (joinedParts (now cones) count (now words))) × (m + k ≤ 262144) × (length (now «a_rows») + 2 * k ≤ length (now out)) ⌝ }
     ensures { λ _. ⌜ now (out .exit) ≡ written (besideRows (now («a_rows» .entry)) m (standardRows (joinedParts (now (cones .entry)) count (now (words .entry))))) (now (out .entry)) ⌝ }
 {
-    if k <= 4096 {
-        few_rows(m, cones, count, words, a_rows, out);
-        return;
-    }
-    many_rows(m, cones, count, words, a_rows, out);
+    csc::copy_numbers(&mut *out, a_rows);
+    h_rows(m, cones, count, words, k, &mut out[a_rows.len()..]);
 }
 
 // Writes the cones: Zero(m), then each cone or its blocks.

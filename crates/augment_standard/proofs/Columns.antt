@@ -1,13 +1,16 @@
 -- The tables of H over -I, one column more.
-use Prim.Native.Nat.{ℕ, zero, suc, _+_, _*_, _<_}
+use Prim.Native.Nat.{ℕ, zero, suc, _+_, _*_, _≤_, _<_}
 use native.Mathlib.Numerals.{add-one}
 use native.Mathlib.Omega.{arith}
-use mathlib.Core.Path.{_≡_, refl, ap, _∙_}
+use mathlib.Core.Path.{_≡_, refl, sym, ap, _∙_}
 use mathlib.Core.List.{List, [], _∷_, _++_}
-use lib.ListN.{length, getD, take}
-use lib.Seq.{take-suc, length-take-le}
+use lib.ListN.{length, getD, take, drop, set, length-drop}
+use lib.Seq.{take-suc, take-all, length-take-le, getD-take, getD-drop}
 use lib.Ieee.{Float}
+use Rattle.layout.specs.Lists.{written}
 use Rattle.layout.specs.Problem.{one64, minusOne64}
+use Rattle.layout.proofs.Starts.{written-rest}
+use Rattle.csc.proofs.Writing.{two-more}
 use Rattle.augment_standard.specs.Beside.{hStarts, hRows, hValues}
 
 pub length-hStarts : (a k : ℕ) → length (hStarts a k) ≡ k
@@ -37,12 +40,41 @@ rows-last r (x ∷ os) o =
     ap (λ (l : List ℕ). x ∷ r ∷ l)
     (rows-last (suc r) os o ∙ ap (λ (s : ℕ). hRows (suc r) os ++ (o ∷ s ∷ [])) (omega arith))
 
-pub rows-more : (r : ℕ) (os : List ℕ) (i : ℕ) → i < length os
+rows-more : (r : ℕ) (os : List ℕ) (i : ℕ) → i < length os
     → hRows r (take (i + 1) os) ≡ hRows r (take i os) ++ (getD os i 0 ∷ (r + i) ∷ [])
 rows-more r os i h =
     ap (hRows r) (ap (λ (k : ℕ). take k os) (add-one i) ∙ take-suc os i 0 h)
     ∙ rows-last r (take i os) (getD os i 0)
     ∙ ap (λ (k : ℕ). hRows r (take i os) ++ (getD os i 0 ∷ (r + k) ∷ [])) (length-take-le i os (omega arith))
+
+-- the original rows of k columns stand after k places, and the first i columns are written from the front on
+module _ (r k : ℕ) (old : List ℕ) (room : 2 * k ≤ length old) where
+  abbrev os : List ℕ
+  os = take k (drop k old)
+
+  abbrev done : ℕ → List ℕ
+  done i = hRows r (take i os)
+
+  size : length os ≡ k
+  size = length-take-le k (drop k old) (omega (arith, length-drop k old))
+
+  seam : (i : ℕ) → i ≤ k → length (done i) ≡ 2 * i
+  seam i h = omega (arith, length-hRows r (take i os), length-take-le i os (omega (arith, size)))
+
+  -- the row of column i is not yet written over
+  unread : (i : ℕ) → i < k → getD (written (done i) old) (k + i) 0 ≡ getD os i 0
+  unread i h =
+      written-rest (done i) old (k + i) 0 (omega (arith, seam i (omega arith)))
+      ∙ sym (getD-take k (drop k old) i 0 h ∙ getD-drop k old i 0)
+
+  pub spread-more : (i t : ℕ) (out : List ℕ) → i < k → t ≡ 2 * i → out ≡ written (done i) old
+      → set (set out t (getD out (k + i) 0)) (t + 1) (r + i) ≡ written (done (i + 1)) old
+  spread-more i t out h e f =
+      rw (f, unread i h, rows-more r os i (omega (arith, size)))
+      (two-more (done i) old (getD os i 0) (r + i) t (omega (arith, seam i (omega arith))) (omega arith))
+
+  pub spread-done : (i : ℕ) → k ≤ i → done i ≡ hRows r os
+  spread-done i h = ap (hRows r) (take-all i os (omega (arith, size)))
 
 values-last : (k : ℕ) → hValues (suc k) ≡ hValues k ++ (one64 ∷ minusOne64 ∷ [])
 values-last zero = refl

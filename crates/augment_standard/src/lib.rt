@@ -1,9 +1,9 @@
 // The standard cut's matrix: A beside H, over zero beside -I. H has one 1 a column, and os has its row for each column.
 ghost use mathlib.Core.Path.{_≡_};
 ghost use Prim.Native.Nat.{_+_, _*_, _≤_, _<_};
-ghost use lib.ListN.{length};
+ghost use lib.ListN.{length, take, drop};
 ghost use Rattle.layout.specs.Lists.{written};
-ghost use Rattle.augment_standard.specs.Beside.{hStarts, hRows, hValues, besideStarts, besideRows, besideValues};
+ghost use Rattle.augment_standard.specs.Beside.{hStarts, hRows, hValues, besideStarts, besideValues};
 
 // Writes the ends of k columns of H over -I, which hold two entries each, where entries come before them.
 pub fn write_h_starts(out: &mut [u32], entries: u32, k: usize)
@@ -19,15 +19,16 @@ pub fn write_h_starts(out: &mut [u32], entries: u32, k: usize)
     }
 }
 
-// Writes the rows of H over -I: column k has its original row, and row m + k.
-pub fn write_h_rows(out: &mut [u32], os: &[u32], m: u32)
-    requires { ⌜ (2 * length (now os) ≤ length (now out)) × (m + length (now os) ≤ 262144) ⌝ }
-    ensures { λ _. ⌜ now (out .exit) ≡ written (hRows m (now (os .entry))) (now (out .entry)) ⌝ }
+// Writes the rows of H over -I: column i has its original row, and row m + i. The k original rows stand in place after as many more, so that
+// each is read before its place is written.
+pub fn spread_rows(out: &mut [u32], k: usize, m: u32)
+    requires { ⌜ (2 * k ≤ length (now out)) × (m + k ≤ 262144) ⌝ }
+    ensures { λ _. ⌜ now (out .exit) ≡ written (hRows m (take k (drop k (now (out .entry))))) (now (out .entry)) ⌝ }
 {
     let mut t = 0;
     let mut i = 0;
-    while i < os.len() {
-        out[t] = os[i];
+    while i < k {
+        out[t] = out[k + i];
         out[t + 1] = m + i as u32;
         t += 2;
         i += 1;
@@ -56,15 +57,6 @@ pub fn write_starts(out: &mut [u32], starts: &[u32], entries: u32, k: usize)
 {
     csc::copy_numbers(&mut *out, starts);
     write_h_starts(&mut out[starts.len()..], entries, k);
-}
-
-// Writes the rows of A beside H, over zero beside -I; m is A's row count.
-pub fn write_rows(out: &mut [u32], rows: &[u32], os: &[u32], m: u32)
-    requires { ⌜ (length (now rows) + 2 * length (now os) ≤ length (now out)) × (m + length (now os) ≤ 262144) ⌝ }
-    ensures { λ _. ⌜ now (out .exit) ≡ written (besideRows (now (rows .entry)) m (now (os .entry))) (now (out .entry)) ⌝ }
-{
-    csc::copy_numbers(&mut *out, rows);
-    write_h_rows(&mut out[rows.len()..], os, m);
 }
 
 // Writes the values of A beside the k columns of H.

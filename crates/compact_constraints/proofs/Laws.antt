@@ -1,16 +1,21 @@
 -- What the writers ask of constraints that the compact route accepts, and the cut's A and b as the writers state them.
-use Prim.Native.Nat.{ℕ, _+_, _*_, _≤_}
+use Prim.Native.Nat.{ℕ, _+_, _-_, _*_, _/_, _≤_}
 use native.Mathlib.Omega.{arith}
 use mathlib.Core.Path.{_≡_, sym, ap, subst, _∙_}
 use mathlib.Core.Bool.{Bool, false}
 use mathlib.Core.List.{List, map}
-use lib.ListN.{length, replicate, length-replicate}
+use lib.ListN.{length, take, replicate, length-replicate, replicate-append-replicate}
+use lib.Seq.{take-at, length-take-le}
 use lib.Dec.{T, leb, lit<}
+use Rattle.layout.specs.Lists.{written}
 use Rattle.layout.specs.Problem.{Problem, Csc, compact}
 use Rattle.layout.specs.Blocks.{compactRows, blockRowCount, overlapCount}
 use Rattle.layout.specs.Checks.{Sound, layout, checks, startsRight}
 use Rattle.layout.specs.Compact.{compactA, compactB}
+use Rattle.layout.specs.Answers.{joinedParts}
 use Rattle.layout.proofs.Tests.{and-iff, leb-iff}
+use Rattle.layout.proofs.Starts.{length-written}
+use Rattle.layout.proofs.Buffers.{take-written}
 use Rattle.layout.proofs.Accepted.{passed, accepted-sound}
 use Rattle.layout.proofs.Laid.{sound-laid}
 use Rattle.codes.specs.Codes.{cutCode}
@@ -27,11 +32,37 @@ use Rattle.augment_compact.proofs.Cut.{cut-compact, tied-count}
 use Rattle.augment_compact.proofs.Places.{few-rows, accepted-starts, accepted-rise, accepted-known, accepted-placing}
 use Rattle.compact_constraints.specs.Constraints.{completed, Accepted}
 
--- flags just cleared are down, and there are enough for n rows
-pub flags-down : (n size : ℕ) → n ≤ 64 * size → size ≤ 4096 → Clear n (replicate size false)
+-- as many codes as augmented rows
+module _ {m : ℕ} {cones : List ℕ} {count : ℕ} {words : List ℕ} (h : Sound m cones count words) where
+  pub codes-count : length (map cutCode (compactRows (joinedParts cones count words))) ≡ blockRowCount (joinedParts cones count words)
+  codes-count = table-length CutRows (joinedParts cones count words) (sound-laid h .0)
+
+-- a table to which xs was written holds it at its front
+pub front : (xs old : List ℕ) {new : List ℕ} {k : ℕ} → k ≡ length xs → k ≤ length old → new ≡ written xs old → (take k new ≡ xs) × (k ≤ length new)
+front xs old {new} {k} e room w = (
+  ap (λ (n : ℕ). take n new) e ∙ ap (take (length xs)) w ∙ take-written xs old,
+  omega (arith, ap length w, length-written xs old (omega arith)),
+)
+
+-- flags just cleared are down, and as many are lent as n rows need
+pub few-flags : (n size : ℕ) → n ≤ 64 * size → (n + 63) / 64 ≤ size
+few-flags n size room = omega arith
+
+pub flags-count : (n size : ℕ) → n ≤ 64 * size → (n + 63) / 64 ≡ length (take ((n + 63) / 64) (replicate size false))
+flags-count n size room =
+    sym (length-take-le ((n + 63) / 64) (replicate size false) (omega (arith, length-replicate {A = Bool} size false)))
+
+flags-down : (n size : ℕ) → n ≤ 64 * size → size ≤ 4096 → Clear n (take ((n + 63) / 64) (replicate size false))
 flags-down n size room few =
-    let e = length-replicate {A = Bool} size false in
-    (ap (λ (k : ℕ). replicate k false) (sym e), omega (arith, e), omega (arith, e))
+    let k = (n + 63) / 64 in
+    let e : size ≡ k + (size - k) = omega arith in
+    let down : take k (replicate size false) ≡ replicate k false =
+    ap (take k) (ap (λ (j : ℕ). replicate j false) e ∙ sym (replicate-append-replicate k (size - k) false))
+    ∙ take-at (replicate k false) (replicate (size - k) false) k (length-replicate {A = Bool} k false) in (
+      down ∙ ap (λ (j : ℕ). replicate j false) (flags-count n size room),
+      omega (arith, flags-count n size room),
+      omega (arith, flags-count n size room),
+    )
 
 module _ {p : Problem} (h : Accepted p) where
   abbrev whole : Problem
@@ -42,12 +73,8 @@ module _ {p : Problem} (h : Accepted p) where
   pub sound : Sound (p .m) (p .cones) (p .patternCount) (p .patternWords)
   sound = accepted-sound compact whole (h .accepted)
 
-  -- as many codes as augmented rows
-  pub codes-count : length (map cutCode (compactRows (layout p))) ≡ blockRowCount (layout p)
-  codes-count = table-length CutRows (layout p) (sound-laid sound .0)
-
   pub few-augmented : blockRowCount (layout p) ≤ 262144
-  few-augmented = omega (arith, codes-count, few-rows whole (h .accepted))
+  few-augmented = omega (arith, codes-count sound, few-rows whole (h .accepted))
 
   -- the entries of the cut's A
   pub few-cut-entries : length (p .A .values) + 2 * overlapCount (layout p) ≤ 524288
@@ -65,14 +92,14 @@ module _ {p : Problem} (h : Accepted p) where
   pub columns-right : T (startsRight (p .n) (p .A)) × ColumnsRise (p .n) (p .A)
   columns-right = (accepted-starts whole (h .accepted), accepted-rise whole (h .accepted))
 
-  pub codes-known : (n : ℕ) → p .m ≤ n → CodesKnown n (map cutCode (compactRows (layout p)))
+  codes-known : (n : ℕ) → p .m ≤ n → CodesKnown n (map cutCode (compactRows (layout p)))
   codes-known = accepted-known whole (h .accepted)
 
-  pub codes-placing : (t : List ℕ) → p .m ≤ length t
+  codes-placing : (t : List ℕ) → p .m ≤ length t
       → Placing (map cutCode (compactRows (layout p))) (placed 0 (map cutCode (compactRows (layout p))) t) (p .A .rows)
   codes-placing = accepted-placing whole (h .accepted)
 
-  pub rows-room : length (p .A .rows) + length (tiedRows 0 (map cutCode (compactRows (layout p)))) ≡ length (p .A .values) + 2 * overlapCount (layout p)
+  rows-room : length (p .A .rows) + length (tiedRows 0 (map cutCode (compactRows (layout p)))) ≡ length (p .A .values) + 2 * overlapCount (layout p)
   rows-room = omega (arith, right-A compact whole (h .accepted) .even, tied-count whole (h .accepted))
 
   -- ---- the cut's A and b
@@ -92,3 +119,31 @@ module _ {p : Problem} (h : Accepted p) where
     values-A =
         ap (cutValues (p .n) (p .A) (map cutCode (compactRows (layout p)))) e
         ∙ ap (λ (M : Csc). M .values) (cut-compact whole (h .accepted))
+
+-- ---- the codes of so many rows, in tables just cleared
+
+module _ {p : Problem} (h : Accepted p) {rows : ℕ} (e : rows ≡ blockRowCount (layout p)) where
+  pub coded : {size : ℕ} {table : List ℕ} → rows ≤ size → table ≡ written (map cutCode (compactRows (layout p))) (replicate size 0)
+      → (take rows table ≡ map cutCode (compactRows (layout p))) × (rows ≤ length table)
+  coded {size} room w =
+      front (map cutCode (compactRows (layout p))) (replicate size 0) (e ∙ sym (codes-count (sound h))) (omega (arith, length-replicate {A = ℕ} size 0)) w
+
+  -- what `write_entries` asks of them
+  module _ (size flags k rowsRoom valuesRoom : ℕ) where
+    abbrev Placeable : List ℕ → Type 0
+    Placeable cs =
+        (CodesKnown (length (replicate {A = ℕ} size 0)) cs × Placing cs (placed 0 cs (replicate size 0)) (p .A .rows) × Clear (length cs) (take ((rows + 63) / 64) (replicate flags false)))
+        × ((length (p .A .rows) + length (tiedRows 0 cs) ≤ rowsRoom) × (length (p .A .values) + 2 * k ≤ valuesRoom))
+
+    pub placeable : {cs : List ℕ} → cs ≡ map cutCode (compactRows (layout p)) → p .m ≤ size → rows ≤ 64 * flags → flags ≤ 4096 → k ≡ overlapCount (layout p)
+        → length (p .A .values) + 2 * k ≤ rowsRoom → length (p .A .values) + 2 * k ≤ valuesRoom → Placeable cs
+    placeable taken known enough few overlaps r v =
+        let place : p .m ≤ length (replicate {A = ℕ} size 0) = omega (arith, length-replicate {A = ℕ} size 0) in
+        subst Placeable (sym taken) (
+          (
+            codes-known h (length (replicate {A = ℕ} size 0)) place,
+            codes-placing h (replicate size 0) place,
+            subst (λ (n : ℕ). Clear n (take ((rows + 63) / 64) (replicate flags false))) (e ∙ sym (codes-count (sound h))) (flags-down rows flags enough few),
+          ),
+          (omega (arith, rows-room h, overlaps, r), v),
+        )

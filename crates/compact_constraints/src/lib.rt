@@ -1,152 +1,49 @@
 // The constraints of the compact cut: A and b over the augmented rows of a problem that the route accepts.
 ghost use mathlib.Core.Path.{_≡_};
-ghost use Prim.Native.Nat.{_+_, _*_, _≤_};
+ghost use mathlib.Core.List.{map};
+ghost use Prim.Native.Nat.{_+_, _*_, _≤_, _<_};
 ghost use lib.ListN.{length};
 ghost use Rattle.layout.specs.Lists.{written};
-ghost use Rattle.layout.specs.Blocks.{blockRowCount, overlapCount};
+ghost use Rattle.layout.specs.Blocks.{compactRows, blockRowCount, overlapCount};
+ghost use Rattle.layout.specs.Checks.{Sound};
 ghost use Rattle.layout.specs.Compact.{compactA, compactB};
 ghost use Rattle.layout.specs.Answers.{joinedParts};
-ghost use Rattle.columns.specs.Marks.{Clear};
+ghost use Rattle.codes.specs.Codes.{cutCode};
+ghost use Rattle.sparsevector.specs.Values.{RowsInside, codeValue};
+ghost use Rattle.augment_standard.specs.Beside.{besideStarts};
 ghost use Rattle.compact_constraints.specs.Constraints.{constraints, Accepted};
 use tables::Table;
 
-// Writes b, and the rows and values of A with the k overlaps' columns. The scratch has room: in table for each augmented row, in place for
-// each original row, and in chunks for a flag, all of which are down, for each 64 augmented rows.
-fn entries_by(
-    n: u32,
+// Writes the starts of A with the k overlaps' columns, the codes of so many augmented rows to their table, and b from these.
+fn write_starts_and_b(
     m: u32,
     a_starts: &[u32],
-    a_rows: &[u32],
-    a_values: &[f64],
+    entries: u32,
     b: &[f64],
     cones: &[u32],
     count: u32,
     words: &[u32],
+    rows: usize,
     k: usize,
     table: &mut [u32],
-    place: &mut [u32],
-    chunks: &mut [bool],
-    a_rows_out: &mut [u32],
-    a_values_out: &mut [f64],
+    a_starts_out: &mut [u32],
     b_out: &mut [f64],
 )
-    requires { ⌜ Accepted (constraints n m (now «a_starts») (now «a_rows») (now «a_values») (now b) (now cones) count (now words)) ⌝ }
-    requires { ⌜ (k ≡ overlapCount (joinedParts (now cones) count (now words))) × (blockRowCount (joinedParts (now cones) count (now words)) ≤ length (now table)) × (m ≤ length (now place)) × Clear (blockRowCount (joinedParts (now cones) count (now words))) (now chunks) ⌝ }
-    requires { ⌜ (length (now «a_values») + 2 * k ≤ length (now «a_rows_out»)) × (length (now «a_values») + 2 * k ≤ length (now «a_values_out»)) × (blockRowCount (joinedParts (now cones) count (now words)) ≤ length (now «b_out»)) ⌝ }
-    ensures { λ _. ⌜ now («a_rows_out» .exit) ≡ written (compactA (constraints n m (now («a_starts» .entry)) (now («a_rows» .entry)) (now («a_values» .entry)) (now (b .entry)) (now (cones .entry)) count (now (words .entry))) .rows) (now («a_rows_out» .entry)) ⌝ }
-    ensures { λ _. ⌜ now («a_values_out» .exit) ≡ written (compactA (constraints n m (now («a_starts» .entry)) (now («a_rows» .entry)) (now («a_values» .entry)) (now (b .entry)) (now (cones .entry)) count (now (words .entry))) .values) (now («a_values_out» .entry)) ⌝ }
-    ensures { λ _. ⌜ now («b_out» .exit) ≡ written (compactB (constraints n m (now («a_starts» .entry)) (now («a_rows» .entry)) (now («a_values» .entry)) (now (b .entry)) (now (cones .entry)) count (now (words .entry)))) (now («b_out» .entry)) ⌝ }
+    requires { ⌜ Sound m (now cones) count (now words) ⌝ }
+    requires { ⌜ (rows ≡ blockRowCount (joinedParts (now cones) count (now words))) × (rows ≤ 262144) × (rows ≤ length (now table)) × (rows ≤ length (now «b_out»)) ⌝ }
+    requires { ⌜ RowsInside (length (now b)) (map cutCode (compactRows (joinedParts (now cones) count (now words)))) ⌝ }
+    requires { ⌜ (length (now «a_starts») + k ≤ length (now «a_starts_out»)) × (entries + 2 * k < 4294967296) ⌝ }
+    ensures { λ _. ⌜ now (table .exit) ≡ written (map cutCode (compactRows (joinedParts (now (cones .entry)) count (now (words .entry))))) (now (table .entry)) ⌝ }
+    ensures { λ _. ⌜ now («a_starts_out» .exit) ≡ written (besideStarts (now («a_starts» .entry)) entries k) (now («a_starts_out» .entry)) ⌝ }
+    ensures { λ _. ⌜ now («b_out» .exit) ≡ written (map (codeValue (now (b .entry))) (map cutCode (compactRows (joinedParts (now (cones .entry)) count (now (words .entry)))))) (now («b_out» .entry)) ⌝ }
 {
-    let rows = tables::write_table(Table::CutRows, m, cones, count, words, &mut *table);
+    augment_standard::write_starts(a_starts_out, a_starts, entries, k);
+    tables::write_table(Table::CutRows, m, cones, count, words, &mut *table);
     sparsevector::move_values(b_out, &table[..rows], b);
-    augment_compact::write_entries(
-        a_rows_out,
-        a_values_out,
-        &mut table[..rows],
-        place,
-        chunks,
-        n,
-        a_starts,
-        a_rows,
-        a_values,
-        k,
-    );
 }
 
-// The same with scratch of its own, for at most 4096 rows of either kind: the large tables take longer to clear than these take to write.
-fn few_entries(
-    n: u32,
-    m: u32,
-    a_starts: &[u32],
-    a_rows: &[u32],
-    a_values: &[f64],
-    b: &[f64],
-    cones: &[u32],
-    count: u32,
-    words: &[u32],
-    k: usize,
-    a_rows_out: &mut [u32],
-    a_values_out: &mut [f64],
-    b_out: &mut [f64],
-)
-    requires { ⌜ Accepted (constraints n m (now «a_starts») (now «a_rows») (now «a_values») (now b) (now cones) count (now words)) ⌝ }
-    requires { ⌜ (k ≡ overlapCount (joinedParts (now cones) count (now words))) × (blockRowCount (joinedParts (now cones) count (now words)) ≤ 4096) × (m ≤ 4096) ⌝ }
-    requires { ⌜ (length (now «a_values») + 2 * k ≤ length (now «a_rows_out»)) × (length (now «a_values») + 2 * k ≤ length (now «a_values_out»)) × (blockRowCount (joinedParts (now cones) count (now words)) ≤ length (now «b_out»)) ⌝ }
-    ensures { λ _. ⌜ now («a_rows_out» .exit) ≡ written (compactA (constraints n m (now («a_starts» .entry)) (now («a_rows» .entry)) (now («a_values» .entry)) (now (b .entry)) (now (cones .entry)) count (now (words .entry))) .rows) (now («a_rows_out» .entry)) ⌝ }
-    ensures { λ _. ⌜ now («a_values_out» .exit) ≡ written (compactA (constraints n m (now («a_starts» .entry)) (now («a_rows» .entry)) (now («a_values» .entry)) (now (b .entry)) (now (cones .entry)) count (now (words .entry))) .values) (now («a_values_out» .entry)) ⌝ }
-    ensures { λ _. ⌜ now («b_out» .exit) ≡ written (compactB (constraints n m (now («a_starts» .entry)) (now («a_rows» .entry)) (now («a_values» .entry)) (now (b .entry)) (now (cones .entry)) count (now (words .entry)))) (now («b_out» .entry)) ⌝ }
-{
-    let mut table = [0u32; 4096];
-    let mut place = [0u32; 4096];
-    let mut chunks = [false; 64];
-    entries_by(
-        n,
-        m,
-        a_starts,
-        a_rows,
-        a_values,
-        b,
-        cones,
-        count,
-        words,
-        k,
-        &mut table,
-        &mut place,
-        &mut chunks,
-        a_rows_out,
-        a_values_out,
-        b_out,
-    );
-}
-
-// For any number of them that the checks accept.
-fn many_entries(
-    n: u32,
-    m: u32,
-    a_starts: &[u32],
-    a_rows: &[u32],
-    a_values: &[f64],
-    b: &[f64],
-    cones: &[u32],
-    count: u32,
-    words: &[u32],
-    k: usize,
-    a_rows_out: &mut [u32],
-    a_values_out: &mut [f64],
-    b_out: &mut [f64],
-)
-    requires { ⌜ Accepted (constraints n m (now «a_starts») (now «a_rows») (now «a_values») (now b) (now cones) count (now words)) ⌝ }
-    requires { ⌜ k ≡ overlapCount (joinedParts (now cones) count (now words)) ⌝ }
-    requires { ⌜ (length (now «a_values») + 2 * k ≤ length (now «a_rows_out»)) × (length (now «a_values») + 2 * k ≤ length (now «a_values_out»)) × (blockRowCount (joinedParts (now cones) count (now words)) ≤ length (now «b_out»)) ⌝ }
-    ensures { λ _. ⌜ now («a_rows_out» .exit) ≡ written (compactA (constraints n m (now («a_starts» .entry)) (now («a_rows» .entry)) (now («a_values» .entry)) (now (b .entry)) (now (cones .entry)) count (now (words .entry))) .rows) (now («a_rows_out» .entry)) ⌝ }
-    ensures { λ _. ⌜ now («a_values_out» .exit) ≡ written (compactA (constraints n m (now («a_starts» .entry)) (now («a_rows» .entry)) (now («a_values» .entry)) (now (b .entry)) (now (cones .entry)) count (now (words .entry))) .values) (now («a_values_out» .entry)) ⌝ }
-    ensures { λ _. ⌜ now («b_out» .exit) ≡ written (compactB (constraints n m (now («a_starts» .entry)) (now («a_rows» .entry)) (now («a_values» .entry)) (now (b .entry)) (now (cones .entry)) count (now (words .entry)))) (now («b_out» .entry)) ⌝ }
-{
-    let mut table = [0u32; 262144];
-    let mut place = [0u32; 65536];
-    let mut chunks = [false; 4096];
-    entries_by(
-        n,
-        m,
-        a_starts,
-        a_rows,
-        a_values,
-        b,
-        cones,
-        count,
-        words,
-        k,
-        &mut table,
-        &mut place,
-        &mut chunks,
-        a_rows_out,
-        a_values_out,
-        b_out,
-    );
-}
-
-// Writes them with the tables that suffice for so many augmented rows.
-fn compact_a_entries(
+// Writes A with the k overlaps' columns, and b, for at most 2048 rows of either kind. Its tables take less time to clear than such a cut takes.
+fn with_small_tables(
     n: u32,
     m: u32,
     a_starts: &[u32],
@@ -158,51 +55,110 @@ fn compact_a_entries(
     words: &[u32],
     rows: usize,
     k: usize,
+    a_starts_out: &mut [u32],
     a_rows_out: &mut [u32],
     a_values_out: &mut [f64],
     b_out: &mut [f64],
 )
     requires { ⌜ Accepted (constraints n m (now «a_starts») (now «a_rows») (now «a_values») (now b) (now cones) count (now words)) ⌝ }
     requires { ⌜ (rows ≡ blockRowCount (joinedParts (now cones) count (now words))) × (k ≡ overlapCount (joinedParts (now cones) count (now words))) ⌝ }
+    requires { ⌜ length (now «a_starts») + k ≤ length (now «a_starts_out») ⌝ }
     requires { ⌜ (length (now «a_values») + 2 * k ≤ length (now «a_rows_out»)) × (length (now «a_values») + 2 * k ≤ length (now «a_values_out»)) × (blockRowCount (joinedParts (now cones) count (now words)) ≤ length (now «b_out»)) ⌝ }
+    requires { ⌜ (rows ≤ 2048) × (m ≤ 2048) ⌝ }
+    ensures { λ _. ⌜ now («a_starts_out» .exit) ≡ written (compactA (constraints n m (now («a_starts» .entry)) (now («a_rows» .entry)) (now («a_values» .entry)) (now (b .entry)) (now (cones .entry)) count (now (words .entry))) .starts) (now («a_starts_out» .entry)) ⌝ }
     ensures { λ _. ⌜ now («a_rows_out» .exit) ≡ written (compactA (constraints n m (now («a_starts» .entry)) (now («a_rows» .entry)) (now («a_values» .entry)) (now (b .entry)) (now (cones .entry)) count (now (words .entry))) .rows) (now («a_rows_out» .entry)) ⌝ }
     ensures { λ _. ⌜ now («a_values_out» .exit) ≡ written (compactA (constraints n m (now («a_starts» .entry)) (now («a_rows» .entry)) (now («a_values» .entry)) (now (b .entry)) (now (cones .entry)) count (now (words .entry))) .values) (now («a_values_out» .entry)) ⌝ }
     ensures { λ _. ⌜ now («b_out» .exit) ≡ written (compactB (constraints n m (now («a_starts» .entry)) (now («a_rows» .entry)) (now («a_values» .entry)) (now (b .entry)) (now (cones .entry)) count (now (words .entry)))) (now («b_out» .entry)) ⌝ }
 {
-    if rows <= 4096 {
-        if m <= 4096 {
-            few_entries(
-                n,
-                m,
-                a_starts,
-                a_rows,
-                a_values,
-                b,
-                cones,
-                count,
-                words,
-                k,
-                a_rows_out,
-                a_values_out,
-                b_out,
-            );
-            return;
-        }
-    }
-    many_entries(
-        n,
+    let mut table = [0u32; 2048];
+    let mut place = [0u32; 2048];
+    let mut chunks = [false; 32];
+    write_starts_and_b(
         m,
         a_starts,
-        a_rows,
-        a_values,
+        a_values.len() as u32,
         b,
         cones,
         count,
         words,
+        rows,
         k,
+        &mut table,
+        a_starts_out,
+        b_out,
+    );
+    let end = (rows + 63) / 64;
+    augment_compact::write_entries(
         a_rows_out,
         a_values_out,
+        &mut table[..rows],
+        &mut place,
+        &mut chunks[..end],
+        n,
+        a_starts,
+        a_rows,
+        a_values,
+        k,
+    );
+}
+
+// Writes them for any number of rows that the checks accept. A small problem never enters the frame that these tables need: it is called
+// from two places, and does enough itself, so that the compiler gives it a frame of its own.
+fn with_large_tables(
+    n: u32,
+    m: u32,
+    a_starts: &[u32],
+    a_rows: &[u32],
+    a_values: &[f64],
+    b: &[f64],
+    cones: &[u32],
+    count: u32,
+    words: &[u32],
+    rows: usize,
+    k: usize,
+    a_starts_out: &mut [u32],
+    a_rows_out: &mut [u32],
+    a_values_out: &mut [f64],
+    b_out: &mut [f64],
+)
+    requires { ⌜ Accepted (constraints n m (now «a_starts») (now «a_rows») (now «a_values») (now b) (now cones) count (now words)) ⌝ }
+    requires { ⌜ (rows ≡ blockRowCount (joinedParts (now cones) count (now words))) × (k ≡ overlapCount (joinedParts (now cones) count (now words))) ⌝ }
+    requires { ⌜ length (now «a_starts») + k ≤ length (now «a_starts_out») ⌝ }
+    requires { ⌜ (length (now «a_values») + 2 * k ≤ length (now «a_rows_out»)) × (length (now «a_values») + 2 * k ≤ length (now «a_values_out»)) × (blockRowCount (joinedParts (now cones) count (now words)) ≤ length (now «b_out»)) ⌝ }
+    ensures { λ _. ⌜ now («a_starts_out» .exit) ≡ written (compactA (constraints n m (now («a_starts» .entry)) (now («a_rows» .entry)) (now («a_values» .entry)) (now (b .entry)) (now (cones .entry)) count (now (words .entry))) .starts) (now («a_starts_out» .entry)) ⌝ }
+    ensures { λ _. ⌜ now («a_rows_out» .exit) ≡ written (compactA (constraints n m (now («a_starts» .entry)) (now («a_rows» .entry)) (now («a_values» .entry)) (now (b .entry)) (now (cones .entry)) count (now (words .entry))) .rows) (now («a_rows_out» .entry)) ⌝ }
+    ensures { λ _. ⌜ now («a_values_out» .exit) ≡ written (compactA (constraints n m (now («a_starts» .entry)) (now («a_rows» .entry)) (now («a_values» .entry)) (now (b .entry)) (now (cones .entry)) count (now (words .entry))) .values) (now («a_values_out» .entry)) ⌝ }
+    ensures { λ _. ⌜ now («b_out» .exit) ≡ written (compactB (constraints n m (now («a_starts» .entry)) (now («a_rows» .entry)) (now («a_values» .entry)) (now (b .entry)) (now (cones .entry)) count (now (words .entry)))) (now («b_out» .entry)) ⌝ }
+{
+    let mut table = [0u32; 262144];
+    let mut place = [0u32; 65536];
+    let mut chunks = [false; 4096];
+    write_starts_and_b(
+        m,
+        a_starts,
+        a_values.len() as u32,
+        b,
+        cones,
+        count,
+        words,
+        rows,
+        k,
+        &mut table,
+        a_starts_out,
         b_out,
+    );
+    let end = (rows + 63) / 64;
+    augment_compact::write_entries(
+        a_rows_out,
+        a_values_out,
+        &mut table[..rows],
+        &mut place,
+        &mut chunks[..end],
+        n,
+        a_starts,
+        a_rows,
+        a_values,
+        k,
     );
 }
 
@@ -233,8 +189,47 @@ pub fn write_compact_a(
     ensures { λ _. ⌜ now («a_values_out» .exit) ≡ written (compactA (constraints n m (now («a_starts» .entry)) (now («a_rows» .entry)) (now («a_values» .entry)) (now (b .entry)) (now (cones .entry)) count (now (words .entry))) .values) (now («a_values_out» .entry)) ⌝ }
     ensures { λ _. ⌜ now («b_out» .exit) ≡ written (compactB (constraints n m (now («a_starts» .entry)) (now («a_rows» .entry)) (now («a_values» .entry)) (now (b .entry)) (now (cones .entry)) count (now (words .entry)))) (now («b_out» .entry)) ⌝ }
 {
-    augment_standard::write_starts(a_starts_out, a_starts, a_values.len() as u32, k);
-    compact_a_entries(
+    if 2048 < rows {
+        with_large_tables(
+            n,
+            m,
+            a_starts,
+            a_rows,
+            a_values,
+            b,
+            cones,
+            count,
+            words,
+            rows,
+            k,
+            a_starts_out,
+            a_rows_out,
+            a_values_out,
+            b_out,
+        );
+        return;
+    }
+    if 2048 < m {
+        with_large_tables(
+            n,
+            m,
+            a_starts,
+            a_rows,
+            a_values,
+            b,
+            cones,
+            count,
+            words,
+            rows,
+            k,
+            a_starts_out,
+            a_rows_out,
+            a_values_out,
+            b_out,
+        );
+        return;
+    }
+    with_small_tables(
         n,
         m,
         a_starts,
@@ -246,6 +241,7 @@ pub fn write_compact_a(
         words,
         rows,
         k,
+        a_starts_out,
         a_rows_out,
         a_values_out,
         b_out,

@@ -1,25 +1,10 @@
 use native.Mathlib.Omega.{arith}
 use borrow.Author.Needs.{needs}
-use mathlib.Core.Path.{ap, _∙_}
-use mathlib.Core.List.{List}
-use Prim.Native.Nat.{ℕ}
-use Rattle.layout.specs.Lists.{written}
-use Rattle.compact_constraints.proofs.Laws.{few-cut-entries, starts-A}
 use Rattle.compact_constraints.proofs.write_compact_a.Statement.{statement}
 use Rattle.compact_constraints.proofs.write_compact_a.Tie as tie
 
-cast-write-starts : tie.Need-cast-write-starts
-cast-write-starts c = let s = c .before .before .before .before .before .before .before .before .before .before .before in omega (arith, few-cut-entries (s .pre .0))
-
-write-starts-requires : tie.Need-write-starts-requires
-write-starts-requires c κs =
-    let s = c .before .before .before .before .before .before .before .before .before .before .before in
-    (s .pre .1 .1 .0, omega (arith, few-cut-entries (s .pre .0), s .pre .1 .0 .1))
-
-compact-a-entries-requires : tie.Need-compact-a-entries-requires
-compact-a-entries-requires c κs =
-    let s = c .before .before .before .before .before .before .before .before .before .before .before .before .before .before .before .before .before in
-    (s .pre .0, (s .pre .1 .0, s .pre .1 .1 .1))
+with-large-tables-requires : tie.Need-with-large-tables-requires
+with-large-tables-requires c κs = search needs
 
 same-length : tie.Need-same-length
 same-length c = search needs
@@ -34,23 +19,65 @@ same-length-4 : tie.Need-same-length-4
 same-length-4 c = search needs
 
 returns : tie.Need-returns
-returns c =
-    let s = c .before .before .before .before .before .before .before .before .before .before .before .before .before .before .before .before .before .before .before .before .before .before .before .before in
-    let k = s .args .k in (
-      c .before .before .before .before .before .before .before .before .before .before .before .before .write-starts .ensures
-          ∙ ap (λ (xs : List ℕ). written xs (s .args .a-starts-out .now)) (starts-A (s .pre .0) k (s .pre .1 .0 .1)),
-      c .before .before .before .before .before .before .compact-a-entries .ensures,
-    )
+returns c = search needs
+
+with-large-tables-requires-2 : tie.Need-with-large-tables-requires-2
+with-large-tables-requires-2 c κs = search needs
+
+same-length-5 : tie.Need-same-length-5
+same-length-5 c = search needs
+
+same-length-6 : tie.Need-same-length-6
+same-length-6 c = search needs
+
+same-length-7 : tie.Need-same-length-7
+same-length-7 c = search needs
+
+same-length-8 : tie.Need-same-length-8
+same-length-8 c = search needs
+
+returns-2 : tie.Need-returns-2
+returns-2 c = search needs
+
+with-small-tables-requires : tie.Need-with-small-tables-requires
+with-small-tables-requires c κs =
+    let s = c .before .before .before .before .before .before .before .before .before .before .before .before .before .before .before .before in
+    (s .pre .0, (s .pre .1 .0, (s .pre .1 .1 .0, (s .pre .1 .1 .1, (omega arith, omega arith)))))
+
+same-length-9 : tie.Need-same-length-9
+same-length-9 c = search needs
+
+same-length-10 : tie.Need-same-length-10
+same-length-10 c = search needs
+
+same-length-11 : tie.Need-same-length-11
+same-length-11 c = search needs
+
+same-length-12 : tie.Need-same-length-12
+same-length-12 c = search needs
+
+returns-3 : tie.Need-returns-3
+returns-3 c = search needs
 
 pub write-compact-a-spec : {M : Type 1} → statement M
 write-compact-a-spec =
     tie.close
     (tie.spec
-    cast-write-starts
-    write-starts-requires
-    compact-a-entries-requires
+    with-large-tables-requires
     same-length
     same-length-2
     same-length-3
     same-length-4
-    returns)
+    returns
+    with-large-tables-requires-2
+    same-length-5
+    same-length-6
+    same-length-7
+    same-length-8
+    returns-2
+    with-small-tables-requires
+    same-length-9
+    same-length-10
+    same-length-11
+    same-length-12
+    returns-3)

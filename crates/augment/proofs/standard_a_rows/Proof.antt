@@ -1,0 +1,53 @@
+use native.Mathlib.Omega.{arith}
+use borrow.Author.Needs.{needs}
+use Rattle.layout.specs.Blocks.{standardRows}
+use Rattle.layout.specs.Answers.{joinedParts}
+use Rattle.csc.proofs.Writing.{written-after}
+use Rattle.augment_standard.specs.Beside.{hRows}
+use Rattle.augment_standard.proofs.Columns.{length-hRows}
+use Rattle.augment.proofs.Laws.{rows-count}
+use Rattle.augment.proofs.standard_a_rows.Statement.{statement}
+use Rattle.augment.proofs.standard_a_rows.Tie as tie
+
+copy-numbers-requires : tie.Need-copy-numbers-requires
+copy-numbers-requires c κs = search needs
+
+mul-h-rows : tie.Need-mul-h-rows
+mul-h-rows c = search needs
+
+sub-h-rows : tie.Need-sub-h-rows
+sub-h-rows c = search needs
+
+part-h-rows-start : tie.Need-part-h-rows-start
+part-h-rows-start c = search needs
+
+part-h-rows-end : tie.Need-part-h-rows-end
+part-h-rows-end c = search needs
+
+h-rows-requires : tie.Need-h-rows-requires
+h-rows-requires c κs = search needs
+
+same-length : tie.Need-same-length
+same-length c = search needs
+
+returns : tie.Need-returns
+returns c =
+    let f = c .before .before in
+    let g = f .before .before .before .before in
+    let s = g .before .before .before .before .before .before in
+    let a = s .args in
+    let os = standardRows (joinedParts (a .cones .now) (a .count) (a .words .now)) in
+    written-after (a .a-rows .now) (hRows (a .m) os) (a .out .now) (omega (arith, length-hRows (a .m) os, rows-count (s .pre .0), s .pre .1)) (g .copy-numbers .ensures) (f .h-rows .ensures)
+
+pub standard-a-rows-spec : {M : Type 1} → statement M
+standard-a-rows-spec =
+    tie.close
+    (tie.spec
+    copy-numbers-requires
+    mul-h-rows
+    sub-h-rows
+    part-h-rows-start
+    part-h-rows-end
+    h-rows-requires
+    same-length
+    returns)
