@@ -2,3 +2,4 @@ pub mod Stretch
 pub mod Parts
 pub mod Averages
 pub mod Walk
+pub mod Counts

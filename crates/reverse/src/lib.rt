@@ -1,20 +1,23 @@
 // Whole solutions joined, on either route: the cones are walked in order, and each one's rows are joined by themselves.
 ghost use mathlib.Core.Path.{_≡_};
-ghost use mathlib.Core.Bool.{true};
+ghost use mathlib.Core.Bool.{true, _||_};
 ghost use Prim.Native.Nat.{_≤_};
 ghost use lib.ListN.{length, take};
+ghost use lib.Dec.{leb};
 ghost use Rattle.layout.specs.Lists.{written};
 ghost use Rattle.layout.specs.Problem.{standard as standardRoute, compact as compactRoute};
 ghost use Rattle.layout.specs.Blocks.{blockRowCount};
 ghost use Rattle.layout.specs.Checks.{Sound};
 ghost use Rattle.layout.specs.Answers.{joinedParts};
-ghost use Rattle.reverse_cones.specs.Parts.{sPart, zPart, valuesFrom, CountsCones};
+ghost use Rattle.reverse_cones.specs.Parts.{sPart, zPart, valuesFrom};
 ghost use Rattle.reverse.specs.Joined.{Joinable, joinedOf};
+ghost use Rattle.reverse.specs.Counts.{sideFew, sidesFew, RowsWithin, CountsCones};
 use parts::Met;
 use parts::Place;
 use reverse_cones::cone_rows;
 use reverse_cones::join_cut;
 use reverse_cones::join_whole;
+use supportedcone::SupportedCone;
 
 // x: the first n are copied.
 fn copy_x(n: u32, x: &[f64], out: &mut [f64])
@@ -42,7 +45,7 @@ fn join_parts(
 )
     requires { ⌜ Sound m (now cones) count (now words) × (blockRowCount (joinedParts (now cones) count (now words)) ≤ 262144) ⌝ }
     requires { ⌜ (length (now s) ≡ blockRowCount (joinedParts (now cones) count (now words))) × (length (now z) ≡ length (now s)) ⌝ }
-    requires { ⌜ (m ≤ length (now «s_out»)) × (m ≤ length (now «z_out»)) × CountsCones standard m (now counts) ⌝ }
+    requires { ⌜ (m ≤ length (now «s_out»)) × (m ≤ length (now «z_out»)) × CountsCones standard m (now cones) (now counts) ⌝ }
     ensures { λ _. ⌜ now («s_out» .exit) ≡ written (valuesFrom (sPart standard) (joinedParts (now (cones .entry)) count (now (words .entry))) (now (s .entry))) (now («s_out» .entry)) ⌝ }
     ensures { λ _. ⌜ now («z_out» .exit) ≡ written (valuesFrom (zPart standard) (joinedParts (now (cones .entry)) count (now (words .entry))) (now (z .entry))) (now («z_out» .entry)) ⌝ }
 {
@@ -89,6 +92,41 @@ fn join_parts(
     }
 }
 
+// ---- room for the counts of the standard route
+
+// Whether a cone of this kind and side has few rows, should a pattern cut it.
+fn side_few(kind: u32, side: u32) -> bool
+    ensures { λ r. ⌜ r ≡ sideFew kind side ⌝ }
+{
+    kind != SupportedCone::PSD_TRIANGLE || side <= 90
+}
+
+// Whether each cone has.
+fn sides_few(cones: &[u32]) -> bool
+    ensures { λ r. ⌜ r ≡ sidesFew (now (cones .entry)) ⌝ }
+{
+    let count = supportedcone::record_count(cones);
+    let mut i = 0;
+    while i < count {
+        let at = i * 3;
+        if !side_few(cones[at], cones[at + 1]) {
+            return false;
+        }
+        i += 1;
+    }
+    true
+}
+
+// Whether 4,096 counts are enough for each cone.
+fn rows_few(m: u32, cones: &[u32]) -> bool
+    ensures { λ r. ⌜ r ≡ (leb m 4096 || sidesFew (now (cones .entry))) ⌝ }
+{
+    if m <= 4096 {
+        return true;
+    }
+    sides_few(cones)
+}
+
 // ---- the routes
 
 // s and z on the standard route, with room to count the columns of each cone's rows: their values are those after the first m.
@@ -104,7 +142,7 @@ fn standard_by(
     counts: &mut [u32],
 )
     requires { ⌜ Joinable standardRoute m (now cones) count (now words) (now s) (now z) ⌝ }
-    requires { ⌜ (m ≤ length (now «s_out»)) × (m ≤ length (now «z_out»)) × CountsCones true m (now counts) ⌝ }
+    requires { ⌜ (m ≤ length (now «s_out»)) × (m ≤ length (now «z_out»)) × CountsCones true m (now cones) (now counts) ⌝ }
     ensures { λ _. ⌜ now («s_out» .exit) ≡ written (joinedOf standardRoute m (now (cones .entry)) count (now (words .entry)) (now (s .entry)) (now (z .entry)) .s) (now («s_out» .entry)) ⌝ }
     ensures { λ _. ⌜ now («z_out» .exit) ≡ written (joinedOf standardRoute m (now (cones .entry)) count (now (words .entry)) (now (s .entry)) (now (z .entry)) .z) (now («z_out» .entry)) ⌝ }
 {
@@ -143,7 +181,7 @@ fn standard_few(
     standard_by(m, cones, count, words, s, z, s_out, z_out, &mut counts);
 }
 
-// The same for more rows.
+// The same for more rows, or for many cones of few rows.
 fn standard_some(
     m: u32,
     cones: &[u32],
@@ -155,7 +193,7 @@ fn standard_some(
     z_out: &mut [f64],
 )
     requires { ⌜ Joinable standardRoute m (now cones) count (now words) (now s) (now z) ⌝ }
-    requires { ⌜ (m ≤ length (now «s_out»)) × (m ≤ length (now «z_out»)) × (m ≤ 4096) ⌝ }
+    requires { ⌜ (m ≤ length (now «s_out»)) × (m ≤ length (now «z_out»)) × RowsWithin 4096 m (now cones) ⌝ }
     ensures { λ _. ⌜ now («s_out» .exit) ≡ written (joinedOf standardRoute m (now (cones .entry)) count (now (words .entry)) (now (s .entry)) (now (z .entry)) .s) (now («s_out» .entry)) ⌝ }
     ensures { λ _. ⌜ now («z_out» .exit) ≡ written (joinedOf standardRoute m (now (cones .entry)) count (now (words .entry)) (now (s .entry)) (now (z .entry)) .z) (now («z_out» .entry)) ⌝ }
 {
@@ -206,7 +244,7 @@ pub fn decomp_reverse_standard(
     copy_x(n, x, x_out);
     if m <= 256 {
         standard_few(m, cones, count, words, s, z, s_out, z_out);
-    } else if m <= 4096 {
+    } else if rows_few(m, cones) {
         standard_some(m, cones, count, words, s, z, s_out, z_out);
     } else {
         standard_many(m, cones, count, words, s, z, s_out, z_out);

@@ -64,8 +64,3 @@ CountsRows false n counts = Unit {0}
 abbrev pub Cleared : Bool → ℕ → List ℕ → Type 0
 Cleared true n counts = (o : ℕ) → o < n → getD counts o 0 ≡ 0
 Cleared false n counts = Unit {0}
-
--- there are counts for each cone that may be cut among m rows
-abbrev pub CountsCones : Bool → ℕ → List ℕ → Type 0
-CountsCones true m counts = (n : ℕ) → n ≤ m → n ≤ 32896 → n ≤ length counts
-CountsCones false m counts = Unit {0}

@@ -4,21 +4,23 @@ use mathlib.Core.Bool.{Bool, true, false}
 use mathlib.Core.List.{List, [], _∷_, map}
 use lib.ListN.{length, getD, take, drop, length-drop, length-replicate}
 use lib.Seq.{length-take-le}
+use lib.Dec.{T}
 use lib.Ieee.{Float}
 use Rattle.layout.specs.Lists.{sum, part}
 use Rattle.layout.specs.Triangle.{triangle}
 use Rattle.layout.specs.Cones.{records}
 use Rattle.layout.specs.Patterns.{Pattern}
 use Rattle.layout.specs.Blocks.{Part, whole, cut, partRows, blockRows, blockRowCount}
-use Rattle.layout.specs.Checks.{noCone}
+use Rattle.layout.specs.Checks.{noCone, namesItsCone}
 use Rattle.layout.specs.Answers.{joinedParts}
 use Rattle.layout.proofs.Laid.{coneRows, sound-total}
-use Rattle.layout.proofs.Triangles.{triangle-mono}
 use Rattle.supernode_tree.specs.Reads.{patternAt}
-use Rattle.parts.specs.Ahead.{ahead, Stands, meets, Knows}
+use Rattle.parts.specs.Ahead.{patternsAhead, ahead, Stands, meets, Knows}
 use Rattle.parts.specs.declared.Met.the-variants.{Whole, Cut}
-use Rattle.reverse_cones.specs.Parts.{wholeValues, sPart, zPart, valuesFrom, writtenAt, CountsRows, CountsCones}
+use Rattle.reverse_cones.specs.Parts.{wholeValues, sPart, zPart, valuesFrom, writtenAt, CountsRows}
 use Rattle.reverse_cones.proofs.Laws.{length-whole}
+use Rattle.reverse.specs.Counts.{CountsCones}
+use Rattle.reverse.proofs.Counts.{cut-passes}
 use Rattle.reverse.proofs.Parts.{length-s-cut, length-z-cut}
 use Rattle.reverse.proofs.Walk.{Joins, joins-none, joins-more, joins-done}
 use native.Mathlib.Omega.{arith}
@@ -121,10 +123,20 @@ fits-cut c =
       omega (arith, l .loop .inv .4, ap blockRowCount e, s .pre .0 .1),
     )
 
--- the counts have room for a cone's rows
-counts-rows : (standard : Bool) (m n : ℕ) (a b : List ℕ) → n ≤ m → n ≤ 32896 → length b ≡ length a → CountsCones standard m a → CountsRows standard n b
-counts-rows true m n a b h g e room = omega (arith, room n h g)
-counts-rows false m n a b h g e room = tt
+-- its pattern is one that names its cone
+named-cut : (c : tie.After-known-told2 Inv-loop μ-loop) → T (namesItsCone (records (start (c .before .before .before .before) .args .cones .now)) (patternOf c))
+named-cut c =
+    let l = c .before .before .before .before in
+    let a = start l .args in
+    let q = l .loop .place in
+    cut-passes (namesItsCone (records (a .cones .now))) (q .cone) (q .row) (q .pattern) (drop (q .cone) (records (a .cones .now))) (patternsAhead (a .words .now) q)
+    (q .cone) (q .row) (q .pattern) (patternOf c) (ahead (a .cones .now) (a .words .now) (c .before .met2 .given .0 .1 .0)) (met-cut c .0) (l .loop .inv .5 .named)
+
+-- the counts have room for its rows
+counts-rows : (standard : Bool) (m n : ℕ) (cones a b : List ℕ) (p : Pattern) → n ≡ triangle (p .vertexCount) → n ≤ m → p .vertexCount ≤ 256 → length b ≡ length a
+    → T (namesItsCone (records cones) p) → CountsCones standard m cones a → CountsRows standard n b
+counts-rows true m n cones a b p r h g e named room = omega (arith, r, room p named (omega (arith, r)) g)
+counts-rows false m n cones a b p r h g e named room = tt
 
 start-requires : tie.Need-start-requires Inv-loop μ-loop
 start-requires c κs = c .before .before .before .before .before .before .before .pre .0 .0
@@ -244,14 +256,13 @@ join-cut-requires c κs =
     let a = s .args in
     let h = met-cut k .1 in
     let f = fits-cut k in
-    let n = r .cone-rows .ensures in
-    let small = triangle-mono (patternOf k .vertexCount) 256 (h .2) in (
+    let n = r .cone-rows .ensures in (
       (h .1, h .2, n),
       (
         (omega (arith, n, f .0, l .loop .inv .0 .size, s .pre .1 .1), omega (arith, n, f .0, l .loop .inv .1 .size, s .pre .1 .1)),
         (
           (f .2, f .1, s .pre .1 .0 .1),
-          (counts-rows (a .standard) (a .m) (r .cone-rows .result) (a .counts .now) (l .loop .counts) (omega (arith, n, f .0)) (omega (arith, n, small)) (l .loop .inv .2) (s .pre .1 .1 .2), (omega (arith, l .loop .inv .6), omega (arith, l .loop .inv .7))),
+          (counts-rows (a .standard) (a .m) (r .cone-rows .result) (a .cones .now) (a .counts .now) (l .loop .counts) (patternOf k) n (omega (arith, n, f .0)) (h .2) (l .loop .inv .2) (named-cut k) (s .pre .1 .1 .2), (omega (arith, l .loop .inv .6), omega (arith, l .loop .inv .7))),
         ),
       ),
     )

@@ -1,5 +1,6 @@
 use Prim.Native.Nat.{ℕ}
 use lib.ListN.{length-replicate}
+use Rattle.layout.proofs.Triangles.{triangle-mono}
 use native.Mathlib.Omega.{arith}
 use borrow.Author.Needs.{needs}
 use Rattle.reverse.proofs.standard_many.Statement.{statement}
@@ -11,7 +12,7 @@ slice-aggregate-standard-by c = search needs
 standard-by-requires : tie.Need-standard-by-requires
 standard-by-requires c κs =
     let s = c .before .before .before .before .before .before .before .before .before in
-    (s .pre .0, (s .pre .1 .0, s .pre .1 .1, λ n h g. omega (arith, length-replicate {A = ℕ} 32896 0)))
+    (s .pre .0, (s .pre .1 .0, s .pre .1 .1, λ p h g l. omega (arith, triangle-mono (p .vertexCount) 256 l, length-replicate {A = ℕ} 32896 0)))
 
 same-length : tie.Need-same-length
 same-length c = search needs

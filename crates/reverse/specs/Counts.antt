@@ -1,0 +1,28 @@
+-- Room for the counts of the standard route: as many as the rows of the largest cone that a pattern cuts.
+use Prim.Native.Nat.{ℕ, _≤_}
+use mathlib.Core.Bool.{Bool, true, false, not, _||_}
+use mathlib.Core.List.{List}
+use lib.ListN.{length}
+use lib.Dec.{T, leb, eqb}
+use Rattle.layout.specs.Lists.{all}
+use Rattle.layout.specs.Triangle.{triangle}
+use Rattle.layout.specs.Cones.{records}
+use Rattle.layout.specs.Patterns.{Pattern}
+use Rattle.layout.specs.Checks.{namesItsCone}
+
+-- a PSD cone's side is at most 90, and so its rows at most 4,095
+abbrev pub sideFew : ℕ → ℕ → Bool
+sideFew kind side = not (eqb kind 6) || leb side 90
+
+abbrev pub sidesFew : List ℕ → Bool
+sidesFew cones = all (λ c. sideFew (c .kind) (c .first)) (records cones)
+
+-- each cone among m rows that a pattern may cut has at most k
+abbrev pub RowsWithin : ℕ → ℕ → List ℕ → Type 0
+RowsWithin k m cones =
+    (p : Pattern) → T (namesItsCone (records cones) p) → triangle (p .vertexCount) ≤ m → p .vertexCount ≤ 256 → triangle (p .vertexCount) ≤ k
+
+-- there are counts for each: true stands for the standard route, and the compact one counts nothing
+abbrev pub CountsCones : Bool → ℕ → List ℕ → List ℕ → Type 0
+CountsCones true m cones counts = RowsWithin (length counts) m cones
+CountsCones false m cones counts = Unit {0}
