@@ -2,17 +2,16 @@
 use Prim.Native.Nat.{ℕ, suc, _+_, _-_, _≤_, _<_}
 use native.Mathlib.Omega.{arith}
 use mathlib.Core.Path.{_≡_, refl, sym, ap, subst, _∙_}
-use mathlib.Core.Bool.{Bool, true, false, not, _&&_}
+use mathlib.Core.Bool.{Bool, true, not, _&&_}
 use mathlib.Core.List.{List, [], _∷_, map}
 use lib.ListN.{length, drop}
-use lib.Dec.{T, eqb}
+use lib.Dec.{eqb}
 use borrow.Author.Tests.{le-leb, eq-eqb}
 use Rattle.layout.specs.Lists.{all}
 use Rattle.layout.specs.Cones.{records}
 use Rattle.layout.specs.Patterns.{Read, read, short, andThen, readMany, Pattern, Clique, Head, withCliques, noPattern, readHead, readClique, readCliques, readPattern, readPatterns, patterns, endsRight}
-use Rattle.layout.specs.Checks.{namesItsCone, isPermutation, originsRise, orderingsRight, patternsRead, treeRight, cliquesRight}
-use Rattle.layout.proofs.Tests.{passed, passes, and-iff}
-use Rattle.supernode_tree.specs.Reads.{headOf, whole, rest, valueOr, patternAt, cliquesFrom}
+use Rattle.layout.specs.Checks.{namesItsCone, isPermutation, originsRise, orderingsRight, treeRight, cliquesRight}
+use Rattle.supernode_tree.specs.Reads.{headOf, whole, patternAt, cliquesFrom}
 use Rattle.supernode_tree.specs.declared.Pattern.{Pattern as PatternAt}
 use Rattle.supernode_tree.proofs.Many.{whole-read, ends-whole, many-length}
 use Rattle.supernode_tree.proofs.Words.{ends-made, ends-at}
@@ -21,7 +20,7 @@ use Rattle.supernode_tree.proofs.Patterns.{patternsFrom, patterns-next, pattern
 use Rattle.supportedcone.specs.Ranges.{isPsdOf}
 use Rattle.sparsity_pattern.specs.Sparsity.{patternRight}
 use Rattle.sparsity_pattern.proofs.Sparsity.{risesFrom, rises-start, all-both}
-use Rattle.clique_tree.specs.Trees.{snodesOf, separatorsOk}
+use Rattle.clique_tree.specs.Trees.{snodesOf}
 use Rattle.clique_tree.proofs.Trees.{treeFrom, tree-right}
 use Rattle.accepted.specs.Accepted.{Holds, MembersHold, PatternHolds, HoldsAt}
 

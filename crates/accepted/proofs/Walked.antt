@@ -8,12 +8,12 @@ use mathlib.Core.List.{List, [], _∷_, _++_}
 use lib.ListN.{length, drop, set, length-append}
 use lib.Dec.{eqb}
 use borrow.Author.Tests.{ne-eqb}
-use Rattle.layout.specs.Lists.{all, join}
+use Rattle.layout.specs.Lists.{all}
 use Rattle.layout.specs.Patterns.{Read, read, short, andThen, readMany, Clique, readClique, readCliques}
 use Rattle.layout.specs.Checks.{isPermutation}
 use Rattle.layout.proofs.Keeps.{append-nil}
 use Rattle.layout.proofs.Starts.{join-append}
-use Rattle.supernode_tree.specs.Reads.{cliqueOf, CliqueInside, Whole, whole, rest, valueOr, cliquesFrom}
+use Rattle.supernode_tree.specs.Reads.{cliqueOf, CliqueInside, whole, rest, valueOr, cliquesFrom}
 use Rattle.supernode_tree.specs.Offsets.{OffsetsEvery}
 use Rattle.supernode_tree.specs.declared.Clique.{Clique as CliqueAt}
 use Rattle.supernode_tree.specs.declared.CliqueRead.the-variants.{Clique as Found}

@@ -1,14 +1,14 @@
 -- What a problem that checks 1 to 7 let pass says, and what a joining's inputs say.
 use Prim.Native.Nat.{ℕ}
 use mathlib.Core.Path.{_≡_, sym, _∙_}
-use mathlib.Core.Bool.{Bool, cond, _&&_}
+use mathlib.Core.Bool.{Bool, _&&_}
 use mathlib.Core.List.{List}
 use lib.ListN.{length, take, drop}
 use lib.Dec.{T, leb, eqb, eqb→eq, leb→le, lit<}
 use Rattle.layout.specs.Problem.{Problem, standard}
 use Rattle.layout.specs.Checks.{Sound, conesBounded, conesRead, alphasAsMany, startsRight, rowsRight, firstFailing, checks}
 use Rattle.layout.specs.Answers.{joinBounded, problemRefusal}
-use Rattle.layout.proofs.Tests.{and-iff, eqb-iff, leb-iff, cond-passed}
+use Rattle.layout.proofs.Tests.{and-iff, leb-iff, cond-passed}
 use Rattle.layout.proofs.Accepted.{passed}
 use Rattle.checks.specs.Order.{patternsRefusal, joinedTests, joinedRefusal, Checked}
 use Rattle.checks.proofs.Order.{failing-append, both-zero}

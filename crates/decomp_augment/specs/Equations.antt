@@ -6,7 +6,7 @@ use lib.ListN.{length, getD, take}
 use lib.IntN.{ℤ, pos, _+ℤ_, _*ℤ_}
 use lib.Ieee.{Float, nan}
 use Rattle.layout.specs.Problem.{Problem, Csc, compact}
-use Rattle.layout.specs.Blocks.{overlapCount, blockRowCount}
+use Rattle.layout.specs.Blocks.{overlapCount}
 use Rattle.layout.specs.Checks.{layout}
 use Rattle.layout.specs.Equations.{count, unit, at, columnsTerm, MeetsOriginal, slackSums, ExactlyOne}
 use Rattle.layout.specs.Answers.{sizes}

@@ -1,12 +1,11 @@
 -- Check 5 as walks over the patterns.
-use Prim.Native.Nat.{ℕ, suc, _+_, _*_, _≤_, _<_}
+use Prim.Native.Nat.{ℕ, suc}
 use native.Mathlib.Omega.{arith}
 use mathlib.Core.Bool.{Bool, true, false, _&&_}
 use mathlib.Core.Path.{_≡_, refl, ap, _∙_}
 use mathlib.Core.List.{List, [], _∷_}
-use lib.ListN.{length, getD}
-use lib.Dec.{leb, ltb, eqb}
-use borrow.Author.Tests.{lt-ltb, le-ltb, le-leb}
+use lib.Dec.{leb, ltb}
+use borrow.Author.Tests.{le-leb}
 use Rattle.layout.specs.Lists.{all, rises}
 
 -- ---- tests of each

@@ -2,7 +2,8 @@
 use Prim.Native.Nat.{ℕ, suc, _+_, _-_, _≤_, _<_}
 use native.Mathlib.Numerals.{add-one}
 use native.Mathlib.Omega.{arith}
-use mathlib.Core.Bool.{false}
+use mathlib.Core.Bool.{true, false}
+use mathlib.Core.Logic.{inl, inr}
 use mathlib.Core.Path.{_≡_, refl, sym, ap, _∙_}
 use mathlib.Core.List.{List, [], _∷_, _++_}
 use lib.ListN.{length, getD, take, drop, length-drop}
@@ -10,7 +11,8 @@ use lib.Seq.{drop-cons, drop-drop, take-add, length-take-le}
 use lib.Dec.{eqb}
 use borrow.Author.Tests.{le-leb, lt-leb, eq-eqb, ne-eqb}
 use Rattle.layout.specs.Patterns.{Read, read, short, andThen, Head, readHead, withCliques, readMembers, readClique, readCliques, readPatterns, endsRight, Clique, Pattern}
-use Rattle.supernode_tree.specs.Reads.{headOf, patternRead, cliqueOf, cliqueRead}
+use Rattle.layout.proofs.Tests.{differ, lt-or-le}
+use Rattle.supernode_tree.specs.Reads.{headOf, patternRead, cliqueOf, cliqueRead, whole}
 use Rattle.supernode_tree.specs.declared.Clique.{Clique as CliqueAt}
 use Rattle.supernode_tree.specs.declared.CliqueRead.{CliqueRead}
 use Rattle.supernode_tree.specs.declared.CliqueRead.the-variants.{Clique as FoundClique}
@@ -69,6 +71,23 @@ clique-whole ws at h =
       members-read (getD ws (at + 1) 0) (at + 3) ws (omega arith),
       members-read (getD ws (at + 2) 0) (at + 3 + getD ws (at + 1) 0) ws h,
     )
+
+-- a clique that stands whole ends within the words
+pub clique-fits : (ws : List ℕ) (at : ℕ) → whole (readClique (drop at ws)) ≡ true
+    → at + 3 + getD ws (at + 1) 0 + getD ws (at + 2) 0 ≤ length ws
+clique-fits ws at w = elim (lt-or-le (length ws) (at + 3)) [
+  | inl l ↦ stands (clique-short ws at l)
+  | inr l ↦ elim (lt-or-le (length ws) (at + 3 + getD ws (at + 1) 0)) [
+    | inl m ↦ stands (clique-short-snode ws at l (omega arith))
+    | inr m ↦ elim (lt-or-le (length ws) (at + 3 + getD ws (at + 1) 0 + getD ws (at + 2) 0)) [
+      | inl n ↦ stands (clique-short-separator ws at m (omega arith))
+      | inr n ↦ n
+    ]
+  ]
+]
+  where
+    stands : {A : Type 0} → readClique (drop at ws) ≡ short → A
+    stands e = absurd (differ (whole (readClique (drop at ws))) w (ap whole e))
 
 -- ---- heads
 

@@ -163,6 +163,14 @@ pub fn cliques_whole(words: &[u32], first: usize, count: u32) -> bool
     true
 }
 
+// Where the words after the clique at an offset start. It stands whole, so its counts need no test.
+fn clique_next(words: &[u32], at: usize) -> usize
+    requires { ⌜ whole (readClique (drop at (now words))) ≡ true ⌝ }
+    ensures { λ r. ⌜ rest (readClique (drop at (now (words .entry)))) ≡ drop r (now (words .entry)) ⌝ }
+{
+    at + 3 + words[at + 1] as usize + words[at + 2] as usize
+}
+
 // Where the words after count cliques start.
 pub fn cliques_next(words: &[u32], first: usize, count: u32) -> usize
     requires { ⌜ Whole (now words) first count ⌝ }
@@ -171,10 +179,7 @@ pub fn cliques_next(words: &[u32], first: usize, count: u32) -> usize
     let mut at = first;
     let mut left = count;
     while 0 < left {
-        let CliqueRead::Clique(q) = Clique::read(words, at) else {
-            return 0;
-        };
-        at = q.next;
+        at = clique_next(words, at);
         left -= 1;
     }
     at

@@ -1,9 +1,8 @@
-use Rattle.supernode_tree.proofs.Cliques.{none-here, whole-next, rest-next, rest-none}
-use Rattle.layout.proofs.Tests.{differ}
-use Rattle.supernode_tree.specs.Reads.{Whole, rest}
-use Rattle.layout.specs.Patterns.{readCliques}
-use lib.ListN.{drop}
 use mathlib.Core.Path.{_≡_, refl, sym, _∙_}
+use lib.ListN.{drop}
+use Rattle.layout.specs.Patterns.{readCliques}
+use Rattle.supernode_tree.specs.Reads.{Whole, rest}
+use Rattle.supernode_tree.proofs.Cliques.{first-whole, step-over, rest-none}
 use borrow.Author.Needs.{needs}
 use Rattle.supernode_tree.proofs.cliques_next.Statement.{statement}
 use Rattle.supernode_tree.proofs.cliques_next.Tie as tie
@@ -17,20 +16,10 @@ abbrev μ-loop : tie.MeasureT-loop
 loop-holds : tie.Need-loop-holds Inv-loop μ-loop
 loop-holds c = (c .before .pre, refl)
 
-read-requires : tie.Need-read-requires Inv-loop μ-loop
-read-requires c κs = search needs
-
-enum-known-q : tie.Need-enum-known-q Inv-loop μ-loop
-enum-known-q c = search needs
-
-enum-told : tie.Need-enum-told Inv-loop μ-loop
-enum-told c = search needs
-
-returns : tie.Need-returns Inv-loop μ-loop
-returns c =
-    let l = c .before .before .before .before in
-    let ws = l .before .before .args .words .now in
-    absurd (differ _ (l .loop .inv .0) (none-here ws (l .loop .at) (l .loop .left) _ (c .before .before .read .ensures .0) (c .before .before .before .loop-test .taken) (c .enum-told .given .1)))
+clique-next-requires : tie.Need-clique-next-requires Inv-loop μ-loop
+clique-next-requires c κs =
+    let l = c .before in
+    first-whole (l .before .before .args .words .now) (l .loop .at) (l .loop .left) (c .loop-test .taken) (l .loop .inv .0)
 
 sub-left : tie.Need-sub-left Inv-loop μ-loop
 sub-left c = search needs
@@ -40,19 +29,15 @@ loop-less c = search needs
 
 loop-again : tie.Need-loop-again Inv-loop μ-loop
 loop-again c =
-    let l = c .before .before .before .before .before in
-    let ws = l .before .before .args .words .now in
-    let g = c .before .q .given in
-    let r = c .before .before .before in (
-      sym (whole-next ws (l .loop .at) (l .loop .left) _ (r .read .ensures .0) (r .before .loop-test .taken) (g .0 .0) (g .1)) ∙ l .loop .inv .0,
-      l .loop .inv .1 ∙ rest-next ws (l .loop .at) (l .loop .left) _ (r .read .ensures .0) (r .before .loop-test .taken) (g .0 .0) (g .1),
-    )
+    let t = c .before in
+    let l = t .before in
+    let over = step-over (l .before .before .args .words .now) (l .loop .at) (l .loop .left) (t .loop-test .taken) (l .loop .inv .0) (c .clique-next .result) (c .clique-next .ensures) in
+    (sym (over .0) ∙ l .loop .inv .0, l .loop .inv .1 ∙ over .1)
 
-returns-2 : tie.Need-returns-2 Inv-loop μ-loop
-returns-2 c =
+returns : tie.Need-returns Inv-loop μ-loop
+returns c =
     let l = c .before in
-    let ws = l .before .before .args .words .now in
-    l .loop .inv .1 ∙ rest-none ws (l .loop .at) (l .loop .left) (c .loop-test .left)
+    l .loop .inv .1 ∙ rest-none (l .before .before .args .words .now) (l .loop .at) (l .loop .left) (c .loop-test .left)
 
 pub cliques-next-spec : {M : Type 1} → statement M
 cliques-next-spec =
@@ -61,11 +46,8 @@ cliques-next-spec =
     Inv-loop
     μ-loop
     loop-holds
-    read-requires
-    enum-known-q
-    enum-told
-    returns
+    clique-next-requires
     sub-left
     loop-less
     loop-again
-    returns-2)
+    returns)

@@ -1,7 +1,5 @@
 use mathlib.Core.Path.{refl}
 use lib.Ieee.{ofBits}
-use native.Mathlib.Omega.{arith}
-use borrow.Author.Needs.{needs}
 use Rattle.reverse_standard.proofs.Scalars.joined.Statement.{statement}
 use Rattle.reverse_standard.proofs.Scalars.joined.Tie as tie
 use Rattle.reverse_standard.proofs.Scalars.joined.Reads as reads
