@@ -158,22 +158,51 @@ fn now() -> f64 {
     t.seconds as f64 * 1e6 + t.nanos as f64 / 1e3
 }
 
-// the median of several runs in microseconds a call; short calls are timed many at once
-fn median(mut f: impl FnMut()) -> f64 {
+// how many calls are timed at once
+fn batch(f: &mut dyn FnMut()) -> u32 {
     let started = now();
     f();
-    let batch = (200.0 / (now() - started).max(0.01)).clamp(1.0, 1e5) as u32;
-    let mut times = vec![];
-    let all = Instant::now();
-    while times.len() < 5 || (all.elapsed().as_secs_f64() < 0.4 && times.len() < 101) {
-        let started = now();
-        for _ in 0..batch {
-            f();
-        }
-        times.push((now() - started) / batch as f64);
+    (200.0 / (now() - started).max(0.01)).clamp(1.0, 1e5) as u32
+}
+
+// microseconds a call over one batch
+fn timed(f: &mut dyn FnMut(), batch: u32) -> f64 {
+    let started = now();
+    for _ in 0..batch {
+        f();
     }
+    (now() - started) / batch as f64
+}
+
+fn middle(mut times: Vec<f64>) -> f64 {
     times.sort_by(f64::total_cmp);
     times[times.len() / 2]
+}
+
+// the median of each over several rounds; in a round each is timed in turn, so that what else the machine does meets all alike
+fn medians<const K: usize>(mut fs: [&mut dyn FnMut(); K]) -> [f64; K] {
+    let batches: [u32; K] = std::array::from_fn(|i| batch(fs[i]));
+    let mut times: [Vec<f64>; K] = std::array::from_fn(|_| vec![]);
+    let all = Instant::now();
+    while times[0].len() < 5 || (all.elapsed().as_secs_f64() < 0.8 && times[0].len() < 101) {
+        for i in 0..K {
+            times[i].push(timed(fs[i], batches[i]));
+        }
+    }
+    times.map(middle)
+}
+
+fn median(mut f: impl FnMut()) -> f64 {
+    medians([&mut f])[0]
+}
+
+// clarabel's median, and the door's where it is linked
+fn beside(clarabel: &mut dyn FnMut(), door: &mut dyn FnMut()) -> (Option<f64>, Option<f64>) {
+    if !door::LINKED {
+        return (Some(medians([clarabel])[0]), None);
+    }
+    let [c, d] = medians([clarabel, door]);
+    (Some(c), Some(d))
 }
 
 fn shown(micros: Option<f64>) -> String {
@@ -207,24 +236,25 @@ fn one(name: &str, p: &Problem) {
         let mut prepared = Prepared::new(&tables(p), 0).expect("a problem that clarabel reads");
         let compact = route == Route::Compact;
         let raw = prepared.cut(compact).expect("a problem that clarabel cuts");
-        let clarabel = median(|| {
-            black_box(prepared.cut_uncaught(compact));
-        });
         let mut outputs = door::cut_outputs(&lengths);
         let mut sizes = [0; 11];
-        let linked = |f: &mut dyn FnMut() -> u32| {
-            door::LINKED.then(|| {
-                assert_eq!(f(), 0, "the door refuses {name}");
-                median(|| {
-                    black_box(f());
-                })
-            })
-        };
-        let door_sizes = linked(&mut || door::sizes(route.code(), p, &mut sizes));
-        let door_cut = linked(&mut || door::cut(route.code(), p, &mut outputs));
-        line(name, &format!("{r} cut"), Some(clarabel), door_cut);
         if door::LINKED {
-            line(name, &format!("{r} sizes"), None, door_sizes);
+            assert_eq!(door::cut(route.code(), p, &mut outputs), 0, "the door refuses {name}");
+        }
+        let (clarabel, door_cut) = beside(
+            &mut || {
+                black_box(prepared.cut_uncaught(compact));
+            },
+            &mut || {
+                black_box(door::cut(route.code(), p, &mut outputs));
+            },
+        );
+        line(name, &format!("{r} cut"), clarabel, door_cut);
+        if door::LINKED {
+            let time = median(|| {
+                black_box(door::sizes(route.code(), p, &mut sizes));
+            });
+            line(name, &format!("{r} sizes"), None, Some(time));
         }
 
         let shape = expected::solution_shape(route, p).unwrap();
@@ -234,13 +264,20 @@ fn one(name: &str, p: &Problem) {
             v.iter_mut().for_each(|x| *x = d.below(201) as f64 - 100.0);
         }
         let vars = Vars::new(&solution.x, &solution.s, &solution.z, 1.0, 1.0);
-        let clarabel = median(|| {
-            black_box(prepared.join_uncaught(compact, &raw, &vars));
-        });
         let input = join_input(p, &solution);
         let mut outputs = door::join_outputs(&[p.n as usize, p.m as usize, p.m as usize, 2]);
-        let door_join = linked(&mut || door::join(route.code(), &input, &mut outputs));
-        line(name, &format!("{r} joining"), Some(clarabel), door_join);
+        if door::LINKED {
+            assert_eq!(door::join(route.code(), &input, &mut outputs), 0, "the door refuses {name}");
+        }
+        let (clarabel, door_join) = beside(
+            &mut || {
+                black_box(prepared.join_uncaught(compact, &raw, &vars));
+            },
+            &mut || {
+                black_box(door::join(route.code(), &input, &mut outputs));
+            },
+        );
+        line(name, &format!("{r} joining"), clarabel, door_join);
     }
     if door::LINKED {
         let mut out = [0];
@@ -256,16 +293,16 @@ fn small_calls() {
     for length in [1_000, 32_768, 65_536, 131_072, 262_144, 524_288, 1_048_576] {
         let p = d.permutation(length);
         let wide: Vec<usize> = p.iter().map(|&x| x as usize).collect();
-        let clarabel = median(|| {
-            black_box(reference::door::inverse_wide(&wide));
-        });
         let mut out = vec![0; length];
-        let door = door::LINKED.then(|| {
-            median(|| {
+        let (clarabel, door) = beside(
+            &mut || {
+                black_box(reference::door::inverse_wide(&wide));
+            },
+            &mut || {
                 black_box(door::inverse(&p, &mut out));
-            })
-        });
-        line(&format!("{length} numbers"), "inverse", Some(clarabel), door);
+            },
+        );
+        line(&format!("{length} numbers"), "inverse", clarabel, door);
     }
     for (v, w) in [(64, 6), (256, 10), (1_024, 10), (4_096, 10)] {
         let words = shuffled(d, band_pattern(0, v, w)).words();
