@@ -43,28 +43,13 @@ module _ (ws : List ℕ) (at k : ℕ) (r : CliqueRead) (e : cliqueRead ws r ≡ 
     pub clique-goes : b ≡ true → x ≡ all f (cliquesFrom ws (q .next) (k - 1))
     clique-goes = cases .1
 
--- a step over the first of k cliques that stand whole, to where the words after it start
-module _ (ws : List ℕ) (at k : ℕ) (more : 0 < k) (w : Whole ws at k) where
-  stands : {A : Type 0} → readClique (drop at ws) ≡ short → A
-  stands e = absurd (differ (whole (readCliques k (drop at ws))) w (many-short readClique k (drop at ws) more e))
-
-  pub first-whole : whole (readClique (drop at ws)) ≡ true
-  first-whole = go (readClique (drop at ws)) refl
-    where
-      go : (r : Read Clique) → readClique (drop at ws) ≡ r → whole r ≡ true
-      go (read c left) e = refl
-      go short e = stands e
-
-  module _ (next : ℕ) (h : rest (readClique (drop at ws)) ≡ drop next ws) where
-    pub step-over : (whole (readCliques k (drop at ws)) ≡ whole (readCliques (k - 1) (drop next ws))) × (rest (readCliques k (drop at ws)) ≡ rest (readCliques (k - 1) (drop next ws)))
-    step-over = go (readClique (drop at ws)) refl
-      where
-        go : (r : Read Clique) → readClique (drop at ws) ≡ r
-            → (whole (readCliques k (drop at ws)) ≡ whole (readCliques (k - 1) (drop next ws))) × (rest (readCliques k (drop at ws)) ≡ rest (readCliques (k - 1) (drop next ws)))
-        go (read c left) e =
-            let q : readClique (drop at ws) ≡ read c (drop next ws) = e ∙ ap (λ (l : List ℕ). read c l) (sym (ap rest e) ∙ h) in
-            (many-whole readClique k (drop at ws) more c (drop next ws) q, many-rest readClique k (drop at ws) more c (drop next ws) q)
-        go short e = stands e
+-- the first of k cliques that stand whole
+pub first-whole : (ws : List ℕ) (at k : ℕ) → 0 < k → Whole ws at k → whole (readClique (drop at ws)) ≡ true
+first-whole ws at k more w = go (readClique (drop at ws)) refl
+  where
+    go : (r : Read Clique) → readClique (drop at ws) ≡ r → whole r ≡ true
+    go (read c left) e = refl
+    go short e = absurd (differ (whole (readCliques k (drop at ws))) w (many-short readClique k (drop at ws) more e))
 
 -- none are left
 pub from-none : (ws : List ℕ) (at k : ℕ) → k ≤ 0 → cliquesFrom ws at k ≡ []

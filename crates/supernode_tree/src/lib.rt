@@ -11,6 +11,7 @@ ghost use Rattle.layout.specs.Patterns.{noClique, members as cliqueMembers, blo
 ghost use Rattle.layout.specs.Blocks.{blockRows};
 ghost use Rattle.layout.specs.Checks.{RightPattern};
 ghost use Rattle.supernode_tree.specs.Reads.{patternAt, rest, whole, Whole, cliquesFrom, MembersOf, cliqueRead, CliqueInside, patternRead, PatternInside};
+ghost use Rattle.supernode_tree.specs.declared.CliqueRead.the-variants.{Clique as Found};
 ghost use Rattle.supernode_tree.specs.Offsets.{OffsetsEvery, OffsetsOf};
 ghost use Rattle.supernode_tree.specs.Sizes.{overlapRows};
 
@@ -62,6 +63,27 @@ impl Clique {
             separator_count: separator_count,
             next: separator + separator_count,
         })
+    }
+
+    // The clique at an offset where one stands whole: its counts need no test.
+    pub fn here(words: &[u32], at: usize) -> Clique
+        requires { ⌜ whole (readClique (drop at (now words))) ≡ true ⌝ }
+        ensures { λ r. ⌜ cliqueRead (now (words .entry)) (Found r) ≡ readClique (drop at (now (words .entry))) ⌝ }
+        ensures { λ r. ⌜ CliqueInside (length (now (words .entry))) at (Found r) ⌝ }
+    {
+        let parent = words[at];
+        let snode_count = words[at + 1] as usize;
+        let separator_count = words[at + 2] as usize;
+        let snode = at + 3;
+        let separator = snode + snode_count;
+        Clique {
+            parent: parent,
+            snode: snode,
+            snode_count: snode_count,
+            separator: separator,
+            separator_count: separator_count,
+            next: separator + separator_count,
+        }
     }
 
     // The side of its block.
@@ -163,14 +185,6 @@ pub fn cliques_whole(words: &[u32], first: usize, count: u32) -> bool
     true
 }
 
-// Where the words after the clique at an offset start. It stands whole, so its counts need no test.
-fn clique_next(words: &[u32], at: usize) -> usize
-    requires { ⌜ whole (readClique (drop at (now words))) ≡ true ⌝ }
-    ensures { λ r. ⌜ rest (readClique (drop at (now (words .entry)))) ≡ drop r (now (words .entry)) ⌝ }
-{
-    at + 3 + words[at + 1] as usize + words[at + 2] as usize
-}
-
 // Where the words after count cliques start.
 pub fn cliques_next(words: &[u32], first: usize, count: u32) -> usize
     requires { ⌜ Whole (now words) first count ⌝ }
@@ -179,7 +193,8 @@ pub fn cliques_next(words: &[u32], first: usize, count: u32) -> usize
     let mut at = first;
     let mut left = count;
     while 0 < left {
-        at = clique_next(words, at);
+        let q = Clique::here(words, at);
+        at = q.next;
         left -= 1;
     }
     at
@@ -307,12 +322,7 @@ fn dim_and_overlaps(words: &[u32], first: usize, count: u32) -> Decomposed
     let mut at = first;
     let mut left = count;
     while 0 < left {
-        let CliqueRead::Clique(q) = Clique::read(words, at) else {
-            return Decomposed {
-                dim: 0,
-                overlaps: 0,
-            };
-        };
+        let q = Clique::here(words, at);
         dim += triangular_number(q.get_nblk());
         overlaps += triangular_number(q.separator_count);
         at = q.next;

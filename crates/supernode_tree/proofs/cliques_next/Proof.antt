@@ -2,7 +2,7 @@ use mathlib.Core.Path.{_≡_, refl, sym, _∙_}
 use lib.ListN.{drop}
 use Rattle.layout.specs.Patterns.{readCliques}
 use Rattle.supernode_tree.specs.Reads.{Whole, rest}
-use Rattle.supernode_tree.proofs.Cliques.{first-whole, step-over, rest-none}
+use Rattle.supernode_tree.proofs.Cliques.{first-whole, whole-next, rest-next, rest-none}
 use borrow.Author.Needs.{needs}
 use Rattle.supernode_tree.proofs.cliques_next.Statement.{statement}
 use Rattle.supernode_tree.proofs.cliques_next.Tie as tie
@@ -16,8 +16,8 @@ abbrev μ-loop : tie.MeasureT-loop
 loop-holds : tie.Need-loop-holds Inv-loop μ-loop
 loop-holds c = (c .before .pre, refl)
 
-clique-next-requires : tie.Need-clique-next-requires Inv-loop μ-loop
-clique-next-requires c κs =
+here-requires : tie.Need-here-requires Inv-loop μ-loop
+here-requires c κs =
     let l = c .before in
     first-whole (l .before .before .args .words .now) (l .loop .at) (l .loop .left) (c .loop-test .taken) (l .loop .inv .0)
 
@@ -31,8 +31,11 @@ loop-again : tie.Need-loop-again Inv-loop μ-loop
 loop-again c =
     let t = c .before in
     let l = t .before in
-    let over = step-over (l .before .before .args .words .now) (l .loop .at) (l .loop .left) (t .loop-test .taken) (l .loop .inv .0) (c .clique-next .result) (c .clique-next .ensures) in
-    (sym (over .0) ∙ l .loop .inv .0, l .loop .inv .1 ∙ over .1)
+    let ws = l .before .before .args .words .now in
+    let q = c .here .result in (
+      sym (whole-next ws (l .loop .at) (l .loop .left) _ (c .here .ensures .0) (t .loop-test .taken) q refl) ∙ l .loop .inv .0,
+      l .loop .inv .1 ∙ rest-next ws (l .loop .at) (l .loop .left) _ (c .here .ensures .0) (t .loop-test .taken) q refl,
+    )
 
 returns : tie.Need-returns Inv-loop μ-loop
 returns c =
@@ -46,7 +49,7 @@ cliques-next-spec =
     Inv-loop
     μ-loop
     loop-holds
-    clique-next-requires
+    here-requires
     sub-left
     loop-less
     loop-again

@@ -1,5 +1,5 @@
 use Prim.Native.Nat.{_+_, _-_, _*_, _≤_}
-use mathlib.Core.Path.{_≡_, sym, ap, _∙_}
+use mathlib.Core.Path.{_≡_, refl, sym, ap, _∙_}
 use mathlib.Core.Bool.{true}
 use mathlib.Core.List.{_∷_, map}
 use lib.ListN.{length}
@@ -7,9 +7,9 @@ use lib.Dec.{leb→le}
 use Rattle.layout.specs.Lists.{all, sum}
 use Rattle.layout.specs.Triangle.{triangle}
 use Rattle.layout.specs.Patterns.{blockSize}
-use Rattle.layout.proofs.Tests.{differ, passes}
+use Rattle.layout.proofs.Tests.{passes}
 use Rattle.supernode_tree.specs.Reads.{Whole, cliquesFrom, cliqueOf}
-use Rattle.supernode_tree.proofs.Cliques.{none-here, whole-next, from-next, from-none, separator-size, block-size}
+use Rattle.supernode_tree.proofs.Cliques.{first-whole, whole-next, from-next, from-none, separator-size, block-size}
 use Rattle.supernode_tree.proofs.Sizes.{rowsOf, overlapsOf, atMost, triangle-small, all-cons, sum-cons, sum-none}
 use native.Mathlib.Omega.{arith}
 use borrow.Author.Needs.{needs}
@@ -27,37 +27,31 @@ abbrev μ-loop : tie.MeasureT-loop
 μ-loop words first count dim₀ overlaps₀ at₀ left₀ dim overlaps at left = left
 
 -- a clique was read
-module _ (c : tie.After-known-told Inv-loop μ-loop) where
-  first-of : let l = c .before .before .before .before .before in
+module _ (c : tie.After-here Inv-loop μ-loop) where
+  first-of : let l = c .before .before in
       let ws = l .before .before .args .words .now in
-      let q = c .before .q .given .0 .0 in
+      let q = c .here .result in
       cliquesFrom ws (l .loop .at) (l .loop .left) ≡ cliqueOf ws q ∷ cliquesFrom ws (q .next) (l .loop .left - 1)
   first-of =
-      let r = c .before .before .before in
-      let l = r .before .before in
-      let g = c .before .q .given in
-      from-next (l .before .before .args .words .now) (l .loop .at) (l .loop .left) _ (r .read .ensures .0) (r .before .loop-test .taken) (g .0 .0) (g .1) (l .loop .inv .0)
+      let l = c .before .before in
+      from-next (l .before .before .args .words .now) (l .loop .at) (l .loop .left) _ (c .here .ensures .0) (c .before .loop-test .taken) (c .here .result) refl (l .loop .inv .0)
 
-  next-whole : let l = c .before .before .before .before .before in
-      Whole (l .before .before .args .words .now) (c .before .q .given .0 .0 .next) (l .loop .left - 1)
+  next-whole : let l = c .before .before in
+      Whole (l .before .before .args .words .now) (c .here .result .next) (l .loop .left - 1)
   next-whole =
-      let r = c .before .before .before in
-      let l = r .before .before in
-      let g = c .before .q .given in
-      sym (whole-next (l .before .before .args .words .now) (l .loop .at) (l .loop .left) _ (r .read .ensures .0) (r .before .loop-test .taken) (g .0 .0) (g .1)) ∙ l .loop .inv .0
+      let l = c .before .before in
+      sym (whole-next (l .before .before .args .words .now) (l .loop .at) (l .loop .left) _ (c .here .ensures .0) (c .before .loop-test .taken) (c .here .result) refl) ∙ l .loop .inv .0
 
   -- its sizes
-  sizes : let ws = c .before .before .before .before .before .before .before .args .words .now in
-      let q = c .before .q .given .0 .0 in
+  sizes : let ws = c .before .before .before .before .args .words .now in
+      let q = c .here .result in
       (blockSize (cliqueOf ws q) ≡ q .«snode_count» + q .«separator_count») × (length (cliqueOf ws q .separator) ≡ q .«separator_count»)
       × (q .«snode_count» + q .«separator_count» ≤ 256)
   sizes =
-      let r = c .before .before .before in
-      let l = r .before .before in
+      let l = c .before .before in
       let ws = l .before .before .args .words .now in
-      let g = c .before .q .given in
-      let q = g .0 .0 in
-      let inside = rw (g .1) at (r .read .ensures .1) in
+      let q = c .here .result in
+      let inside = c .here .ensures .1 in
       let e = block-size ws (l .loop .at) q inside in
       let small = all-cons (atMost 256) (cliqueOf ws q) (cliquesFrom ws (q .next) (l .loop .left - 1)) _ first-of (l .loop .inv .1) .0 in
       (e, separator-size ws (l .loop .at) q inside, omega (arith, leb→le (blockSize (cliqueOf ws q)) 256 (passes _ small)))
@@ -69,25 +63,15 @@ block-rows c = omega (arith, c .triangular-number .ensures, triangle-small (c .b
 separator-rows : (c : tie.After-triangular-number2 Inv-loop μ-loop) → c .triangular-number2 .result ≤ 32896
 separator-rows c =
     let k = c .before .before .before in
-    omega (arith, c .triangular-number2 .ensures, triangle-small (k .before .q .given .0 .0 .«separator_count») (omega (arith, sizes k)))
+    omega (arith, c .triangular-number2 .ensures, triangle-small (k .here .result .«separator_count») (omega (arith, sizes k)))
 
 loop-holds : tie.Need-loop-holds Inv-loop μ-loop
 loop-holds c = (c .before .pre .0, c .before .pre .1, omega arith, omega arith, omega arith, omega arith)
 
-read-requires : tie.Need-read-requires Inv-loop μ-loop
-read-requires c κs = search needs
-
-enum-known-q : tie.Need-enum-known-q Inv-loop μ-loop
-enum-known-q c = search needs
-
-enum-told : tie.Need-enum-told Inv-loop μ-loop
-enum-told c = search needs
-
-returns : tie.Need-returns Inv-loop μ-loop
-returns c =
-    let l = c .before .before .before .before in
-    let ws = l .before .before .args .words .now in
-    absurd (differ _ (l .loop .inv .0) (none-here ws (l .loop .at) (l .loop .left) _ (c .before .before .read .ensures .0) (c .before .before .before .loop-test .taken) (c .enum-told .given .1)))
+here-requires : tie.Need-here-requires Inv-loop μ-loop
+here-requires c κs =
+    let l = c .before in
+    first-whole (l .before .before .args .words .now) (l .loop .at) (l .loop .left) (c .loop-test .taken) (l .loop .inv .0)
 
 get-nblk-requires : tie.Need-get-nblk-requires Inv-loop μ-loop
 get-nblk-requires c κs = omega (arith, sizes c)
@@ -114,9 +98,9 @@ loop-again : tie.Need-loop-again Inv-loop μ-loop
 loop-again c =
     let t = c .before in
     let k = t .before .before in
-    let l = k .before .before .before .before .before in
+    let l = k .before .before in
     let ws = l .before .before .args .words .now in
-    let q = k .before .q .given .0 .0 in
+    let q = k .here .result in
     let others = cliquesFrom ws (q .next) (l .loop .left - 1) in
     let cs = cliquesFrom ws (l .loop .at) (l .loop .left) in (
       next-whole k,
@@ -127,8 +111,8 @@ loop-again c =
       omega (arith, separator-rows c),
     )
 
-returns-2 : tie.Need-returns-2 Inv-loop μ-loop
-returns-2 c =
+returns : tie.Need-returns Inv-loop μ-loop
+returns c =
     let l = c .before in
     let ws = l .before .before .args .words .now in
     let e = from-none ws (l .loop .at) (l .loop .left) (c .loop-test .left) in (
@@ -143,10 +127,7 @@ dim-and-overlaps-spec =
     Inv-loop
     μ-loop
     loop-holds
-    read-requires
-    enum-known-q
-    enum-told
-    returns
+    here-requires
     get-nblk-requires
     triangular-number-requires
     add-dim
@@ -155,4 +136,4 @@ dim-and-overlaps-spec =
     sub-left
     loop-less
     loop-again
-    returns-2)
+    returns)
