@@ -127,9 +127,7 @@ fn separators_hold(
     let mut at = first;
     let mut left = count;
     while 0 < left {
-        let CliqueRead::Clique(q) = Clique::read(words, at) else {
-            return false;
-        };
+        let q = Clique::here(words, at);
         if !separator_holds(words, first, count, q, offsets, n, &mut *marks) {
             return false;
         }

@@ -7,7 +7,7 @@ use Rattle.layout.specs.Lists.{all}
 use Rattle.layout.specs.Patterns.{Clique}
 use Rattle.layout.proofs.Tests.{differ}
 use Rattle.supernode_tree.specs.Reads.{Whole, cliquesFrom, cliqueOf}
-use Rattle.supernode_tree.proofs.Cliques.{whole-next, from-none, separator-part, clique-goes}
+use Rattle.supernode_tree.proofs.Cliques.{first-whole, whole-next, from-none, separator-part, clique-goes}
 use Rattle.clique_tree.specs.Trees.{separatorOk, separatorsOk}
 use native.Mathlib.Omega.{arith}
 use borrow.Author.Needs.{needs}
@@ -29,32 +29,24 @@ abbrev μ-loop : tie.MeasureT-loop
 loop-holds : tie.Need-loop-holds Inv-loop μ-loop
 loop-holds c = (c .before .before .before .pre .0, refl, refl)
 
-read-requires : tie.Need-read-requires Inv-loop μ-loop
-read-requires c κs = search needs
+here-requires : tie.Need-here-requires Inv-loop μ-loop
+here-requires c κs =
+    let l = c .before in
+    first-whole (l .before .before .before .before .args .words .now) (l .loop .at) (l .loop .left) (c .loop-test .taken) (l .loop .inv .0)
 
-enum-known-q : tie.Need-enum-known-q Inv-loop μ-loop
-enum-known-q c = search needs
-
-enum-told : tie.Need-enum-told Inv-loop μ-loop
-enum-told c = search needs
+separator-holds-requires : tie.Need-separator-holds-requires Inv-loop μ-loop
+separator-holds-requires c κs =
+    let h = c .before in
+    let l = h .before .before in
+    let s = l .before .before .before .before in
+    let inside = h .here .ensures .1 in
+    (s .pre .0, (s .pre .1 .0, (s .pre .1 .1 .0, ((omega arith, omega arith), omega (arith, l .loop .inv .2, s .pre .1 .1 .1)))))
 
 same-length : tie.Need-same-length Inv-loop μ-loop
 same-length c = search needs
 
 returns : tie.Need-returns Inv-loop μ-loop
 returns c = λ z. absurd (differ false z refl)
-
-separator-holds-requires : tie.Need-separator-holds-requires Inv-loop μ-loop
-separator-holds-requires c κs =
-    let s = c .before .before .before .before .before .before .before .before .before .before in
-    let inside = rw (c .before .before .q .given .1) at (c .before .before .before .before .read .ensures .1) in
-    (s .pre .0, (s .pre .1 .0, (s .pre .1 .1 .0, ((omega arith, omega arith), omega (arith, c .before .before .before .before .before .before .loop .inv .2, s .pre .1 .1 .1)))))
-
-same-length-2 : tie.Need-same-length-2 Inv-loop μ-loop
-same-length-2 c = search needs
-
-returns-2 : tie.Need-returns-2 Inv-loop μ-loop
-returns-2 c = λ z. absurd (differ false z refl)
 
 sub-left : tie.Need-sub-left Inv-loop μ-loop
 sub-left c = search needs
@@ -64,30 +56,28 @@ loop-less c = search needs
 
 loop-again : tie.Need-loop-again Inv-loop μ-loop
 loop-again c =
-    let g = c .before .before .before .before .before .before .q .given in
-    let q = g .0 .0 in
-    let r = c .before .before .before .before .before .before .before .before in
-    let l = r .before .before in
-    let s = c .before .before .before .before .before .before .before .before .before .before .before .before .before .before in
+    let h = c .before .before .before .before .before in
+    let q = h .here .result in
+    let l = h .before .before in
+    let s = l .before .before .before .before in
     let ws = s .args .words .now in
     let at = l .loop .at in
     let left = l .loop .left in
     let cs = cliquesFrom ws (s .args .first) (s .args .count) in
-    let inside = rw (g .1) at (r .read .ensures .1) in
-    let e = r .read .ensures .0 in
-    let more = r .before .loop-test .taken in
+    let e = h .here .ensures .0 in
+    let more = h .before .loop-test .taken in
     let ok : right cs (cliqueOf ws q) ≡ true =
-    rw (separator-part ws at q inside) at (c .before .before .before .separator-holds .ensures (not-false _ (c .if1 .left))) in (
-      sym (whole-next ws at left _ e more q (g .1)) ∙ l .loop .inv .0,
-      clique-goes ws at left _ e more q (g .1) (l .loop .inv .0) (right cs) _ (right cs (cliqueOf ws q)) (l .loop .inv .1) refl ok,
+    rw (separator-part ws at q (h .here .ensures .1)) at (c .before .before .before .separator-holds .ensures (not-false _ (c .if1 .left))) in (
+      sym (whole-next ws at left _ e more q refl) ∙ l .loop .inv .0,
+      clique-goes ws at left _ e more q refl (l .loop .inv .0) (right cs) _ (right cs (cliqueOf ws q)) (l .loop .inv .1) refl ok,
       omega arith,
     )
 
-same-length-3 : tie.Need-same-length-3 Inv-loop μ-loop
-same-length-3 c = search needs
+same-length-2 : tie.Need-same-length-2 Inv-loop μ-loop
+same-length-2 c = search needs
 
-returns-3 : tie.Need-returns-3 Inv-loop μ-loop
-returns-3 c =
+returns-2 : tie.Need-returns-2 Inv-loop μ-loop
+returns-2 c =
     let l = c .before in
     let s = c .before .before .before .before .before in
     let ws = s .args .words .now in
@@ -100,16 +90,12 @@ separators-hold-spec =
     Inv-loop
     μ-loop
     loop-holds
-    read-requires
-    enum-known-q
-    enum-told
+    here-requires
+    separator-holds-requires
     same-length
     returns
-    separator-holds-requires
-    same-length-2
-    returns-2
     sub-left
     loop-less
     loop-again
-    same-length-3
-    returns-3)
+    same-length-2
+    returns-2)
