@@ -1,6 +1,8 @@
 // clarabel's algebra/scalarmath.rs: triangular numbers, the exact integer root, and pairs against their
 // places in the packed upper triangle. The Rust's triangular_index(k - 1) + 1 is triangular_number(k)
 // here, so that column 0 needs no case of its own.
+mod column_starts;
+
 ghost use mathlib.Core.Path.{_≡_};
 ghost use Prim.Native.Nat.{_+_, _*_, _≤_, _<_};
 ghost use lib.ListN.{length};
@@ -32,15 +34,15 @@ pub fn isqrt(v: u32) -> u32
     r
 }
 
-// The place of the pair (i, j), in either order.
+// The place of the pair (i, j), in either order: its row after the start of its column.
 pub fn coord_to_upper_triangular_index(i: u32, j: u32) -> u32
     requires { ⌜ (i ≤ 255) × (j ≤ 255) ⌝ }
     ensures { λ r. ⌜ r ≡ pairIndex i j ⌝ }
 {
     if i <= j {
-        triangular_number(j) + i
+        column_starts::column_start(j) + i
     } else {
-        triangular_number(i) + j
+        column_starts::column_start(i) + j
     }
 }
 
