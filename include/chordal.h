@@ -5,8 +5,12 @@
  * No output may overlap another argument. Whatever the tables hold, a call reads and writes within their lengths and
  * ends. It fits a thread with 2 MB of stack, and calls on several threads do not meet.
  *
- * A route is 0 standard, 1 compact. The no-parent mark of a pattern, and the mark of a cone map's entry that has no
- * pattern, is CHORDAL_NONE.
+ * A route is 0 standard, 1 compact. P and A are compressed columns: starts, rows, which rise in a column, and values. A
+ * cone is three words, its kind and two sizes, an unused size being 0: 0 Zero, 1 Nonnegative, 2 SecondOrder (dimension);
+ * 3 Exponential; 4 Power (takes one of alphas); 5 GenPower (how many of alphas it takes, dim2); 6 PSDTriangle (dimension).
+ * A pattern is orig_index, vertex count, clique count, the ordering, and for each clique its parent, snode count,
+ * separator count, snode and separator. The parent of the last clique, and the pattern of a cone map's entry that has
+ * none, is CHORDAL_NONE.
  */
 #ifndef CHORDAL_H
 #define CHORDAL_H

@@ -1,6 +1,6 @@
 //! Every clique tree on up to four vertices that passes checks 6 and 7, with every ordering.
 
-use crate::expected::{triangle, Clique, Pattern};
+use crate::expected::{Clique, Pattern};
 use crate::problem::*;
 use crate::random::Draws;
 
@@ -79,16 +79,8 @@ pub fn patterns(vertices: usize, d: &mut Draws, visit: &mut impl FnMut(&mut Draw
 
 /// One PSD cone with this pattern, one column with an entry in each covered row.
 pub fn problem(d: &mut Draws, pattern: &Pattern) -> Problem {
-    let m = triangle(pattern.vertices as u64) as usize;
-    let mut covered = vec![false; m];
-    for c in 0..pattern.cliques.len() {
-        let block = pattern.block(c);
-        for (j, &column) in block.iter().enumerate() {
-            for &row in &block[..=j] {
-                covered[triangle(column as u64) as usize + row as usize] = true;
-            }
-        }
-    }
+    let covered = pattern.covered();
+    let m = covered.len();
     let rows: Vec<u32> = (0..m).filter(|&r| covered[r]).map(|r| r as u32).collect();
     let values = d.floats(m);
     Problem {

@@ -137,6 +137,20 @@ impl Pattern {
         vs
     }
 
+    // which rows of its cone the cliques cover
+    pub fn covered(&self) -> Vec<bool> {
+        let mut covered = vec![false; triangle(self.vertices as u64) as usize];
+        for c in 0..self.cliques.len() {
+            let block = self.block(c);
+            for (j, &column) in block.iter().enumerate() {
+                for &row in &block[..=j] {
+                    covered[(triangle(column as u64) + row as u64) as usize] = true;
+                }
+            }
+        }
+        covered
+    }
+
     pub fn words(&self) -> Vec<u32> {
         let mut w = vec![self.orig_index, self.vertices, self.cliques.len() as u32];
         w.extend(&self.ordering);

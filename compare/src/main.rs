@@ -29,7 +29,7 @@ compare/run --vectors FILE         stored cases (JSON, one a line)
 compare/run --differences          clarabel on the inputs of docs/DIFFERENCES.md
 compare/run --speed                times, with ratios where the door is linked
 compare/run --store FOLDER --cases N --seed S    writes stored answers of each family, for crate replay
-The door is linked where target/staticlib/libdoor.a or $DOOR_LIB is there.";
+The door is the libdoor.a in the folder that CHORDAL_DOOR_LIB names, or else the one that rt makes.";
 
 /// The draws of one case, which can so be made again alone.
 pub fn case_draws(seed: u64, index: u64) -> Draws {

@@ -180,15 +180,7 @@ pub fn problem(d: &mut Draws, scale: Scale) -> Problem {
         let mut covered = vec![true; rows as usize];
         if kind == 6 && first > 0 && d.chance(80) {
             let made = pattern(d, index as u32, first);
-            covered = vec![false; rows as usize];
-            for c in 0..made.cliques.len() {
-                let block = made.block(c);
-                for (j, &column) in block.iter().enumerate() {
-                    for &row in &block[..=j] {
-                        covered[triangle(column as u64) as usize + row as usize] = true;
-                    }
-                }
-            }
+            covered = made.covered();
             patterns.push(made);
         }
         open.extend((0..rows as usize).filter(|&r| covered[r]).map(|r| m as u32 + r as u32));

@@ -1,11 +1,11 @@
-//! Times of each call on the inputs of the design's speed table: clarabel's and, where it is linked, the door's.
+//! Times of each call on the inputs of docs/SPEED.md: clarabel's and, where it is linked, the door's.
 //!
 //! clarabel's time is that of `decomp_augment` and `decomp_reverse` alone, on tables already in its own types; the
 //! door's is the whole call, checks included, with outputs already allocated.
 
 use crate::against::{join_input, tables};
 use crate::door;
-use crate::expected::{self, triangle, Clique, Pattern};
+use crate::expected::{self, Clique, Pattern};
 use crate::problem::*;
 use crate::random::{self, band_pattern, Draws};
 use reference::door::{Prepared, Vars};
@@ -18,18 +18,8 @@ fn open_rows(cones: &[u32], patterns: &[Pattern]) -> Vec<u32> {
     let mut first = 0;
     for (i, cone) in expected::records(cones).iter().enumerate() {
         let rows = cone.rows() as usize;
-        let mut covered = vec![true; rows];
-        if let Some(p) = patterns.iter().find(|p| p.orig_index as usize == i) {
-            covered = vec![false; rows];
-            for c in 0..p.cliques.len() {
-                let block = p.block(c);
-                for (j, &column) in block.iter().enumerate() {
-                    for &row in &block[..=j] {
-                        covered[triangle(column as u64) as usize + row as usize] = true;
-                    }
-                }
-            }
-        }
+        let cut = patterns.iter().find(|p| p.orig_index as usize == i);
+        let covered = cut.map_or(vec![true; rows], Pattern::covered);
         out.extend((0..rows).filter(|&r| covered[r]).map(|r| (first + r) as u32));
         first += rows;
     }
@@ -305,23 +295,28 @@ fn small_calls() {
         line(&format!("{length} numbers"), "inverse", clarabel, door);
     }
     for (v, w) in [(64, 6), (256, 10), (1_024, 10), (4_096, 10)] {
-        let words = shuffled(d, band_pattern(0, v, w)).words();
-        let clarabel = reference::door::renumber_timer(&words, median_of);
-        let mut out = vec![0; words.len()];
-        let door = door::LINKED.then(|| {
-            median(|| {
-                black_box(door::renumber(&words, &mut out));
-            })
-        });
-        line(&format!("{v} vertices, band {w}"), "renumbering", Some(clarabel), door);
+        renumbering(&format!("{v} vertices, band {w}"), &shuffled(d, band_pattern(0, v, w)).words());
     }
 }
 
-// the median over runs that each make their input first, which is not timed
-fn median_of(run: &mut dyn FnMut() -> f64) -> f64 {
-    let mut times: Vec<f64> = (0..21).map(|_| run()).collect();
-    times.sort_by(f64::total_cmp);
-    times[times.len() / 2]
+// clarabel renumbers in place, so that each of its calls has a pattern made before it, which is not timed
+fn renumbering(name: &str, words: &[u32]) {
+    const CALLS: u32 = 16;
+    let mut out = vec![0; words.len()];
+    let mut clarabel = vec![];
+    let mut door = vec![];
+    for _ in 0..31 {
+        clarabel.push(reference::door::renumber_timed(words, CALLS, now));
+        if door::LINKED {
+            door.push(timed(
+                &mut || {
+                    black_box(door::renumber(words, &mut out));
+                },
+                CALLS,
+            ));
+        }
+    }
+    line(name, "renumbering", Some(middle(clarabel)), door::LINKED.then(|| middle(door)));
 }
 
 pub fn print() {

@@ -2,7 +2,7 @@
 //!
 //! A file is text of hexadecimal numbers: how many cases; for each case how many lists of u32 and those lists, then how
 //! many lists of f64 and those lists, as bits; each list is its length and its numbers. An output's list is what the
-//! whole of its room holds after the call, and before it the room holds the pattern of `room_words`.
+//! whole of its room holds after the call, and before it place k of the room holds 0xF0000000 + k % 65536, or -0.5 - k % 65536.
 
 use crate::expected;
 use crate::problem::*;

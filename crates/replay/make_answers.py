@@ -5,21 +5,11 @@ Each answer is worked out here by plain counting from document 01, not from the 
 Run it in this folder. A further family is a function that returns its cases, and its name in FAMILIES.
 """
 import random
-import struct
-
-
-def bits(x):
-    return struct.unpack("<Q", struct.pack("<d", x))[0]
 
 
 def room_words(length):
     """What an output of u32 holds before a call."""
     return [0xF0000000 + k % 65536 for k in range(length)]
-
-
-def room_values(length):
-    """What an output of f64 holds before a call."""
-    return [bits(-0.5 - k % 65536) for k in range(length)]
 
 
 def after(refusal, new, room):

@@ -160,11 +160,6 @@ impl Prepared {
             }),
         }
     }
-
-    /// Augmented rows and overlaps as clarabel counts them.
-    pub fn dimensions(&self) -> (usize, usize) {
-        self.info.get_decomposed_dim_and_overlaps()
-    }
 }
 
 impl Vars {
@@ -205,17 +200,16 @@ pub fn inverse_wide(p: &[usize]) -> Vec<usize> {
     invperm(p)
 }
 
-/// Times `reorder_snode_consecutively` alone: `median` runs a closure that makes a pattern and gives the
-/// microseconds of its renumbering.
-pub fn renumber_timer(words: &[u32], median: fn(&mut dyn FnMut() -> f64) -> f64) -> f64 {
-    median(&mut || {
-        let mut pattern = read_patterns(1, words, 0).remove(0);
-        let started = std::time::Instant::now();
+/// What a call of `reorder_snode_consecutively` alone takes by a clock, over `calls` of them on patterns made before.
+pub fn renumber_timed(words: &[u32], calls: u32, now: fn() -> f64) -> f64 {
+    let mut made: Vec<_> = (0..calls).map(|_| read_patterns(1, words, 0).remove(0)).collect();
+    let started = now();
+    for pattern in &mut made {
         pattern
             .sntree
             .reorder_snode_consecutively(&mut pattern.ordering);
-        started.elapsed().as_secs_f64() * 1e6
-    })
+    }
+    (now() - started) / calls as f64
 }
 
 /// `reorder_snode_consecutively` on one pattern, written again as words.

@@ -166,5 +166,5 @@ fn stored_answers() {
         println!("{family}: {} cases, all equal", cases.len());
         families += 1;
     }
-    assert!(families >= 6, "stored answers of {families} families only");
+    assert_eq!(families, 9, "a family of stored answers for each call and for checks 1 to 7");
 }
