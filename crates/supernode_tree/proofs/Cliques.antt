@@ -10,7 +10,6 @@ use Rattle.layout.specs.Lists.{all}
 use Rattle.layout.specs.Checks.{treeRight}
 use lib.Dec.{T}
 use Rattle.supernode_tree.specs.Reads.{whole, Whole, rest, cliquesFrom, valueOr, cliqueOf, cliqueRead, CliqueInside, patternAt}
-use Rattle.supernode_tree.specs.declared.Clique.{Clique as CliqueAt}
 use Rattle.supernode_tree.specs.declared.CliqueRead.{CliqueRead}
 use Rattle.supernode_tree.specs.declared.CliqueRead.the-variants.{Clique as Found, Short}
 use Rattle.supernode_tree.proofs.Words.{clique-found, part-part, length-part}

@@ -13,12 +13,8 @@ use borrow.Author.Tests.{le-leb, lt-leb, eq-eqb, ne-eqb}
 use Rattle.layout.specs.Patterns.{Read, read, short, andThen, Head, readHead, withCliques, readMembers, readClique, readCliques, readPatterns, endsRight, Clique, Pattern}
 use Rattle.layout.proofs.Tests.{differ, lt-or-le}
 use Rattle.supernode_tree.specs.Reads.{headOf, patternRead, cliqueOf, cliqueRead, whole}
-use Rattle.supernode_tree.specs.declared.Clique.{Clique as CliqueAt}
 use Rattle.supernode_tree.specs.declared.CliqueRead.{CliqueRead}
-use Rattle.supernode_tree.specs.declared.CliqueRead.the-variants.{Clique as FoundClique}
-use Rattle.supernode_tree.specs.declared.Pattern.{Pattern as PatternAt}
 use Rattle.supernode_tree.specs.declared.PatternRead.{PatternRead}
-use Rattle.supernode_tree.specs.declared.PatternRead.the-variants.{Pattern as FoundPattern}
 
 pub drop-next : (ws : List ℕ) (at next : ℕ) → at + 1 ≡ next → at < length ws → drop at ws ≡ getD ws at 0 ∷ drop next ws
 drop-next ws at next e h = rw (← e, add-one, drop-cons ws at 0)
