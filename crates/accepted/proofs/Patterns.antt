@@ -104,7 +104,7 @@ pub left-none : (cones ws : List ℕ) (least at left : ℕ) → left ≤ 0 → a
 left-none cones ws least at left z e =
     let n : 0 ≡ left = omega arith in
     subst (Left cones ws least at) n (record {
-      ends = ends-at [] ws at (omega arith) ∙ eq-eqb at (length ws) e;
+      ends = ends-at [] ws at ∙ le-leb (length ws) at (omega arith);
       rise = refl;
       right = refl;
       trees = refl;

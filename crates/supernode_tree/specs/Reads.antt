@@ -13,6 +13,8 @@ use Rattle.supernode_tree.specs.declared.Members.{Members}
 use Rattle.supernode_tree.specs.declared.Pattern.{Pattern}
 use Rattle.supernode_tree.specs.declared.PatternRead.{PatternRead}
 use Rattle.supernode_tree.specs.declared.PatternRead.the-variants.{Pattern as FoundP, Short as ShortP}
+use Rattle.supernode_tree.specs.declared.End.{End}
+use Rattle.supernode_tree.specs.declared.End.the-variants.{At, Short as ShortE}
 
 abbrev pub cliqueOf : List ℕ → Clique → P.Clique
 cliqueOf ws c = record {
@@ -71,6 +73,15 @@ module _ {A : Type 0} where
   abbrev pub rest : Read A → List ℕ
   rest (read a ws) = ws
   rest short = []
+
+  -- what is read left aside: whether it was read, and the words after it
+  abbrev pub ended : Read A → Read (Unit {0})
+  ended (read a ws) = read tt ws
+  ended short = short
+
+abbrev pub endRead : List ℕ → End → Read (Unit {0})
+endRead ws (At at) = read tt (drop at ws)
+endRead ws ShortE = short
 
 -- k cliques stand whole from the offset on
 abbrev pub Whole : List ℕ → ℕ → ℕ → Type 0
