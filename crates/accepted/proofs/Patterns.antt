@@ -20,8 +20,8 @@ use Rattle.supernode_tree.proofs.Patterns.{patternsFrom, patterns-next, pattern
 use Rattle.supportedcone.specs.Ranges.{isPsdOf}
 use Rattle.sparsity_pattern.specs.Sparsity.{patternRight}
 use Rattle.sparsity_pattern.proofs.Sparsity.{risesFrom, rises-start, all-both}
-use Rattle.clique_tree.specs.Trees.{snodesOf}
-use Rattle.clique_tree.proofs.Trees.{treeFrom, tree-right}
+use Rattle.clique_tree.specs.Trees.{treeFrom, snodesOf}
+use Rattle.clique_tree.proofs.Trees.{tree-right}
 use Rattle.accepted.specs.Accepted.{Holds, MembersHold, PatternHolds, HoldsAt}
 
 and-both : (a b : Bool) → a ≡ true → b ≡ true → (a && b) ≡ true
