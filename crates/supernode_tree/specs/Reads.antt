@@ -1,5 +1,5 @@
 -- What the offsets of a read clique stand for.
-use Prim.Native.Nat.{ℕ, _+_, _-_, _≤_}
+use Prim.Native.Nat.{ℕ, _+_, _-_, _≤_, _<_}
 use mathlib.Core.Path.{_≡_}
 use mathlib.Core.Bool.{Bool, true, false}
 use mathlib.Core.List.{List, []}
@@ -47,8 +47,10 @@ abbrev pub patternRead : List ℕ → PatternRead → Read Head
 patternRead ws (FoundP p) = read (headOf ws p) (drop (p .cliques) ws)
 patternRead ws ShortP = short
 
+-- the parts follow each other from at on, and end within n words; the vertex count is a word
 abbrev pub PatternInside : ℕ → ℕ → PatternRead → Type 0
-PatternInside n at (FoundP p) = (p .ordering ≡ at + 3) × (p .cliques ≡ p .ordering + p .«vertex_count») × (p .cliques ≤ n)
+PatternInside n at (FoundP p) =
+    (p .ordering ≡ at + 3) × (p .cliques ≡ p .ordering + p .«vertex_count») × (p .cliques ≤ n) × (p .«vertex_count» < 4294967296)
 PatternInside n at ShortP = Unit {0}
 
 -- ---- the pattern at an offset
