@@ -20,8 +20,8 @@ use Rattle.supernode_tree.proofs.Patterns.{patternsFrom, patterns-next, pattern
 use Rattle.supportedcone.specs.Ranges.{isPsdOf}
 use Rattle.sparsity_pattern.specs.Sparsity.{patternRight}
 use Rattle.sparsity_pattern.proofs.Sparsity.{risesFrom, rises-start, all-both}
-use Rattle.clique_tree.specs.Trees.{snodesOf}
-use Rattle.clique_tree.proofs.Trees.{treeFrom, tree-right}
+use Rattle.clique_tree.specs.Trees.{treeFrom, snodesOf}
+use Rattle.clique_tree.proofs.Trees.{tree-right}
 use Rattle.accepted.specs.Accepted.{Holds, MembersHold, PatternHolds, HoldsAt}
 
 and-both : (a b : Bool) → a ≡ true → b ≡ true → (a && b) ≡ true
@@ -104,7 +104,7 @@ pub left-none : (cones ws : List ℕ) (least at left : ℕ) → left ≤ 0 → a
 left-none cones ws least at left z e =
     let n : 0 ≡ left = omega arith in
     subst (Left cones ws least at) n (record {
-      ends = ends-at [] ws at (omega arith) ∙ eq-eqb at (length ws) e;
+      ends = ends-at [] ws at ∙ le-leb (length ws) at (omega arith);
       rise = refl;
       right = refl;
       trees = refl;

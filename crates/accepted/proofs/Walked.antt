@@ -20,8 +20,7 @@ use Rattle.supernode_tree.specs.declared.CliqueRead.the-variants.{Clique as Fou
 use Rattle.supernode_tree.proofs.Words.{length-part}
 use Rattle.supernode_tree.proofs.Offsets.{after, Written, written-more, written-all}
 use Rattle.vertex_set.proofs.Walks.{all-append}
-use Rattle.clique_tree.specs.Trees.{parentOk, snodesOf}
-use Rattle.clique_tree.proofs.Trees.{cliqueOk, treeFrom}
+use Rattle.clique_tree.specs.Trees.{parentOk, cliqueOk, treeFrom, snodesOf}
 use Rattle.accepted.specs.Accepted.{AllAre, Met, MeetsMore, SnodesHold}
 use Rattle.accepted.proofs.Marks.{met-none, met-all, met-marks}
 

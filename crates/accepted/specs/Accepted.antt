@@ -11,8 +11,7 @@ use Rattle.layout.specs.Checks.{isPermutation, patternsRead, treeRight, cliques
 use Rattle.supernode_tree.specs.Reads.{headOf, whole, Whole, rest, cliquesFrom, patternAt}
 use Rattle.supernode_tree.specs.declared.Pattern.{Pattern as PatternAt}
 use Rattle.sparsity_pattern.specs.Sparsity.{patternRight}
-use Rattle.clique_tree.specs.Trees.{snodesOf, separatorsOk}
-use Rattle.clique_tree.proofs.Trees.{treeFrom}
+use Rattle.clique_tree.specs.Trees.{treeFrom, snodesOf, separatorsOk}
 
 -- checks 5, 6 and 7
 abbrev pub Holds : List ℕ → ℕ → List ℕ → Type 0

@@ -12,15 +12,8 @@ use Rattle.layout.specs.Patterns.{Read, read, short, andThen, Head, readHead, w
 use Rattle.layout.specs.Checks.{parentRight, treeRight}
 use Rattle.supernode_tree.proofs.Many.{many-length}
 use Rattle.supernode_tree.specs.Reads.{whole, valueOr, patternAt}
-use Rattle.clique_tree.specs.Trees.{parentOk}
+use Rattle.clique_tree.specs.Trees.{cliqueOk, treeFrom}
 use Rattle.layout.proofs.Tests.{and-right}
-
-abbrev pub cliqueOk : ℕ → ℕ → Clique → Bool
-cliqueOk k c q = parentOk k c (q .parent) (length (q .separator))
-
-abbrev pub treeFrom : ℕ → ℕ → List Clique → Bool
-treeFrom k c [] = true
-treeFrom k c (q ∷ qs) = cliqueOk k c q && treeFrom k (suc c) qs
 
 -- of cliques that are read
 abbrev pub treeRead : ℕ → ℕ → Read (List Clique) → Bool

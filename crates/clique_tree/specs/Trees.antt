@@ -1,8 +1,8 @@
 -- Checks 6 and 7 for one clique.
 use Prim.Native.Nat.{ℕ, suc}
-use mathlib.Core.Bool.{Bool, cond, _&&_}
-use mathlib.Core.List.{List}
-use lib.ListN.{getD}
+use mathlib.Core.Bool.{Bool, true, cond, _&&_}
+use mathlib.Core.List.{List, [], _∷_}
+use lib.ListN.{length, getD}
 use lib.Dec.{eqb, ltb}
 use Rattle.layout.specs.Patterns.{Clique, noClique, members, noParent}
 use Rattle.layout.specs.Lists.{all, join}
@@ -12,6 +12,14 @@ use Rattle.vertex_set.specs.OnceIn.{onceIn}
 abbrev pub parentOk : ℕ → ℕ → ℕ → ℕ → Bool
 parentOk k c parent separators =
     cond (eqb (suc c) k) (eqb parent noParent && eqb separators 0) (ltb c parent && ltb parent k)
+
+abbrev pub cliqueOk : ℕ → ℕ → Clique → Bool
+cliqueOk k c q = parentOk k c (q .parent) (length (q .separator))
+
+-- cliques of k, from number c on
+abbrev pub treeFrom : ℕ → ℕ → List Clique → Bool
+treeFrom k c [] = true
+treeFrom k c (q ∷ qs) = cliqueOk k c q && treeFrom k (suc c) qs
 
 -- a separator among cliques cs: no repeat, and its parent's clique holds each member
 abbrev pub separatorOk : List Clique → ℕ → List ℕ → Bool

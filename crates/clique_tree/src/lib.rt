@@ -84,9 +84,7 @@ fn snodes_filled(words: &[u32], first: usize, count: u32) -> bool
     let mut at = first;
     let mut left = count;
     while 0 < left {
-        let CliqueRead::Clique(q) = Clique::read(words, at) else {
-            return false;
-        };
+        let q = Clique::here(words, at);
         if q.snode_count == 0 {
             return false;
         }
@@ -105,9 +103,7 @@ fn snode_total(words: &[u32], first: usize, count: u32) -> usize
     let mut at = first;
     let mut left = count;
     while 0 < left {
-        let CliqueRead::Clique(q) = Clique::read(words, at) else {
-            return 0;
-        };
+        let q = Clique::here(words, at);
         total += q.snode_count;
         at = q.next;
         left -= 1;
@@ -130,9 +126,7 @@ fn snodes_once_within(
     let mut at = first;
     let mut left = count;
     while 0 < left {
-        let CliqueRead::Clique(q) = Clique::read(words, at) else {
-            return false;
-        };
+        let q = Clique::here(words, at);
         let a = q.snode;
         let e = q.separator;
         if !utils::mark(&words[a..e], low, &mut *marks) {
@@ -152,9 +146,7 @@ fn snodes_below(words: &[u32], first: usize, count: u32, n: usize) -> bool
     let mut at = first;
     let mut left = count;
     while 0 < left {
-        let CliqueRead::Clique(q) = Clique::read(words, at) else {
-            return false;
-        };
+        let q = Clique::here(words, at);
         let a = q.snode;
         let e = q.separator;
         if !utils::all_below(&words[a..e], n) {
@@ -204,6 +196,7 @@ fn separator_right(words: &[u32], q: Clique, m: Members, n: usize, marks: &mut [
     vertex_set::once_in(&words[a..e], &words[b..f], n, marks)
 }
 
+// Each separator, with the offset of every step-th clique to find the parents from.
 fn separators_by(
     words: &[u32],
     first: usize,
@@ -222,9 +215,7 @@ fn separators_by(
     let mut at = first;
     let mut left = count;
     while 0 < left {
-        let CliqueRead::Clique(q) = Clique::read(words, at) else {
-            return false;
-        };
+        let q = Clique::here(words, at);
         let m = supernode_tree::members_by(words, first, count, step, offsets, q.parent);
         if !separator_right(words, q, m, n, &mut *marks) {
             return false;
@@ -235,7 +226,7 @@ fn separators_by(
     true
 }
 
-// Each separator, with a table of offsets in which to find the parents.
+// Each separator. The table of offsets that finds the parents is filled here, as close as it has room for.
 fn separators_right(
     words: &[u32],
     first: usize,

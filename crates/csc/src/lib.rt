@@ -1,16 +1,17 @@
-// Compressed columns: checks 2 and 3 of one matrix, and the writers that copy and extend its tables.
+// clarabel's algebra/csc/core.rs: checks 2 and 3 of one matrix of compressed columns, and the writers that copy and extend its
+// tables.
 ghost use mathlib.Core.Path.{_≡_};
 ghost use mathlib.Core.List.{_++_};
 ghost use Prim.Native.Nat.{_+_, _≤_};
 ghost use lib.ListN.{length, replicate};
-ghost use lib.Dec.{T, ltb};
+ghost use lib.Dec.{T};
 ghost use Rattle.layout.specs.Lists.{all, below, rises, written};
 ghost use Rattle.layout.specs.Checks.{neverFalls, startsRight, rowsRight, columnRows};
 ghost use Rattle.layout.specs.Compact.{extendedP};
 ghost use Rattle.csc.specs.Matrix.{matrix, table, ColumnsInside};
 
 // Whether no number is below the one before it.
-pub fn never_falls(xs: &[u32]) -> bool
+fn never_falls(xs: &[u32]) -> bool
     ensures { λ r. ⌜ r ≡ neverFalls (now (xs .entry)) ⌝ }
 {
     let mut i = 0;
@@ -24,7 +25,7 @@ pub fn never_falls(xs: &[u32]) -> bool
 }
 
 // Whether each row is above the one before it.
-pub fn rise_strictly(rows: &[u32]) -> bool
+fn rise_strictly(rows: &[u32]) -> bool
     ensures { λ r. ⌜ r ≡ rises (now (rows .entry)) ⌝ }
 {
     let mut i = 0;
@@ -57,22 +58,8 @@ pub fn starts_right(n: u32, starts: &[u32], rows: &[u32], values: &[f64]) -> boo
     rows.len() == values.len()
 }
 
-// Whether every row is below m.
-pub fn rows_inside(m: u32, rows: &[u32]) -> bool
-    ensures { λ r. ⌜ r ≡ all (λ x. ltb x m) (now (rows .entry)) ⌝ }
-{
-    let mut i = 0;
-    while i < rows.len() {
-        if rows[i] >= m {
-            return false;
-        }
-        i += 1;
-    }
-    true
-}
-
 // Whether the rows of each of the n columns rise.
-pub fn columns_rise(n: u32, starts: &[u32], rows: &[u32]) -> bool
+fn columns_rise(n: u32, starts: &[u32], rows: &[u32]) -> bool
     requires { ⌜ ColumnsInside n (now starts) (now rows) ⌝ }
     ensures { λ r. ⌜ r ≡ all (λ c. rises (columnRows (table (now (starts .entry)) (now (rows .entry))) c)) (below n) ⌝ }
 {
@@ -94,7 +81,7 @@ pub fn rows_right(m: u32, n: u32, starts: &[u32], rows: &[u32], values: &[f64]) 
     requires { ⌜ T (startsRight n (matrix (now starts) (now rows) (now values))) ⌝ }
     ensures { λ r. ⌜ r ≡ rowsRight m n (matrix (now (starts .entry)) (now (rows .entry)) (now (values .entry))) ⌝ }
 {
-    if !rows_inside(m, rows) {
+    if !utils::all_below(rows, m as usize) {
         return false;
     }
     columns_rise(n, starts, rows)
@@ -157,7 +144,7 @@ pub fn fill_values(out: &mut [f64], k: usize, v: f64)
 }
 
 // Writes src and then v, k times.
-pub fn extend_numbers(out: &mut [u32], src: &[u32], k: usize, v: u32)
+fn extend_numbers(out: &mut [u32], src: &[u32], k: usize, v: u32)
     requires { ⌜ length (now src) + k ≤ length (now out) ⌝ }
     ensures { λ _. ⌜ now (out .exit) ≡ written (now (src .entry) ++ replicate k v) (now (out .entry)) ⌝ }
 {

@@ -12,7 +12,8 @@ use Rattle.layout.specs.Blocks.{Part, blockRows}
 use Rattle.layout.specs.Checks.{RightPattern}
 use Rattle.layout.proofs.Tests.{passes}
 use Rattle.supernode_tree.specs.Sizes.{overlapRows}
-use Rattle.supernode_tree.proofs.Sizes.{rowsOf, overlapsOf, atMost, triangle-small, blocks-small, all-cons}
+use Rattle.supernode_tree.specs.Sizes.{atMost}
+use Rattle.supernode_tree.proofs.Sizes.{rowsOf, overlapsOf, triangle-small, blocks-small, all-cons}
 
 blocks-few : (cs : List Clique) → all (atMost 256) cs ≡ true
     → (sum (map rowsOf cs) ≤ length cs * 32896) × (sum (map overlapsOf cs) ≤ length cs * 32896)

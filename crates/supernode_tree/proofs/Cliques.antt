@@ -9,12 +9,12 @@ use Rattle.layout.specs.Patterns.{Read, read, short, andThen, Head, readHead, w
 use Rattle.layout.specs.Lists.{all}
 use Rattle.layout.specs.Checks.{treeRight}
 use lib.Dec.{T}
-use Rattle.supernode_tree.specs.Reads.{whole, Whole, rest, cliquesFrom, valueOr, cliqueOf, cliqueRead, CliqueInside, patternAt}
+use Rattle.supernode_tree.specs.Reads.{whole, Whole, rest, ended, cliquesFrom, valueOr, cliqueOf, cliqueRead, CliqueInside, patternAt}
 use Rattle.supernode_tree.specs.declared.Clique.{Clique as CliqueAt}
 use Rattle.supernode_tree.specs.declared.CliqueRead.{CliqueRead}
 use Rattle.supernode_tree.specs.declared.CliqueRead.the-variants.{Clique as Found, Short}
 use Rattle.supernode_tree.proofs.Words.{clique-found, part-part, length-part}
-use Rattle.supernode_tree.proofs.Many.{many-short, many-whole, many-rest, many-value}
+use Rattle.supernode_tree.proofs.Many.{many-short, many-whole, many-rest, many-value, first-whole as some-whole}
 use Rattle.layout.proofs.Tests.{differ, and-cases}
 
 module _ (ws : List ℕ) (at k : ℕ) (r : CliqueRead) (e : cliqueRead ws r ≡ readClique (drop at ws)) (more : 0 < k) where
@@ -45,18 +45,11 @@ module _ (ws : List ℕ) (at k : ℕ) (r : CliqueRead) (e : cliqueRead ws r ≡ 
 
 -- the first of k cliques that stand whole
 pub first-whole : (ws : List ℕ) (at k : ℕ) → 0 < k → Whole ws at k → whole (readClique (drop at ws)) ≡ true
-first-whole ws at k more w = go (readClique (drop at ws)) refl
-  where
-    go : (r : Read Clique) → readClique (drop at ws) ≡ r → whole r ≡ true
-    go (read c left) e = refl
-    go short e = absurd (differ (whole (readCliques k (drop at ws))) w (many-short readClique k (drop at ws) more e))
+first-whole ws at k more w = some-whole readClique k (drop at ws) more w
 
 -- none are left
 pub from-none : (ws : List ℕ) (at k : ℕ) → k ≤ 0 → cliquesFrom ws at k ≡ []
 from-none ws at k h = let e : k ≡ 0 = omega arith in ap (λ (n : ℕ). cliquesFrom ws at n) e
-
-pub whole-none : (ws : List ℕ) (at k : ℕ) → k ≤ 0 → whole (readCliques k (drop at ws)) ≡ true
-whole-none ws at k h = let e : k ≡ 0 = omega arith in ap (λ (n : ℕ). whole (readCliques n (drop at ws))) e
 
 -- the parts of a found clique as parts between offsets
 module _ (ws : List ℕ) (at : ℕ) (q : CliqueAt) (in-words : CliqueInside (length ws) at (Found q)) where
@@ -116,6 +109,13 @@ module _ (ws : List ℕ) (h : Head) (left : List ℕ) (e : readHead ws ≡ read 
       go (read cs end) w = refl
       go short w = w
 
+  pub ended-by-cliques : ended (readPattern ws) ≡ ended (readCliques (h .cliqueCount) left)
+  ended-by-cliques = rw e (go (readCliques (h .cliqueCount) left))
+    where
+      go : (r : Read (List Clique)) → ended (andThen r (λ cs end. read (withCliques h cs) end)) ≡ ended r
+      go (read cs end) = refl
+      go short = refl
+
   pub rest-of-cliques : rest (readPattern ws) ≡ rest (readCliques (h .cliqueCount) left)
   rest-of-cliques = rw e (go (readCliques (h .cliqueCount) left))
     where
@@ -123,8 +123,11 @@ module _ (ws : List ℕ) (h : Head) (left : List ℕ) (e : readHead ws ≡ read 
       go (read cs end) = refl
       go short = refl
 
+pub no-pattern : (ws : List ℕ) → readHead ws ≡ short → readPattern ws ≡ short
+no-pattern ws e = rw e
+
 pub no-pattern-whole : (ws : List ℕ) → readHead ws ≡ short → whole (readPattern ws) ≡ false
-no-pattern-whole ws e = rw e
+no-pattern-whole ws e = ap whole (no-pattern ws e)
 
 pub getD-later : {A : Type 0} (x : A) (xs : List A) (k : ℕ) (d : A) → (k ≡ 0 → ⊥) → getD (x ∷ xs) k d ≡ getD xs (k - 1) d
 getD-later x xs zero d h = absurd (h refl)

@@ -1,5 +1,5 @@
 -- Reading some of a kind, one after the other.
-use Prim.Native.Nat.{ℕ, zero, suc, _+_, _-_, _<_}
+use Prim.Native.Nat.{ℕ, zero, suc, _+_, _-_, _≤_, _<_}
 use native.Mathlib.Omega.{arith}
 use mathlib.Core.Bool.{true, false}
 use mathlib.Core.Path.{_≡_, refl, sym, ap, _∙_}
@@ -7,7 +7,7 @@ use mathlib.Core.List.{List, [], _∷_, _++_}
 use lib.ListN.{length, drop}
 use lib.Seq.{drop-at}
 use Rattle.layout.specs.Patterns.{Read, read, short, andThen, readMany, endsRight, wholly}
-use Rattle.supernode_tree.specs.Reads.{whole, valueOr, rest}
+use Rattle.supernode_tree.specs.Reads.{whole, valueOr, rest, ended}
 use Rattle.layout.proofs.Tests.{differ}
 
 module _ {A : Type 0} where
@@ -24,6 +24,19 @@ module _ {A : Type 0} where
   ends-value d (read a []) h = refl
   ends-value d (read a (w ∷ ws)) h = absurd (differ false h refl)
   ends-value d short h = refl
+
+  pub ended-whole : (r : Read A) → whole (ended r) ≡ whole r
+  ended-whole (read a ws) = refl
+  ended-whole short = refl
+
+  pub ended-ends : (r : Read A) → endsRight (ended r) ≡ endsRight r
+  ended-ends (read a []) = refl
+  ended-ends (read a (w ∷ ws)) = refl
+  ended-ends short = refl
+
+  cons-ended : (a : A) (r : Read (List A)) → ended (andThen r (λ more left. read (a ∷ more) left)) ≡ ended r
+  cons-ended a (read more left) = refl
+  cons-ended a short = refl
 
   cons-whole : (a : A) (r : Read (List A)) → whole (andThen r (λ more left. read (a ∷ more) left)) ≡ whole r
   cons-whole a (read more left) = refl
@@ -44,6 +57,23 @@ module _ {A : Type 0} where
 
     pub many-short : one ws ≡ short → whole (readMany one k ws) ≡ false
     many-short e = ap whole opened ∙ rw e
+
+    -- where the first ends, if it does, the others start
+    module _ (x : Read (Unit {0})) (e : ended (one ws) ≡ x) where
+      pub ended-short : x ≡ short → ended (readMany one k ws) ≡ short
+      ended-short f = ap ended opened ∙ go (one ws) (e ∙ f)
+        where
+          go : (r : Read A) → ended r ≡ short → ended (andThen r (λ a left. andThen (readMany one (k - 1) left) (λ as′ end. read (a ∷ as′) end))) ≡ short
+          go (read a left) h = absurd (differ true refl (ap whole h))
+          go short h = refl
+
+      pub ended-next : (next : List ℕ) → x ≡ read tt next → ended (readMany one k ws) ≡ ended (readMany one (k - 1) next)
+      ended-next next f = ap ended opened ∙ go (one ws) (e ∙ f)
+        where
+          go : (r : Read A) → ended r ≡ read tt next
+              → ended (andThen r (λ a left. andThen (readMany one (k - 1) left) (λ as′ end. read (a ∷ as′) end))) ≡ ended (readMany one (k - 1) next)
+          go (read a left) h = cons-ended a (readMany one (k - 1) left) ∙ ap (λ (l : List ℕ). ended (readMany one (k - 1) l)) (ap rest h)
+          go short h = absurd (differ false (ap whole h) refl)
 
     -- the first of those that are read whole is whole
     pub first-whole : whole (readMany one k ws) ≡ true → whole (one ws) ≡ true
@@ -127,3 +157,6 @@ module _ {A : Type 0} where
       let e : k ≡ k + 0 = omega arith in
       let s = split one k 0 ws (rw e at h) in
       ap (λ (r : Read (List A)). length (valueOr [] r)) (s .reads) ∙ s .as-many
+
+  pub ended-none : (one : List ℕ → Read A) (k : ℕ) (ws : List ℕ) → k ≤ 0 → ended (readMany one k ws) ≡ read tt ws
+  ended-none one k ws h = let e : k ≡ 0 = omega arith in ap (λ (n : ℕ). ended (readMany one n ws)) e

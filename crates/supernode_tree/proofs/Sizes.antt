@@ -5,7 +5,7 @@ use mathlib.Core.Bool.{Bool, true}
 use mathlib.Core.Path.{_≡_, sym, ap, _∙_}
 use mathlib.Core.List.{List, [], _∷_, map}
 use lib.ListN.{length, length-append}
-use lib.Dec.{T, leb, le→leb}
+use lib.Dec.{T, le→leb}
 use Rattle.layout.specs.Lists.{all, sum, below}
 use Rattle.layout.specs.Triangle.{triangle}
 use Rattle.layout.specs.Patterns.{Clique, Pattern, noClique, blockSize, members, cliqueAt, cliqueCount}
@@ -15,6 +15,7 @@ use Rattle.layout.proofs.Members.{all-at, has-below, length-below}
 use Rattle.layout.proofs.Distinct.{distinct-length}
 use Rattle.layout.specs.Checks.{RightPattern}
 use Rattle.layout.proofs.Cliques.{clique-distinct, clique-vertices}
+use Rattle.supernode_tree.specs.Sizes.{atMost}
 
 -- a block's rows, and the overlaps among them
 abbrev pub rowsOf : Clique → ℕ
@@ -22,9 +23,6 @@ rowsOf c = triangle (blockSize c)
 
 abbrev pub overlapsOf : Clique → ℕ
 overlapsOf c = triangle (length (c .separator))
-
-abbrev pub atMost : ℕ → Clique → Bool
-atMost n c = leb (blockSize c) n
 
 pub triangle-small : (k : ℕ) → k ≤ 256 → triangle k ≤ 32896
 triangle-small k l = triangle-mono k 256 l

@@ -1,16 +1,16 @@
 -- Reading words from an offset on: `readMembers`, `readClique` of `drop at ws`.
-use Prim.Native.Nat.{ℕ, suc, _+_, _-_, _≤_, _<_}
+use Prim.Native.Nat.{ℕ, _+_, _-_, _≤_, _<_}
 use native.Mathlib.Numerals.{add-one}
 use native.Mathlib.Omega.{arith}
-use mathlib.Core.Bool.{true, false}
+use mathlib.Core.Bool.{true}
 use mathlib.Core.Logic.{inl, inr}
 use mathlib.Core.Path.{_≡_, refl, sym, ap, _∙_}
 use mathlib.Core.List.{List, [], _∷_, _++_}
 use lib.ListN.{length, getD, take, drop, length-drop}
 use lib.Seq.{drop-cons, drop-drop, take-add, length-take-le}
-use lib.Dec.{eqb}
-use borrow.Author.Tests.{le-leb, lt-leb, eq-eqb, ne-eqb}
-use Rattle.layout.specs.Patterns.{Read, read, short, andThen, Head, readHead, withCliques, readMembers, readClique, readCliques, readPatterns, endsRight, Clique, Pattern}
+use lib.Dec.{leb}
+use borrow.Author.Tests.{le-leb, lt-leb}
+use Rattle.layout.specs.Patterns.{Read, read, short, andThen, readHead, readMembers, readClique, endsRight}
 use Rattle.layout.proofs.Tests.{differ, lt-or-le}
 use Rattle.supernode_tree.specs.Reads.{headOf, patternRead, cliqueOf, cliqueRead, whole}
 use Rattle.supernode_tree.specs.declared.Clique.{Clique as CliqueAt}
@@ -115,12 +115,6 @@ head-whole ws at h = rw (drop-three ws at (omega arith), members-read (getD ws (
 
 -- ---- one read after another
 
-module _ {A B C : Type 0} where
-  pub then-assoc : (r : Read A) (f : A → List ℕ → Read B) (g : B → List ℕ → Read C)
-      → andThen (andThen r f) g ≡ andThen r (λ a ws. andThen (f a ws) g)
-  then-assoc (read a ws) f g = refl
-  then-assoc short f g = refl
-
 module _ {A B : Type 0} where
   -- whether words end right does not depend on what is made of the parts read
   pub ends-made : (r : Read A) (f : A → B) → endsRight (andThen r (λ a ws. read (f a) ws)) ≡ endsRight r
@@ -128,37 +122,13 @@ module _ {A B : Type 0} where
   ends-made (read a (w ∷ ws)) f = refl
   ends-made short f = refl
 
--- j cliques, then n patterns
-abbrev pub cliquesThen : ℕ → ℕ → List ℕ → Read (List Pattern)
-cliquesThen j n ws = andThen (readCliques j ws) (λ cs left. readPatterns n left)
-
-pub patterns-short : (n : ℕ) (ws : List ℕ) → readHead ws ≡ short → endsRight (readPatterns (suc n) ws) ≡ false
-patterns-short n ws e = rw e
-
-pub patterns-step : (n : ℕ) (ws rest : List ℕ) (h : Head) → readHead ws ≡ read h rest
-    → endsRight (readPatterns (suc n) ws) ≡ endsRight (cliquesThen (h .cliqueCount) n rest)
-patterns-step n ws rest h e = rw e (go (readCliques (h .cliqueCount) rest))
+-- all is read: no word is left after the offset
+pub ends-at : {A : Type 0} (a : A) (ws : List ℕ) (at : ℕ) → endsRight (read a (drop at ws)) ≡ leb (length ws) at
+ends-at a ws at = go (drop at ws) (length-drop at ws)
   where
-    go : (r : Read (List Clique))
-        → endsRight (andThen (andThen r (λ cs left. read (withCliques h cs) left)) (λ p left. andThen (readPatterns n left) (λ ps end. read (p ∷ ps) end)))
-        ≡ endsRight (andThen r (λ cs left. readPatterns n left))
-    go (read cs left) = ends-made (readPatterns n left) (λ ps. withCliques h cs ∷ ps)
-    go short = refl
-
-pub cliques-short : (j n : ℕ) (ws : List ℕ) → readClique ws ≡ short → endsRight (cliquesThen (suc j) n ws) ≡ false
-cliques-short j n ws e = rw e
-
-pub cliques-step : (j n : ℕ) (ws rest : List ℕ) (q : Clique) → readClique ws ≡ read q rest
-    → cliquesThen (suc j) n ws ≡ cliquesThen j n rest
-cliques-step j n ws rest q e = rw e (then-assoc (readCliques j rest) _ _)
-
--- all is read: the words end where the offset stands
-pub ends-at : {A : Type 0} (a : A) (ws : List ℕ) (at : ℕ) → at ≤ length ws → endsRight (read a (drop at ws)) ≡ eqb at (length ws)
-ends-at a ws at h = go (drop at ws) (length-drop at ws)
-  where
-    go : (l : List ℕ) → length l ≡ length ws - at → endsRight (read a l) ≡ eqb at (length ws)
-    go [] e = sym (eq-eqb at (length ws) (omega arith))
-    go (w ∷ l) e = sym (ne-eqb at (length ws) (λ q. omega arith))
+    go : (l : List ℕ) → length l ≡ length ws - at → endsRight (read a l) ≡ leb (length ws) at
+    go [] e = sym (le-leb (length ws) at (omega arith))
+    go (w ∷ l) e = sym (lt-leb (length ws) at (omega arith))
 
 -- the words at a found clique, and after it
 pub clique-found : (ws : List ℕ) (at : ℕ) (r : CliqueRead) (q : CliqueAt) → cliqueRead ws r ≡ readClique (drop at ws) → r ≡ FoundClique q

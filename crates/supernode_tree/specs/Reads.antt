@@ -1,5 +1,5 @@
 -- What the offsets of a read clique stand for.
-use Prim.Native.Nat.{ℕ, _+_, _-_, _≤_}
+use Prim.Native.Nat.{ℕ, _+_, _-_, _≤_, _<_}
 use mathlib.Core.Path.{_≡_}
 use mathlib.Core.Bool.{Bool, true, false}
 use mathlib.Core.List.{List, []}
@@ -13,6 +13,8 @@ use Rattle.supernode_tree.specs.declared.Members.{Members}
 use Rattle.supernode_tree.specs.declared.Pattern.{Pattern}
 use Rattle.supernode_tree.specs.declared.PatternRead.{PatternRead}
 use Rattle.supernode_tree.specs.declared.PatternRead.the-variants.{Pattern as FoundP, Short as ShortP}
+use Rattle.supernode_tree.specs.declared.End.{End}
+use Rattle.supernode_tree.specs.declared.End.the-variants.{At, Short as ShortE}
 
 abbrev pub cliqueOf : List ℕ → Clique → P.Clique
 cliqueOf ws c = record {
@@ -45,8 +47,10 @@ abbrev pub patternRead : List ℕ → PatternRead → Read Head
 patternRead ws (FoundP p) = read (headOf ws p) (drop (p .cliques) ws)
 patternRead ws ShortP = short
 
+-- the parts follow each other from at on, and end within n words; the vertex count is a word
 abbrev pub PatternInside : ℕ → ℕ → PatternRead → Type 0
-PatternInside n at (FoundP p) = (p .ordering ≡ at + 3) × (p .cliques ≡ p .ordering + p .«vertex_count») × (p .cliques ≤ n)
+PatternInside n at (FoundP p) =
+    (p .ordering ≡ at + 3) × (p .cliques ≡ p .ordering + p .«vertex_count») × (p .cliques ≤ n) × (p .«vertex_count» < 4294967296)
 PatternInside n at ShortP = Unit {0}
 
 -- ---- the pattern at an offset
@@ -71,6 +75,15 @@ module _ {A : Type 0} where
   abbrev pub rest : Read A → List ℕ
   rest (read a ws) = ws
   rest short = []
+
+  -- what is read left aside: whether it was read, and the words after it
+  abbrev pub ended : Read A → Read (Unit {0})
+  ended (read a ws) = read tt ws
+  ended short = short
+
+abbrev pub endRead : List ℕ → End → Read (Unit {0})
+endRead ws (At at) = read tt (drop at ws)
+endRead ws ShortE = short
 
 -- k cliques stand whole from the offset on
 abbrev pub Whole : List ℕ → ℕ → ℕ → Type 0

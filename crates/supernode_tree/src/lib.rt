@@ -4,16 +4,15 @@ ghost use Prim.Native.Nat.{_+_, _*_, _≤_, _<_};
 ghost use mathlib.Core.Bool.{true};
 ghost use mathlib.Core.List.{map};
 ghost use lib.ListN.{length, drop, getD};
-ghost use lib.Dec.{leb};
 ghost use Rattle.layout.specs.Lists.{all, sum};
 ghost use Rattle.layout.specs.Triangle.{triangle};
 ghost use Rattle.layout.specs.Patterns.{noClique, members as cliqueMembers, blockSize, readClique, readCliques, readHead, readPattern, readPatterns, endsRight};
 ghost use Rattle.layout.specs.Blocks.{blockRows};
 ghost use Rattle.layout.specs.Checks.{RightPattern};
-ghost use Rattle.supernode_tree.specs.Reads.{patternAt, rest, whole, Whole, cliquesFrom, MembersOf, cliqueRead, CliqueInside, patternRead, PatternInside};
+ghost use Rattle.supernode_tree.specs.Reads.{patternAt, rest, whole, Whole, cliquesFrom, MembersOf, cliqueRead, CliqueInside, patternRead, PatternInside, endRead, ended};
 ghost use Rattle.supernode_tree.specs.declared.CliqueRead.the-variants.{Clique as Found};
 ghost use Rattle.supernode_tree.specs.Offsets.{OffsetsEvery, OffsetsOf};
-ghost use Rattle.supernode_tree.specs.Sizes.{overlapRows};
+ghost use Rattle.supernode_tree.specs.Sizes.{atMost, overlapRows};
 
 // A clique of a pattern's words, by offsets into them.
 pub struct Clique {
@@ -33,6 +32,7 @@ pub enum CliqueRead {
 impl Clique {
     pub const NO_PARENT: u32 = 4294967295;
 
+    // The clique at an offset, if its words do not end early.
     pub fn read(words: &[u32], at: usize) -> CliqueRead
         ensures { λ r. ⌜ cliqueRead (now (words .entry)) r ≡ readClique (drop at (now (words .entry))) ⌝ }
         ensures { λ r. ⌜ CliqueInside (length (now (words .entry))) at r ⌝ }
@@ -110,6 +110,7 @@ pub enum PatternRead {
 }
 
 impl Pattern {
+    // All of the pattern at an offset but its cliques, if these words do not end early.
     pub fn read(words: &[u32], at: usize) -> PatternRead
         ensures { λ r. ⌜ patternRead (now (words .entry)) r ≡ readHead (drop at (now (words .entry))) ⌝ }
         ensures { λ r. ⌜ PatternInside (length (now (words .entry))) at r ⌝ }
@@ -138,52 +139,67 @@ impl Pattern {
     }
 }
 
-// The words hold count patterns, and end with the last.
-pub fn patterns_end(count: u32, words: &[u32]) -> bool
-    ensures { λ r. ⌜ r ≡ endsRight (readPatterns count (now (words .entry))) ⌝ }
-{
-    let mut ends = false;
-    let mut at = 0;
-    let mut left = count;
-    'patterns: loop {
-        if left == 0 {
-            ends = at == words.len();
-            break;
-        }
-        let PatternRead::Pattern(p) = Pattern::read(words, at) else {
-            break;
-        };
-        at = p.cliques;
-        let mut more = p.clique_count;
-        while 0 < more {
-            let CliqueRead::Clique(q) = Clique::read(words, at) else {
-                break 'patterns;
-            };
-            at = q.next;
-            more -= 1;
-        }
-        left -= 1;
-    }
-    ends
+// ---- walks over words that may end early
+
+// The offset after what was read, if its words do not end early.
+enum End {
+    At(usize),
+    Short,
 }
 
-// ---- walks
-
-// count cliques stand whole from an offset on.
-pub fn cliques_whole(words: &[u32], first: usize, count: u32) -> bool
-    ensures { λ r. ⌜ r ≡ whole (readCliques count (drop first (now (words .entry)))) ⌝ }
+// Where count cliques from an offset on end.
+fn cliques_end(words: &[u32], first: usize, count: u32) -> End
+    ensures { λ r. ⌜ endRead (now (words .entry)) r ≡ ended (readCliques count (drop first (now (words .entry)))) ⌝ }
 {
     let mut at = first;
     let mut left = count;
     while 0 < left {
         let CliqueRead::Clique(q) = Clique::read(words, at) else {
-            return false;
+            return End::Short;
         };
         at = q.next;
         left -= 1;
     }
+    End::At(at)
+}
+
+// Where the pattern at an offset ends.
+fn pattern_end(words: &[u32], at: usize) -> End
+    ensures { λ r. ⌜ endRead (now (words .entry)) r ≡ ended (readPattern (drop at (now (words .entry)))) ⌝ }
+{
+    let PatternRead::Pattern(p) = Pattern::read(words, at) else {
+        return End::Short;
+    };
+    cliques_end(words, p.cliques, p.clique_count)
+}
+
+// The words hold count patterns, and end with the last.
+pub fn patterns_end(count: u32, words: &[u32]) -> bool
+    ensures { λ r. ⌜ r ≡ endsRight (readPatterns count (now (words .entry))) ⌝ }
+{
+    let mut at = 0;
+    let mut left = count;
+    while 0 < left {
+        let End::At(next) = pattern_end(words, at) else {
+            return false;
+        };
+        at = next;
+        left -= 1;
+    }
+    words.len() <= at
+}
+
+// count cliques stand whole from an offset on.
+pub fn cliques_whole(words: &[u32], first: usize, count: u32) -> bool
+    ensures { λ r. ⌜ r ≡ whole (readCliques count (drop first (now (words .entry)))) ⌝ }
+{
+    let End::At(_) = cliques_end(words, first, count) else {
+        return false;
+    };
     true
 }
+
+// ---- walks over words that stand whole
 
 // Where the words after count cliques start.
 pub fn cliques_next(words: &[u32], first: usize, count: u32) -> usize
@@ -211,12 +227,13 @@ pub fn pattern_next(words: &[u32], at: usize) -> usize
     cliques_next(words, p.cliques, p.clique_count)
 }
 
-// The members of a clique of the words, by offsets: none where there is no such clique.
+// The members of a clique, by offsets: where they start and end.
 pub struct Members {
     pub start: usize,
     pub end: usize,
 }
 
+// The members of clique c of count that stand whole, found from the first: none where there is no such clique.
 pub fn members_of(words: &[u32], first: usize, count: u32, c: u32) -> Members
     requires { ⌜ Whole (now words) first count ⌝ }
     ensures { λ r. ⌜ MembersOf (now (words .entry)) (cliqueMembers (getD (cliquesFrom (now (words .entry)) first count) c noClique)) r ⌝ }
@@ -225,9 +242,7 @@ pub fn members_of(words: &[u32], first: usize, count: u32, c: u32) -> Members
     let mut left = count;
     let mut skip = c;
     while 0 < left {
-        let CliqueRead::Clique(q) = Clique::read(words, at) else {
-            return Members { start: 0, end: 0 };
-        };
+        let q = Clique::here(words, at);
         if skip == 0 {
             return Members {
                 start: q.snode,
@@ -273,7 +288,7 @@ pub fn clique_offsets(words: &[u32], first: usize, count: u32, out: &mut [usize]
     offsets_every(words, first, count, 1, out);
 }
 
-// The members of clique c, found from the last offset before it.
+// The same, found from the last offset before it.
 pub fn members_by(
     words: &[u32],
     first: usize,
@@ -297,6 +312,7 @@ pub fn members_by(
 
 // ---- block sizes
 
+// Of k ≤ 256, so that no product is too large.
 fn triangular_number(k: usize) -> u64
     requires { ⌜ k ≤ 256 ⌝ }
     ensures { λ r. ⌜ r ≡ triangle k ⌝ }
@@ -304,16 +320,16 @@ fn triangular_number(k: usize) -> u64
     (k * (k + 1) / 2) as u64
 }
 
-// How many rows the blocks have, and how many of them are overlaps.
+// How many rows some blocks have, and how many of them are overlaps.
 pub struct Decomposed {
     pub dim: u64,
     pub overlaps: u64,
 }
 
-// Of count cliques with blocks of at most 256.
+// How many rows the blocks of count cliques have, none of them larger than 256, and how many of them are overlaps.
 fn dim_and_overlaps(words: &[u32], first: usize, count: u32) -> Decomposed
     requires { ⌜ Whole (now words) first count ⌝ }
-    requires { ⌜ all (λ c. leb (blockSize c) 256) (cliquesFrom (now words) first count) ≡ true ⌝ }
+    requires { ⌜ all (atMost 256) (cliquesFrom (now words) first count) ≡ true ⌝ }
     ensures { λ r. ⌜ r .dim ≡ sum (map (λ c. triangle (blockSize c)) (cliquesFrom (now (words .entry)) first count)) ⌝ }
     ensures { λ r. ⌜ r .overlaps ≡ sum (map (λ c. triangle (length (c .separator))) (cliquesFrom (now (words .entry)) first count)) ⌝ }
 {
@@ -334,7 +350,7 @@ fn dim_and_overlaps(words: &[u32], first: usize, count: u32) -> Decomposed
     }
 }
 
-// Of a pattern that passed the checks.
+// How many rows the blocks of a pattern that passed the checks have, and how many of them are overlaps.
 pub fn get_decomposed_dim_and_overlaps(words: &[u32], at: usize) -> Decomposed
     requires { ⌜ RightPattern (patternAt (now words) at) ⌝ }
     requires { ⌜ patternAt (now words) at .vertexCount ≤ 256 ⌝ }

@@ -1,8 +1,7 @@
 -- The first row of each cone.
-use Prim.Native.Nat.{ℕ, zero, suc, _+_, _<_}
+use Prim.Native.Nat.{ℕ, suc, _+_, _<_}
 use native.Mathlib.Numerals.{add-one}
 use native.Mathlib.Omega.{arith}
-use native.Mathlib.Nat.{not-suc-le-zero, le-of-suc-le-suc}
 use mathlib.Core.Path.{_≡_, refl, ap, _∙_}
 use mathlib.Core.List.{List, [], _∷_, _++_}
 use lib.ListN.{length, getD, take}
@@ -26,9 +25,3 @@ pub first-more : (cs : List Cone) (i : ℕ) (d : Cone) → i < length cs
 first-more cs i d h =
     rw (add-one, take-suc cs i d h)
     (first-append 0 (take i cs) (getD cs i d) ∙ ap (λ (n : ℕ). firstRows 0 (take i cs) ++ (n ∷ [])) (omega arith))
-
--- as many rows come before as the cones before it have
-pub first-at : (r : ℕ) (cs : List Cone) (i d : ℕ) → i < length cs → getD (firstRows r cs) i d ≡ r + rowTotal (take i cs)
-first-at r [] i d l = absurd (not-suc-le-zero l)
-first-at r (c ∷ cs) zero d l = omega arith
-first-at r (c ∷ cs) (suc i) d l = first-at (r + rowCount c) cs i d (le-of-suc-le-suc l) ∙ omega arith

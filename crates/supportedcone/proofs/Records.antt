@@ -1,18 +1,17 @@
 -- Records by number, as the words have them.
 use Prim.Native.Nat.{ℕ, _+_, _*_, _≤_, _<_}
 use native.Mathlib.Omega.{arith}
-use mathlib.Core.Path.{_≡_, refl, sym, ap, subst, _∙_}
+use mathlib.Core.Path.{_≡_, refl, ap}
 use mathlib.Core.Bool.{Bool, true, false, cond, _&&_}
 use mathlib.Core.Logic.{inl, inr}
 use mathlib.Core.List.{List, [], _∷_}
 use lib.ListN.{length, getD, List·getD-eq-default}
-use lib.Dec.{T, leb, eqb, leb→le, eqb→eq}
-use lib.Ieee.Bits.{is-true}
+use lib.Dec.{T, leb, eqb, leb→le}
 use borrow.Author.Tests.{lt-ltb}
 use Rattle.layout.specs.Cones.{Cone, records, wholeRecords, reads, rowCount}
 use Rattle.layout.specs.Lists.{all}
 use Rattle.layout.specs.Checks.{noCone, sizesBounded, conesBounded, conesRead}
-use Rattle.layout.proofs.Tests.{and-iff, lt-or-le}
+use Rattle.layout.proofs.Tests.{and-iff, lt-or-le, passed, passes, differ}
 use Rattle.layout.proofs.Members.{all-at}
 use Rattle.layout.proofs.Records.{record-count, record-at}
 use Rattle.supportedcone.specs.Cases.{coneRecord, recordAt}
@@ -44,25 +43,25 @@ part-record (k ∷ a ∷ c ∷ ws) n = part-record ws (λ e. n (omega arith))
 
 -- a test that every record passes
 pub every-record : (p : Cone → Bool) (ws : List ℕ) (i : ℕ) → all p (records ws) ≡ true → i < length (records ws) → p (recordAt ws i) ≡ true
-every-record p ws i h l = is-true (p (recordAt ws i)) (all-at noCone p (records ws) .0 (subst T (sym h) tt) i l)
+every-record p ws i h l = passed (p (recordAt ws i)) (all-at noCone p (records ws) .0 (passes (all p (records ws)) h) i l)
 
 -- check 1 of the records, and of one
 both : (ws : List ℕ) → conesBounded ws ≡ true → T (leb (length (records ws)) 1024) × T (all sizesBounded (records ws))
-both ws h = and-iff (leb (length (records ws)) 1024) (all sizesBounded (records ws)) .0 (subst T (sym h) tt)
+both ws h = and-iff (leb (length (records ws)) 1024) (all sizesBounded (records ws)) .0 (passes (conesBounded ws) h)
 
 pub few-records : (ws : List ℕ) → conesBounded ws ≡ true → length (records ws) ≤ 1024
 few-records ws h = leb→le (length (records ws)) 1024 (both ws h .0)
 
 pub bounded-at : (ws : List ℕ) (i : ℕ) → conesBounded ws ≡ true → sizesBounded (recordAt ws i) ≡ true
 bounded-at ws i h = elim (lt-or-le i (length (records ws))) [
-  | inl l ↦ every-record sizesBounded ws i (is-true (all sizesBounded (records ws)) (both ws h .1)) l
+  | inl l ↦ every-record sizesBounded ws i (passed (all sizesBounded (records ws)) (both ws h .1)) l
   | inr l ↦ ap sizesBounded (record-out ws i l)
 ]
 
 -- a record that reads as no kind is none of those that do
 pub unread-rows : (ws : List ℕ) (i : ℕ) → all reads (records ws) ≡ true → reads (recordAt ws i) ≡ false → rowCount (recordAt ws i) ≡ 0
 unread-rows ws i h e = elim (lt-or-le i (length (records ws))) [
-  | inl l ↦ absurd (subst T (sym (every-record reads ws i h l) ∙ e) tt)
+  | inl l ↦ absurd (differ (reads (recordAt ws i)) (every-record reads ws i h l) e)
   | inr l ↦ ap rowCount (record-out ws i l)
 ]
 
@@ -81,9 +80,5 @@ cones-read m ws e = go (conesRead m ws) e
 
 pub all-read : (m : ℕ) (ws : List ℕ) → conesRead m ws ≡ true → all reads (records ws) ≡ true
 all-read m ws h =
-    let (both, rows) = and-iff (wholeRecords ws && all reads (records ws)) (eqb (rowTotal (records ws)) m) .0 (subst T (sym h) tt) in
-    is-true (all reads (records ws)) (and-iff (wholeRecords ws) (all reads (records ws)) .0 both .1)
-
-pub rows-read : (m : ℕ) (ws : List ℕ) → conesRead m ws ≡ true → rowTotal (records ws) ≡ m
-rows-read m ws h =
-    eqb→eq (rowTotal (records ws)) m (and-iff (wholeRecords ws && all reads (records ws)) (eqb (rowTotal (records ws)) m) .0 (subst T (sym h) tt) .1)
+    let (both, rows) = and-iff (wholeRecords ws && all reads (records ws)) (eqb (rowTotal (records ws)) m) .0 (passes (conesRead m ws) h) in
+    passed (all reads (records ws)) (and-iff (wholeRecords ws) (all reads (records ws)) .0 both .1)

@@ -1,10 +1,10 @@
+// clarabel's solver/core/cones/supportedcone.rs: the cones, their records, rows and α; checks 1 and 4 of the records.
 ghost use mathlib.Core.Path.{_≡_};
 ghost use mathlib.Core.Bool.{true, cond};
 ghost use Prim.Native.Nat.{_≤_};
 ghost use lib.ListN.{length};
 ghost use Rattle.layout.specs.Lists.{all, written};
 ghost use Rattle.layout.specs.Cones.{records, reads, rowCount, alphaCount};
-ghost use Rattle.layout.specs.Compact.{coneWords};
 ghost use Rattle.layout.specs.Checks.{sizesBounded, conesBounded, conesRead, alphasAsMany};
 ghost use Rattle.supportedcone.specs.Cases.{coneRecord, recordOf, told, readsAs, readsWith, recordAt};
 ghost use Rattle.supportedcone.specs.Ranges.{firstRows, rowTotal, isPsdOf};
@@ -105,59 +105,6 @@ impl SupportedCone {
             SupportedCone::GenPowerConeT(alphas, _) => alphas,
             SupportedCone::PSDTriangleConeT(_) => 0,
         }
-    }
-
-    // Its kind's code.
-    pub fn as_tag(self) -> u32
-        ensures { λ r. ⌜ r ≡ recordOf self .kind ⌝ }
-    {
-        match self {
-            SupportedCone::ZeroConeT(_) => SupportedCone::ZERO,
-            SupportedCone::NonnegativeConeT(_) => SupportedCone::NONNEGATIVE,
-            SupportedCone::SecondOrderConeT(_) => SupportedCone::SECOND_ORDER,
-            SupportedCone::ExponentialConeT => SupportedCone::EXPONENTIAL,
-            SupportedCone::PowerConeT(_) => SupportedCone::POWER,
-            SupportedCone::GenPowerConeT(_, _) => SupportedCone::GEN_POWER,
-            SupportedCone::PSDTriangleConeT(_) => SupportedCone::PSD_TRIANGLE,
-        }
-    }
-
-    fn first(self) -> u32
-        ensures { λ r. ⌜ r ≡ recordOf self .first ⌝ }
-    {
-        match self {
-            SupportedCone::ZeroConeT(dim) => dim,
-            SupportedCone::NonnegativeConeT(dim) => dim,
-            SupportedCone::SecondOrderConeT(dim) => dim,
-            SupportedCone::ExponentialConeT => 0,
-            SupportedCone::PowerConeT(_) => 0,
-            SupportedCone::GenPowerConeT(alphas, _) => alphas,
-            SupportedCone::PSDTriangleConeT(dim) => dim,
-        }
-    }
-
-    fn second(self) -> u32
-        ensures { λ r. ⌜ r ≡ recordOf self .second ⌝ }
-    {
-        match self {
-            SupportedCone::ZeroConeT(_) => 0,
-            SupportedCone::NonnegativeConeT(_) => 0,
-            SupportedCone::SecondOrderConeT(_) => 0,
-            SupportedCone::ExponentialConeT => 0,
-            SupportedCone::PowerConeT(_) => 0,
-            SupportedCone::GenPowerConeT(_, dim2) => dim2,
-            SupportedCone::PSDTriangleConeT(_) => 0,
-        }
-    }
-
-    // Writes its record. A power cone's exponent is not in it: that stays in the table of α.
-    pub fn write(self, out: &mut [u32])
-        requires { ⌜ 3 ≤ length (now out) ⌝ }
-        ensures { λ _. ⌜ now (out .exit) ≡ written (coneWords (recordOf self)) (now (out .entry)) ⌝ }
-    {
-        out[0] = self.as_tag();
-        out[1] = self.first();
-        out[2] = self.second();
     }
 }
 

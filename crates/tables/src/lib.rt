@@ -13,7 +13,7 @@ ghost use Rattle.layout.specs.Checks.{Sound, RightPattern, noCone};
 ghost use Rattle.layout.specs.Compact.{blockOf, wholeCone, coneWords, entryWords, mapWords, psdWords, compactPart, mapPart};
 ghost use Rattle.layout.specs.Standard.{standardPart};
 ghost use Rattle.supernode_tree.specs.Reads.{patternAt, Whole, cliquesFrom};
-ghost use Rattle.supernode_tree.proofs.Sizes.{atMost};
+ghost use Rattle.supernode_tree.specs.Sizes.{atMost};
 ghost use Rattle.tables.specs.Tables.{tableOf, wholeCodes, cutCodes, Few};
 use parts::Met;
 use parts::Place;

@@ -6,7 +6,7 @@ use native.Mathlib.Omega.{arith}
 use mathlib.Core.Path.{_≡_, refl, sym, ap, subst, _∙_}
 use mathlib.Core.Logic.{inl, inr}
 use mathlib.Core.Bool.{Bool, true, false, cond}
-use mathlib.Core.List.{List, [], _∷_, _++_}
+use mathlib.Core.List.{List, [], _∷_}
 use lib.ListN.{length, getD, drop, set, length-set, length-map, drop-of-length-le}
 use lib.Seq.{drop-cons, getD-set-same, getD-set-other, ext-getD}
 use lib.Dec.{T, eqb}
@@ -43,24 +43,12 @@ pub length-scattered : (k : ℕ) (xs old : List ℕ) → length (scattered k xs 
 length-scattered k [] old = refl
 length-scattered k (x ∷ xs) old = length-scattered (suc k) xs (set old x k) ∙ length-set old x k
 
--- one list after another
-pub scattered-append : (k : ℕ) (xs ys old : List ℕ) → scattered k (xs ++ ys) old ≡ scattered (k + length xs) ys (scattered k xs old)
-scattered-append k [] ys old = ap (λ (n : ℕ). scattered n ys old) (omega arith)
-scattered-append k (x ∷ xs) ys old =
-    scattered-append (suc k) xs ys (set old x k) ∙ ap (λ (n : ℕ). scattered n ys (scattered (suc k) xs (set old x k))) (omega arith)
-
 -- the numbers from the i-th on are still to be written
-pub scattered-none : (k : ℕ) (xs old : List ℕ) → scattered (k + 0) xs old ≡ scattered k xs old
-scattered-none k xs old = ap (λ (n : ℕ). scattered n xs old) (omega arith)
+pub scattered-step : (xs old : List ℕ) (i : ℕ) → i < length xs → scattered i (drop i xs) old ≡ scattered (i + 1) (drop (i + 1) xs) (set old (getD xs i 0) i)
+scattered-step xs old i h = rw (add-one, drop-cons xs i 0 h)
 
-pub scattered-step : (k : ℕ) (xs old : List ℕ) (i : ℕ) → i < length xs
-    → scattered (k + i) (drop i xs) old ≡ scattered (k + (i + 1)) (drop (i + 1) xs) (set old (getD xs i 0) (k + i))
-scattered-step k xs old i h =
-    let e : k + (i + 1) ≡ suc (k + i) = omega arith in
-    rw (e, add-one, drop-cons xs i 0 h)
-
-pub scattered-done : (k : ℕ) (xs old : List ℕ) (i : ℕ) → length xs ≤ i → scattered (k + i) (drop i xs) old ≡ old
-scattered-done k xs old i h = rw (drop-of-length-le xs h)
+pub scattered-done : (xs old : List ℕ) (i : ℕ) → length xs ≤ i → scattered i (drop i xs) old ≡ old
+scattered-done xs old i h = rw (drop-of-length-le xs h)
 
 -- ---- what stands where
 

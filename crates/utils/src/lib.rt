@@ -1,6 +1,6 @@
-// Permutations: the test, and the inverse of clarabel's `invperm`.
+// clarabel's algebra/utils.rs: the test for a permutation, and the inverse permutation, `invperm`.
 ghost use mathlib.Core.Path.{_≡_};
-ghost use Prim.Native.Nat.{_+_, _≤_, _<_};
+ghost use Prim.Native.Nat.{_≤_, _<_};
 ghost use mathlib.Core.Bool.{true, false};
 ghost use lib.ListN.{length, replicate};
 ghost use lib.Dec.{ltb};
@@ -12,6 +12,7 @@ ghost use Rattle.utils.specs.Scattered.{scattered, Below};
 
 // ---- each number below the length once
 
+// Takes every mark off.
 pub fn clear(marks: &mut [bool])
     ensures { λ _. ⌜ now (marks .exit) ≡ replicate (length (now (marks .entry))) false ⌝ }
 {
@@ -53,6 +54,7 @@ fn once_within(words: &[u32], low: usize, marks: &mut [bool]) -> bool
     mark(words, low, marks)
 }
 
+// Whether every number of the words is below n.
 pub fn all_below(words: &[u32], n: usize) -> bool
     ensures { λ r. ⌜ r ≡ all (λ x. ltb x n) (now (words .entry)) ⌝ }
 {
@@ -66,7 +68,8 @@ pub fn all_below(words: &[u32], n: usize) -> bool
     true
 }
 
-// Window by window.
+// Each number below the length stands in the words once: looked for window by window, with as many numbers in a window as there
+// are marks.
 fn permutation_by(words: &[u32], marks: &mut [bool]) -> bool
     requires { ⌜ 0 < length (now marks) ⌝ }
     ensures { λ r. ⌜ r ≡ isPermutation (now (words .entry)) ⌝ }
@@ -87,8 +90,7 @@ fn permutation_by(words: &[u32], marks: &mut [bool]) -> bool
     }
 }
 
-// Each number below the length stands in the words once, in little stack: at most 256 numbers are one window, and longer
-// words go in windows of that size.
+// The same, in little stack: at most 256 numbers are one window, and longer words go in windows of that size.
 pub fn is_short_permutation(words: &[u32]) -> bool
     ensures { λ r. ⌜ r ≡ isPermutation (now (words .entry)) ⌝ }
 {
@@ -114,16 +116,16 @@ pub fn is_permutation(words: &[u32]) -> bool
 
 // ---- the inverse
 
-// first, first + 1, .. written where the words say, in order.
-pub fn scatter(words: &[u32], first: u32, out: &mut [u32])
+// 0, 1, .. written where the words say, in order.
+fn scatter(words: &[u32], out: &mut [u32])
     requires { ⌜ Below (length (now out)) (now words) ⌝ }
-    requires { ⌜ first + length (now words) ≤ 4294967296 ⌝ }
-    ensures { λ _. ⌜ now (out .exit) ≡ scattered first (now (words .entry)) (now (out .entry)) ⌝ }
+    requires { ⌜ length (now words) ≤ 4294967296 ⌝ }
+    ensures { λ _. ⌜ now (out .exit) ≡ scattered 0 (now (words .entry)) (now (out .entry)) ⌝ }
 {
     let mut k = 0;
     while k < words.len() {
         let w = words[k] as usize;
-        out[w] = first + k as u32;
+        out[w] = k as u32;
         k += 1;
     }
 }
@@ -140,6 +142,6 @@ pub fn inverse(p: &[u32], out: &mut [u32]) -> u32
     if out.len() < p.len() {
         return 11;
     }
-    scatter(p, 0, out);
+    scatter(p, out);
     0
 }

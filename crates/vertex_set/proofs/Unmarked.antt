@@ -1,7 +1,7 @@
 -- Numbers that are once in others, by marks that are taken away, a window at a time.
 use Prim.Native.Nat.{ℕ, _+_, _≤_, _<_}
 use native.Mathlib.Omega.{arith}
-use mathlib.Core.Bool.{Bool, true, false, not, _&&_, _||_}
+use mathlib.Core.Bool.{Bool, true, false, not, _&&_, or-true}
 use mathlib.Core.Logic.{_⊎_, inl, inr, ⊎-elim}
 use mathlib.Core.Path.{_≡_, refl, sym, ap, _∙_}
 use mathlib.Core.List.{List, [], _∷_, _++_}
@@ -29,11 +29,7 @@ has-other : (y : ℕ) (l : List ℕ) (x : ℕ) → (y ≡ x → ⊥) → has y (
 has-other y l x n = has-more y l x ∙ rw (ne-eqb y x n) (or-false (has y l))
 
 has-last : (l : List ℕ) (x : ℕ) → has x (l ++ (x ∷ [])) ≡ true
-has-last l x = has-more x l x ∙ rw (eq-eqb x x refl) (pick (has x l))
-  where
-    pick : (b : Bool) → (b || true) ≡ true
-    pick true = refl
-    pick false = refl
+has-last l x = has-more x l x ∙ rw (eq-eqb x x refl) (or-true (has x l))
 
 pub left-none : (low : ℕ) (marks : List Bool) (ms : List ℕ) → Marked low marks ms → Left low marks ms []
 left-none low marks ms m v h = m v h ∙ pick (has (low + v) ms)

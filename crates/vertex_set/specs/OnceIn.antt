@@ -4,7 +4,6 @@ use mathlib.Core.Path.{_≡_}
 use mathlib.Core.Bool.{Bool, _&&_}
 use mathlib.Core.List.{List}
 use lib.ListN.{length}
-use Rattle.layout.specs.Patterns.{members}
 use Rattle.layout.specs.Lists.{has, all, keep, distinct}
 use Rattle.utils.specs.Windows.{within, Marked}
 

@@ -2,13 +2,27 @@
 ghost use mathlib.Core.Path.{_≡_};
 ghost use Prim.Native.Nat.{_<_};
 ghost use mathlib.Core.Bool.{true};
-ghost use lib.ListN.{length};
+ghost use lib.ListN.{length, drop};
 ghost use lib.Dec.{ltb};
 ghost use Rattle.layout.specs.Lists.{all, distinct, keep, has};
 ghost use Rattle.utils.specs.Windows.{within, Marked};
 ghost use Rattle.vertex_set.specs.OnceIn.{onceIn, Unmarks};
 
 // ---- by walks
+
+// Whether x stands in a, at place i or later.
+fn stands_from(a: &[u32], i: usize, x: u32) -> bool
+    ensures { λ r. ⌜ r ≡ has x (drop i (now (a .entry))) ⌝ }
+{
+    let mut j = i;
+    while j < a.len() {
+        if x == a[j] {
+            return true;
+        }
+        j += 1;
+    }
+    false
+}
 
 // No number stands twice.
 pub fn is_distinct(a: &[u32]) -> bool
@@ -18,12 +32,8 @@ pub fn is_distinct(a: &[u32]) -> bool
     while i < a.len() {
         let x = a[i];
         i += 1;
-        let mut j = i;
-        while j < a.len() {
-            if x == a[j] {
-                return false;
-            }
-            j += 1;
+        if stands_from(a, i, x) {
+            return false;
         }
     }
     true
@@ -108,7 +118,7 @@ fn unmark(words: &[u32], low: usize, marks: &mut [bool]) -> bool
     true
 }
 
-// Of the numbers in the window.
+// No number of us in the window stands twice, and each is in ms. The window starts at low and has a mark for each number.
 fn once_in_within(us: &[u32], ms: &[u32], low: usize, marks: &mut [bool]) -> bool
     ensures { λ r. ⌜ r ≡ onceIn (now (ms .entry)) (keep (within low (length (now (marks .entry)))) (now (us .entry))) ⌝ }
 {
@@ -116,7 +126,7 @@ fn once_in_within(us: &[u32], ms: &[u32], low: usize, marks: &mut [bool]) -> boo
     unmark(us, low, marks)
 }
 
-// Of numbers below n, window by window.
+// No number of us stands twice, and each is in ms, where those of us are below n: looked for window by window.
 fn once_in_by(us: &[u32], ms: &[u32], n: usize, marks: &mut [bool]) -> bool
     requires { ⌜ all (λ x. ltb x n) (now us) ≡ true ⌝ }
     requires { ⌜ 0 < length (now marks) ⌝ }
@@ -134,8 +144,8 @@ fn once_in_by(us: &[u32], ms: &[u32], n: usize, marks: &mut [bool]) -> bool
     }
 }
 
-// By walks where both are short, since then they cost no more than the marks do, and where a number is not below n; else by
-// marks.
+// No number of us stands twice, and each is in ms. By walks where both are short, since then they cost no more than the marks do,
+// and where a number of us is not below n; else by marks.
 pub fn once_in(us: &[u32], ms: &[u32], n: usize, marks: &mut [bool]) -> bool
     requires { ⌜ 0 < length (now marks) ⌝ }
     ensures { λ r. ⌜ r ≡ onceIn (now (ms .entry)) (now (us .entry)) ⌝ }

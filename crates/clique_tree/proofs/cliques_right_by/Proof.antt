@@ -2,7 +2,7 @@ use Rattle.supernode_tree.proofs.Cliques.{no-head, no-cliques, pattern-whole}
 use Rattle.supernode_tree.proofs.Tests.{four-tests}
 use Rattle.supernode_tree.proofs.Words.{head-found}
 use Rattle.clique_tree.specs.Trees.{snodesOf, separatorOk}
-use Rattle.supernode_tree.specs.Reads.{patternAt, patternRead, headOf, whole, Whole, cliquesFrom}
+use Rattle.supernode_tree.specs.Reads.{patternAt, patternRead, headOf, Whole, cliquesFrom}
 use Rattle.layout.specs.Checks.{cliquesRight, isPermutation}
 use Rattle.layout.specs.Patterns.{Clique, read, readHead}
 use Rattle.layout.specs.Lists.{all}

@@ -6,9 +6,8 @@ use lib.ListN.{length, getD, take, drop}
 use borrow.Author.Tests.{not-true, not-false}
 use Rattle.layout.specs.Lists.{all}
 use Rattle.layout.specs.Patterns.{Clique, noClique, members}
-use Rattle.layout.proofs.Tests.{differ}
 use Rattle.supernode_tree.specs.Reads.{Whole, cliquesFrom, cliqueOf}
-use Rattle.supernode_tree.proofs.Cliques.{none-here, whole-next, from-none, separator-part, clique-stops, clique-goes}
+use Rattle.supernode_tree.proofs.Cliques.{first-whole, whole-next, from-none, separator-part, clique-stops, clique-goes}
 use Rattle.vertex_set.specs.OnceIn.{onceIn}
 use Rattle.clique_tree.specs.Trees.{separatorOk}
 use native.Mathlib.Omega.{arith}
@@ -27,23 +26,22 @@ abbrev μ-loop : tie.MeasureT-loop
 μ-loop words first count n step offsets marks₀ at₀ left₀ marks at left = left
 
 -- the test of a clique
-abbrev right : tie.After-known-told Inv-loop μ-loop → Clique → Bool
+abbrev right : tie.After-here Inv-loop μ-loop → Clique → Bool
 right k q =
-    let s = k .before .before .before .before .before .before .before .before .before in
+    let s = k .before .before .before .before .before .before in
     separatorOk (cliquesFrom (s .args .words .now) (s .args .first) (s .args .count)) (q .parent) (q .separator)
 
 -- a clique was read, and its separator looked at
 looked : (c : tie.After-separator-right Inv-loop μ-loop)
     → let k = c .before .before .before in
-    c .separator-right .result ≡ right k (cliqueOf (k .before .before .before .before .before .before .before .before .before .args .words .now) (k .before .q .given .0 .0))
+    c .separator-right .result ≡ right k (cliqueOf (k .before .before .before .before .before .before .args .words .now) (k .here .result))
 looked c =
     let k = c .before .before .before in
-    let r = k .before .before .before in
-    let l = r .before .before in
+    let l = k .before .before in
     let s = l .before .before .before .before in
     let ws = s .args .words .now in
-    let q = k .before .q .given .0 .0 in
-    let inside = rw (k .before .q .given .1) at (r .read .ensures .1) in
+    let q = k .here .result in
+    let inside = k .here .ensures .1 in
     c .separator-right .ensures
     ∙ ap (λ (ms : List ℕ). onceIn ms (take (q .next - q .separator) (drop (q .separator) ws))) (c .before .before .members-by .ensures .0)
     ∙ ap (onceIn (members (getD (cliquesFrom ws (s .args .first) (s .args .count)) (q .parent) noClique))) (separator-part ws (l .loop .at) q inside)
@@ -51,23 +49,10 @@ looked c =
 loop-holds : tie.Need-loop-holds Inv-loop μ-loop
 loop-holds c = (c .before .before .before .pre .0, refl, refl)
 
-read-requires : tie.Need-read-requires Inv-loop μ-loop
-read-requires c κs = search needs
-
-enum-known-q : tie.Need-enum-known-q Inv-loop μ-loop
-enum-known-q c = search needs
-
-enum-told : tie.Need-enum-told Inv-loop μ-loop
-enum-told c = search needs
-
-same-length : tie.Need-same-length Inv-loop μ-loop
-same-length c = search needs
-
-returns : tie.Need-returns Inv-loop μ-loop
-returns c =
-    let l = c .before .before .before .before in
-    let ws = l .before .before .before .before .args .words .now in
-    absurd (differ _ (l .loop .inv .0) (none-here ws (l .loop .at) (l .loop .left) _ (c .before .before .read .ensures .0) (c .before .before .before .loop-test .taken) (c .enum-told .given .1)))
+here-requires : tie.Need-here-requires Inv-loop μ-loop
+here-requires c κs =
+    let l = c .before in
+    first-whole (l .before .before .before .before .args .words .now) (l .loop .at) (l .loop .left) (c .loop-test .taken) (l .loop .inv .0)
 
 members-by-requires : tie.Need-members-by-requires Inv-loop μ-loop
 members-by-requires c κs = search needs
@@ -75,23 +60,21 @@ members-by-requires c κs = search needs
 separator-right-requires : tie.Need-separator-right-requires Inv-loop μ-loop
 separator-right-requires c κs =
     let k = c .before .before in
-    let inside = rw (k .before .q .given .1) at (k .before .before .before .read .ensures .1) in
+    let inside = k .here .ensures .1 in
     let m = c .before .members-by .ensures in
-    let l = k .before .before .before .before .before in
+    let l = k .before .before in
     ((omega arith, omega arith), ((m .1, m .2), omega (arith, l .loop .inv .2, l .before .before .before .before .pre .1 .1 .1)))
 
-same-length-2 : tie.Need-same-length-2 Inv-loop μ-loop
-same-length-2 c = search needs
+same-length : tie.Need-same-length Inv-loop μ-loop
+same-length c = search needs
 
-returns-2 : tie.Need-returns-2 Inv-loop μ-loop
-returns-2 c =
+returns : tie.Need-returns Inv-loop μ-loop
+returns c =
     let t = c .before .before .before in
     let k = t .before .before .before in
-    let r = k .before .before .before in
-    let l = r .before .before in
+    let l = k .before .before in
     let ws = l .before .before .before .before .args .words .now in
-    let g = k .before .q .given in
-    sym (clique-stops ws (l .loop .at) (l .loop .left) _ (r .read .ensures .0) (r .before .loop-test .taken) (g .0 .0) (g .1) (l .loop .inv .0) (right k) _ _ (l .loop .inv .1) (looked t) (not-true _ (c .if1 .taken)))
+    sym (clique-stops ws (l .loop .at) (l .loop .left) _ (k .here .ensures .0) (k .before .loop-test .taken) (k .here .result) refl (l .loop .inv .0) (right k) _ _ (l .loop .inv .1) (looked t) (not-true _ (c .if1 .taken)))
 
 sub-left : tie.Need-sub-left Inv-loop μ-loop
 sub-left c = search needs
@@ -103,21 +86,19 @@ loop-again : tie.Need-loop-again Inv-loop μ-loop
 loop-again c =
     let t = c .before .before .before in
     let k = t .before .before .before in
-    let r = k .before .before .before in
-    let l = r .before .before in
+    let l = k .before .before in
     let ws = l .before .before .before .before .args .words .now in
-    let g = k .before .q .given in
-    let more = r .before .loop-test .taken in (
-      sym (whole-next ws (l .loop .at) (l .loop .left) _ (r .read .ensures .0) more (g .0 .0) (g .1)) ∙ l .loop .inv .0,
-      clique-goes ws (l .loop .at) (l .loop .left) _ (r .read .ensures .0) more (g .0 .0) (g .1) (l .loop .inv .0) (right k) _ _ (l .loop .inv .1) (looked t) (not-false _ (c .if1 .left)),
+    let more = k .before .loop-test .taken in (
+      sym (whole-next ws (l .loop .at) (l .loop .left) _ (k .here .ensures .0) more (k .here .result) refl) ∙ l .loop .inv .0,
+      clique-goes ws (l .loop .at) (l .loop .left) _ (k .here .ensures .0) more (k .here .result) refl (l .loop .inv .0) (right k) _ _ (l .loop .inv .1) (looked t) (not-false _ (c .if1 .left)),
       omega arith,
     )
 
-same-length-3 : tie.Need-same-length-3 Inv-loop μ-loop
-same-length-3 c = search needs
+same-length-2 : tie.Need-same-length-2 Inv-loop μ-loop
+same-length-2 c = search needs
 
-returns-3 : tie.Need-returns-3 Inv-loop μ-loop
-returns-3 c =
+returns-2 : tie.Need-returns-2 Inv-loop μ-loop
+returns-2 c =
     let l = c .before in
     let s = l .before .before .before .before in
     let cs = cliquesFrom (s .args .words .now) (s .args .first) (s .args .count) in
@@ -130,17 +111,13 @@ separators-by-spec =
     Inv-loop
     μ-loop
     loop-holds
-    read-requires
-    enum-known-q
-    enum-told
-    same-length
-    returns
+    here-requires
     members-by-requires
     separator-right-requires
-    same-length-2
-    returns-2
+    same-length
+    returns
     sub-left
     loop-less
     loop-again
-    same-length-3
-    returns-3)
+    same-length-2
+    returns-2)

@@ -1,7 +1,7 @@
 use Rattle.clique_tree.specs.Trees.{snodesOf}
-use Rattle.supernode_tree.proofs.Cliques.{none-here, whole-next, from-next, from-none, snode-part}
+use Rattle.supernode_tree.proofs.Cliques.{first-whole, whole-next, from-next, from-none, snode-part}
 use Rattle.vertex_set.proofs.Walks.{all-append}
-use Rattle.layout.proofs.Tests.{differ, and-cases}
+use Rattle.layout.proofs.Tests.{and-cases}
 use Rattle.supernode_tree.specs.Reads.{Whole, cliquesFrom, cliqueOf}
 use Rattle.layout.specs.Patterns.{Clique}
 use Rattle.layout.specs.Lists.{all, join}
@@ -29,68 +29,56 @@ snode c = c .snode
 
 -- a clique was read, and its snode looked at
 stepped : (c : tie.After-all-below Inv-loop μ-loop)
-    → let l = c .before .before .before .before .before .before .before in
+    → let l = c .before .before .before .before in
     let s = l .before .before in
     let ws = s .args .words .now in
-    let q = c .before .before .before .q .given .0 .0 in
+    let q = c .before .before .here .result in
     let whole-below = all (λ x. ltb x (s .args .n)) (join snode (cliquesFrom ws (s .args .first) (s .args .count))) in
     (c .all-below .result ≡ false → whole-below ≡ false)
     × (c .all-below .result ≡ true → Whole ws (q .next) (l .loop .left - 1)
     × (whole-below ≡ all (λ x. ltb x (s .args .n)) (join snode (cliquesFrom ws (q .next) (l .loop .left - 1)))))
 stepped c =
-    let k = c .before .before in
-    let l = k .before .before .before .before .before in
+    let h = c .before .before in
+    let l = h .before .before in
     let s = l .before .before in
     let ws = s .args .words .now in
-    let g = k .before .q .given in
-    let q = g .0 .0 in
-    let r = k .before .before .before in
+    let q = h .here .result in
     let n = l .loop .left in
-    let more = r .before .loop-test .taken in
-    let inside = rw (g .1) at (r .read .ensures .1) in
+    let more = h .before .loop-test .taken in
+    let inside = h .here .ensures .1 in
     let p : ℕ → Bool = λ x. ltb x (s .args .n) in
     let rest = cliquesFrom ws (q .next) (n - 1) in
     let cases = and-cases (c .all-below .result) (all p (join snode rest)) _
-    (l .loop .inv .1 ∙ ap (λ (cs : List Clique). all p (join snode cs)) (from-next ws (l .loop .at) n _ (r .read .ensures .0) more q (g .1) (l .loop .inv .0))
+    (l .loop .inv .1 ∙ ap (λ (cs : List Clique). all p (join snode cs)) (from-next ws (l .loop .at) n _ (h .here .ensures .0) more q refl (l .loop .inv .0))
     ∙ all-append p (cliqueOf ws q .snode) (join snode rest)
     ∙ ap (λ (b : Bool). b && all p (join snode rest)) (sym (c .all-below .ensures ∙ ap (all p) (snode-part ws (l .loop .at) q inside)))) in
-    (cases .0, λ e. (sym (whole-next ws (l .loop .at) n _ (r .read .ensures .0) more q (g .1)) ∙ l .loop .inv .0, cases .1 e))
+    (cases .0, λ e. (sym (whole-next ws (l .loop .at) n _ (h .here .ensures .0) more q refl) ∙ l .loop .inv .0, cases .1 e))
 
 loop-holds : tie.Need-loop-holds Inv-loop μ-loop
 loop-holds c = (c .before .pre, refl)
 
-read-requires : tie.Need-read-requires Inv-loop μ-loop
-read-requires c κs = search needs
-
-enum-known-q : tie.Need-enum-known-q Inv-loop μ-loop
-enum-known-q c = search needs
-
-enum-told : tie.Need-enum-told Inv-loop μ-loop
-enum-told c = search needs
-
-returns : tie.Need-returns Inv-loop μ-loop
-returns c =
-    let l = c .before .before .before .before in
-    let ws = l .before .before .args .words .now in
-    absurd (differ _ (l .loop .inv .0) (none-here ws (l .loop .at) (l .loop .left) _ (c .before .before .read .ensures .0) (c .before .before .before .loop-test .taken) (c .enum-told .given .1)))
+here-requires : tie.Need-here-requires Inv-loop μ-loop
+here-requires c κs =
+    let l = c .before in
+    first-whole (l .before .before .args .words .now) (l .loop .at) (l .loop .left) (c .loop-test .taken) (l .loop .inv .0)
 
 mul-all-below : tie.Need-mul-all-below Inv-loop μ-loop
-mul-all-below c = let inside = rw (c .before .q .given .1) at (c .before .before .before .read .ensures .1) in omega arith
+mul-all-below c = let inside = c .here .ensures .1 in omega arith
 
 sub-all-below : tie.Need-sub-all-below Inv-loop μ-loop
-sub-all-below c = let inside = rw (c .before .q .given .1) at (c .before .before .before .read .ensures .1) in omega arith
+sub-all-below c = let inside = c .here .ensures .1 in omega arith
 
 part-all-below-start : tie.Need-part-all-below-start Inv-loop μ-loop
-part-all-below-start c = let inside = rw (c .before .q .given .1) at (c .before .before .before .read .ensures .1) in omega arith
+part-all-below-start c = let inside = c .here .ensures .1 in omega arith
 
 part-all-below-end : tie.Need-part-all-below-end Inv-loop μ-loop
-part-all-below-end c = let inside = rw (c .before .q .given .1) at (c .before .before .before .read .ensures .1) in omega arith
+part-all-below-end c = let inside = c .here .ensures .1 in omega arith
 
 all-below-requires : tie.Need-all-below-requires Inv-loop μ-loop
 all-below-requires c κs = search needs
 
-returns-2 : tie.Need-returns-2 Inv-loop μ-loop
-returns-2 c = sym (stepped (c .before) .0 (not-true _ (c .if1 .taken)))
+returns : tie.Need-returns Inv-loop μ-loop
+returns c = sym (stepped (c .before) .0 (not-true _ (c .if1 .taken)))
 
 sub-left : tie.Need-sub-left Inv-loop μ-loop
 sub-left c = search needs
@@ -101,8 +89,8 @@ loop-less c = search needs
 loop-again : tie.Need-loop-again Inv-loop μ-loop
 loop-again c = stepped (c .before) .1 (not-false _ (c .if1 .left))
 
-returns-3 : tie.Need-returns-3 Inv-loop μ-loop
-returns-3 c =
+returns-2 : tie.Need-returns-2 Inv-loop μ-loop
+returns-2 c =
     let l = c .before in
     let s = l .before .before in
     let ws = s .args .words .now in
@@ -115,17 +103,14 @@ snodes-below-spec =
     Inv-loop
     μ-loop
     loop-holds
-    read-requires
-    enum-known-q
-    enum-told
-    returns
+    here-requires
     mul-all-below
     sub-all-below
     part-all-below-start
     part-all-below-end
     all-below-requires
-    returns-2
+    returns
     sub-left
     loop-less
     loop-again
-    returns-3)
+    returns-2)

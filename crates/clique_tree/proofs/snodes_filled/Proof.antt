@@ -1,5 +1,5 @@
-use Rattle.layout.proofs.Tests.{and-cases, differ}
-use Rattle.supernode_tree.proofs.Cliques.{none-here, whole-next, from-next, from-none}
+use Rattle.layout.proofs.Tests.{and-cases}
+use Rattle.supernode_tree.proofs.Cliques.{first-whole, whole-next, from-next, from-none}
 use Rattle.supernode_tree.proofs.Words.{length-part}
 use Rattle.supernode_tree.specs.Reads.{Whole, cliquesFrom, cliqueOf}
 use Rattle.layout.specs.Patterns.{Clique}
@@ -26,29 +26,27 @@ abbrev filled : Clique → Bool
 filled c = not (eqb (length (c .snode)) 0)
 
 -- a clique was read
-stepped : (c : tie.After-known-told Inv-loop μ-loop)
-    → let l = c .before .before .before .before .before in
+stepped : (c : tie.After-here Inv-loop μ-loop)
+    → let l = c .before .before in
     let s = l .before .before in
     let ws = s .args .words .now in
-    let q = c .before .q .given .0 .0 in
+    let q = c .here .result in
     let all-filled = all filled (cliquesFrom ws (s .args .first) (s .args .count)) in
     (eqb (q .«snode_count») 0 ≡ true → all-filled ≡ false)
     × (eqb (q .«snode_count») 0 ≡ false → Whole ws (q .next) (l .loop .left - 1) × (all-filled ≡ all filled (cliquesFrom ws (q .next) (l .loop .left - 1))))
 stepped c =
-    let l = c .before .before .before .before .before in
+    let l = c .before .before in
     let ws = l .before .before .args .words .now in
-    let g = c .before .q .given in
-    let q = g .0 .0 in
-    let r = c .before .before .before in
+    let q = c .here .result in
     let k = l .loop .left in
-    let more = r .before .loop-test .taken in
-    let inside = rw (g .1) at (r .read .ensures .1) in
+    let more = c .before .loop-test .taken in
+    let inside = c .here .ensures .1 in
     let w : length (cliqueOf ws q .snode) ≡ q .«snode_count» = length-part (q .snode) (q .«snode_count») ws (omega arith) in
     let cases = and-cases (filled (cliqueOf ws q)) (all filled (cliquesFrom ws (q .next) (k - 1))) _
-    (l .loop .inv .1 ∙ ap (all filled) (from-next ws (l .loop .at) k _ (r .read .ensures .0) more q (g .1) (l .loop .inv .0))) in (
+    (l .loop .inv .1 ∙ ap (all filled) (from-next ws (l .loop .at) k _ (c .here .ensures .0) more q refl (l .loop .inv .0))) in (
       λ e. cases .0 (ap (λ (n : ℕ). not (eqb n 0)) w ∙ ap not e),
       λ e. (
-        sym (whole-next ws (l .loop .at) k _ (r .read .ensures .0) more q (g .1)) ∙ l .loop .inv .0,
+        sym (whole-next ws (l .loop .at) k _ (c .here .ensures .0) more q refl) ∙ l .loop .inv .0,
         cases .1 (ap (λ (n : ℕ). not (eqb n 0)) w ∙ ap not e),
       ),
     )
@@ -56,23 +54,13 @@ stepped c =
 loop-holds : tie.Need-loop-holds Inv-loop μ-loop
 loop-holds c = (c .before .pre, refl)
 
-read-requires : tie.Need-read-requires Inv-loop μ-loop
-read-requires c κs = search needs
-
-enum-known-q : tie.Need-enum-known-q Inv-loop μ-loop
-enum-known-q c = search needs
-
-enum-told : tie.Need-enum-told Inv-loop μ-loop
-enum-told c = search needs
+here-requires : tie.Need-here-requires Inv-loop μ-loop
+here-requires c κs =
+    let l = c .before in
+    first-whole (l .before .before .args .words .now) (l .loop .at) (l .loop .left) (c .loop-test .taken) (l .loop .inv .0)
 
 returns : tie.Need-returns Inv-loop μ-loop
-returns c =
-    let l = c .before .before .before .before in
-    let ws = l .before .before .args .words .now in
-    absurd (differ _ (l .loop .inv .0) (none-here ws (l .loop .at) (l .loop .left) _ (c .before .before .read .ensures .0) (c .before .before .before .loop-test .taken) (c .enum-told .given .1)))
-
-returns-2 : tie.Need-returns-2 Inv-loop μ-loop
-returns-2 c = sym (stepped (c .before .before) .0 (eq-eqb _ _ (c .if1 .taken)))
+returns c = sym (stepped (c .before .before) .0 (eq-eqb _ _ (c .if1 .taken)))
 
 sub-left : tie.Need-sub-left Inv-loop μ-loop
 sub-left c = search needs
@@ -83,8 +71,8 @@ loop-less c = search needs
 loop-again : tie.Need-loop-again Inv-loop μ-loop
 loop-again c = stepped (c .before .before) .1 (ne-eqb _ _ (c .if1 .left))
 
-returns-3 : tie.Need-returns-3 Inv-loop μ-loop
-returns-3 c =
+returns-2 : tie.Need-returns-2 Inv-loop μ-loop
+returns-2 c =
     let l = c .before in
     let ws = l .before .before .args .words .now in
     sym (l .loop .inv .1 ∙ ap (all _) (from-none ws (l .loop .at) (l .loop .left) (c .loop-test .left)))
@@ -96,12 +84,9 @@ snodes-filled-spec =
     Inv-loop
     μ-loop
     loop-holds
-    read-requires
-    enum-known-q
-    enum-told
+    here-requires
     returns
-    returns-2
     sub-left
     loop-less
     loop-again
-    returns-3)
+    returns-2)

@@ -1,7 +1,7 @@
 use Rattle.clique_tree.specs.Trees.{snodesOf}
 use Rattle.layout.proofs.Keeps.{append-nil}
-use Rattle.layout.proofs.Tests.{passes, differ, passed}
-use Rattle.supernode_tree.proofs.Cliques.{none-here, whole-next, from-next, from-none, snode-part}
+use Rattle.layout.proofs.Tests.{passes, passed}
+use Rattle.supernode_tree.proofs.Cliques.{first-whole, whole-next, from-next, from-none, snode-part}
 use Rattle.clique_tree.proofs.Snodes.{repeats-front}
 use Rattle.utils.proofs.Windows.{marked-none}
 use Rattle.utils.specs.Windows.{within, Marked}
@@ -35,30 +35,28 @@ snode c = c .snode
 -- a clique was read, and its snode marked
 stepped : (c : tie.After-mark Inv-loop μ-loop)
     → let t = c .before .before .before in
-    let l = t .before .before .before .before .before in
+    let l = t .before .before in
     let s = l .before .before .before .before .before .before .before in
     let ws = s .args .words .now in
-    let q = t .before .q .given .0 .0 in
+    let q = t .here .result in
     let now = l .loop .inv .2 .0 ++ cliqueOf ws q .snode in
     (now ++ join snode (cliquesFrom ws (q .next) (l .loop .left - 1)) ≡ join snode (cliquesFrom ws (s .args .first) (s .args .count)))
     × (c .mark .result ≡ distinct (keep (within (s .args .low) (length (l .loop .marks))) now))
     × (c .mark .result ≡ true → Marked (s .args .low) (c .mark .last .1 .1 .0) now)
 stepped c =
     let t = c .before .before .before in
-    let l = t .before .before .before .before .before in
+    let l = t .before .before in
     let s = l .before .before .before .before .before .before .before in
     let ws = s .args .words .now in
-    let g = t .before .q .given in
-    let q = g .0 .0 in
-    let r = t .before .before .before in
+    let q = t .here .result in
     let n = l .loop .left in
     let i = l .loop .inv .2 in
     let met = i .0 in
-    let inside = rw (g .1) at (r .read .ensures .1) in
+    let inside = t .here .ensures .1 in
     let rest = cliquesFrom ws (q .next) (n - 1) in
     let done = rw (snode-part ws (l .loop .at) q inside) at (c .mark .ensures met (i .2) (i .3)) in (
       append-assoc met (cliqueOf ws q .snode) (join snode rest)
-          ∙ ap (λ (cs : List Clique). met ++ join snode cs) (sym (from-next ws (l .loop .at) n _ (r .read .ensures .0) (r .before .loop-test .taken) q (g .1) (l .loop .inv .0)))
+          ∙ ap (λ (cs : List Clique). met ++ join snode cs) (sym (from-next ws (l .loop .at) n _ (t .here .ensures .0) (t .before .loop-test .taken) q refl (l .loop .inv .0)))
           ∙ i .1,
       done .0,
       done .1,
@@ -73,53 +71,40 @@ loop-holds c =
     let s = k .before .before .before .before in
     (s .pre, refl, ([], refl, rw (k .clear .ensures) (marked-none (s .args .low) (length (s .args .marks .now))), tt))
 
-read-requires : tie.Need-read-requires Inv-loop μ-loop
-read-requires c κs = search needs
+here-requires : tie.Need-here-requires Inv-loop μ-loop
+here-requires c κs =
+    let l = c .before in
+    first-whole (l .before .before .before .before .before .before .before .args .words .now) (l .loop .at) (l .loop .left) (c .loop-test .taken) (l .loop .inv .0)
 
-enum-known-q : tie.Need-enum-known-q Inv-loop μ-loop
-enum-known-q c = search needs
+mul-mark : tie.Need-mul-mark Inv-loop μ-loop
+mul-mark c = let inside = c .here .ensures .1 in omega arith
 
-enum-told : tie.Need-enum-told Inv-loop μ-loop
-enum-told c = search needs
+sub-mark : tie.Need-sub-mark Inv-loop μ-loop
+sub-mark c = let inside = c .here .ensures .1 in omega arith
+
+part-mark-start : tie.Need-part-mark-start Inv-loop μ-loop
+part-mark-start c = let inside = c .here .ensures .1 in omega arith
+
+part-mark-end : tie.Need-part-mark-end Inv-loop μ-loop
+part-mark-end c = let inside = c .here .ensures .1 in omega arith
+
+mark-requires : tie.Need-mark-requires Inv-loop μ-loop
+mark-requires c κs = search needs
 
 same-length : tie.Need-same-length Inv-loop μ-loop
 same-length c = search needs
 
 returns : tie.Need-returns Inv-loop μ-loop
 returns c =
-    let l = c .before .before .before .before in
-    let ws = l .before .before .before .before .before .before .before .args .words .now in
-    absurd (differ _ (l .loop .inv .0) (none-here ws (l .loop .at) (l .loop .left) _ (c .before .before .read .ensures .0) (c .before .before .before .loop-test .taken) (c .enum-told .given .1)))
-
-mul-mark : tie.Need-mul-mark Inv-loop μ-loop
-mul-mark c = let inside = rw (c .before .q .given .1) at (c .before .before .before .read .ensures .1) in omega arith
-
-sub-mark : tie.Need-sub-mark Inv-loop μ-loop
-sub-mark c = let inside = rw (c .before .q .given .1) at (c .before .before .before .read .ensures .1) in omega arith
-
-part-mark-start : tie.Need-part-mark-start Inv-loop μ-loop
-part-mark-start c = let inside = rw (c .before .q .given .1) at (c .before .before .before .read .ensures .1) in omega arith
-
-part-mark-end : tie.Need-part-mark-end Inv-loop μ-loop
-part-mark-end c = let inside = rw (c .before .q .given .1) at (c .before .before .before .read .ensures .1) in omega arith
-
-mark-requires : tie.Need-mark-requires Inv-loop μ-loop
-mark-requires c κs = search needs
-
-same-length-2 : tie.Need-same-length-2 Inv-loop μ-loop
-same-length-2 c = search needs
-
-returns-2 : tie.Need-returns-2 Inv-loop μ-loop
-returns-2 c =
     let k = c .before .before .before in
     let t = k .before .before .before in
-    let l = t .before .before .before .before .before in
+    let l = t .before .before in
     let s = l .before .before .before .before .before .before .before in
     let m = stepped k in
     let low = s .args .low in
     let n : length (l .loop .marks) ≡ length (s .args .marks .now) = omega arith in
     let ws = s .args .words .now in
-    let q = t .before .q .given .0 .0 in
+    let q = t .here .result in
     let p : ℕ → Bool = within low (length (s .args .marks .now)) in
     sym (ap (λ (x : List ℕ). distinct (keep p x)) (sym (m .0))
     ∙ repeats-front p (l .loop .inv .2 .0 ++ cliqueOf ws q .snode) (join snode (cliquesFrom ws (q .next) (l .loop .left - 1)))
@@ -135,24 +120,23 @@ loop-again : tie.Need-loop-again Inv-loop μ-loop
 loop-again c =
     let k = c .before .before .before in
     let t = k .before .before .before in
-    let l = t .before .before .before .before .before in
+    let l = t .before .before in
     let s = l .before .before .before .before .before .before .before in
     let ws = s .args .words .now in
-    let q = t .before .q .given .0 .0 in
-    let r = t .before .before .before in
+    let q = t .here .result in
     let m = stepped k in
     let yes = not-false _ (c .if1 .left) in
     let n : length (k .mark .last .1 .1 .0) ≡ length (l .loop .marks) = omega arith in (
-      sym (whole-next ws (l .loop .at) (l .loop .left) _ (r .read .ensures .0) (r .before .loop-test .taken) q (t .before .q .given .1)) ∙ l .loop .inv .0,
+      sym (whole-next ws (l .loop .at) (l .loop .left) _ (t .here .ensures .0) (t .before .loop-test .taken) q refl) ∙ l .loop .inv .0,
       omega arith,
       (l .loop .inv .2 .0 ++ cliqueOf ws q .snode, m .0, m .2 yes, rw n (passes _ (sym (m .1) ∙ yes))),
     )
 
-same-length-3 : tie.Need-same-length-3 Inv-loop μ-loop
-same-length-3 c = search needs
+same-length-2 : tie.Need-same-length-2 Inv-loop μ-loop
+same-length-2 c = search needs
 
-returns-3 : tie.Need-returns-3 Inv-loop μ-loop
-returns-3 c =
+returns-2 : tie.Need-returns-2 Inv-loop μ-loop
+returns-2 c =
     let l = c .before in
     let s = l .before .before .before .before .before .before .before in
     let ws = s .args .words .now in
@@ -170,20 +154,16 @@ snodes-once-within-spec =
     μ-loop
     clear-requires
     loop-holds
-    read-requires
-    enum-known-q
-    enum-told
-    same-length
-    returns
+    here-requires
     mul-mark
     sub-mark
     part-mark-start
     part-mark-end
     mark-requires
-    same-length-2
-    returns-2
+    same-length
+    returns
     sub-left
     loop-less
     loop-again
-    same-length-3
-    returns-3)
+    same-length-2
+    returns-2)

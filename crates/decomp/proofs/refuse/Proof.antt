@@ -14,10 +14,6 @@ use Rattle.chordal_info.proofs.Routes.{entries-check}
 use borrow.Author.Needs.{needs}
 use Rattle.decomp.proofs.refuse.Statement.{statement}
 use Rattle.decomp.proofs.refuse.Tie as tie
-use Rattle.decomp.proofs.refuse.Reads as reads
-use Rattle.decomp.proofs.refuse.Lts as lts
-use Rattle.checks.proofs.check_problem.Reads as check-problem-reads
-use Rattle.chordal_info.proofs.check_route.Reads as check-route-reads
 
 check-problem-requires : tie.Need-check-problem-requires
 check-problem-requires c κs = search needs

@@ -9,10 +9,6 @@ use Rattle.decomp.proofs.Rooms.{sizes-first, rooms-next}
 use borrow.Author.Needs.{needs}
 use Rattle.decomp.proofs.refuse_cut.Statement.{statement}
 use Rattle.decomp.proofs.refuse_cut.Tie as tie
-use Rattle.decomp.proofs.refuse_cut.Reads as reads
-use Rattle.decomp.proofs.refuse_cut.Lts as lts
-use Rattle.decomp.proofs.sizes.Reads as sizes-reads
-use Rattle.decomp.proofs.rooms_right.Reads as rooms-right-reads
 
 abbrev given : tie.Start → Problem
 given s =

@@ -7,8 +7,6 @@ use native.Mathlib.Omega.{arith}
 use borrow.Author.Needs.{needs}
 use Rattle.decomp.proofs.rooms_right.Statement.{statement}
 use Rattle.decomp.proofs.rooms_right.Tie as tie
-use Rattle.decomp.proofs.rooms_right.Reads as reads
-use Rattle.decomp.proofs.rooms_right.Lts as lts
 
 abbrev Inv-loop : tie.InvT-loop
 Inv-loop ks rs i₀ i = (i ≤ length ks) × (roomy ks rs ≡ roomy (drop i ks) (drop i rs))

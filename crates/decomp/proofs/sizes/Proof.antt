@@ -18,11 +18,6 @@ use native.Mathlib.Omega.{arith}
 use borrow.Author.Needs.{needs}
 use Rattle.decomp.proofs.sizes.Statement.{statement}
 use Rattle.decomp.proofs.sizes.Tie as tie
-use Rattle.decomp.proofs.sizes.Reads as reads
-use Rattle.decomp.proofs.sizes.Lts as lts
-use Rattle.chordal_info.proofs.write_sizes.Reads as write-sizes-reads
-use Rattle.decomp.proofs.refuse.Reads as refuse-reads
-use Rattle.parts.proofs.get_decomposed_dim_and_overlaps.Reads as get-decomposed-dim-and-overlaps-reads
 
 abbrev given : tie.Start → Problem
 given s =

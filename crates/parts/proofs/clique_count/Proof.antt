@@ -8,9 +8,6 @@ use Rattle.supernode_tree.proofs.Cliques.{no-head, right-whole, pattern-whole}
 use borrow.Author.Needs.{needs}
 use Rattle.parts.proofs.clique_count.Statement.{statement}
 use Rattle.parts.proofs.clique_count.Tie as tie
-use Rattle.parts.proofs.clique_count.Reads as reads
-use Rattle.parts.proofs.clique_count.Lts as lts
-use Rattle.supernode_tree.proofs.Pattern.read.Reads as read-reads
 
 read-requires : tie.Need-read-requires
 read-requires c κs = search needs

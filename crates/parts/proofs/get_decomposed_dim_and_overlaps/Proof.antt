@@ -16,12 +16,6 @@ use native.Mathlib.Omega.{arith}
 use borrow.Author.Needs.{needs}
 use Rattle.parts.proofs.get_decomposed_dim_and_overlaps.Statement.{statement}
 use Rattle.parts.proofs.get_decomposed_dim_and_overlaps.Tie as tie
-use Rattle.parts.proofs.get_decomposed_dim_and_overlaps.Reads as reads
-use Rattle.parts.proofs.get_decomposed_dim_and_overlaps.Lts as lts
-use Rattle.parts.proofs.Place.next.Reads as next-reads
-use Rattle.parts.proofs.Place.start.Reads as start-reads
-use Rattle.parts.proofs.clique_count.Reads as clique-count-reads
-use Rattle.supernode_tree.proofs.get_decomposed_dim_and_overlaps.Reads as get-decomposed-dim-and-overlaps-reads
 
 abbrev Inv-loop : tie.InvT-loop
 Inv-loop m cones count words place₀ dim₀ overlaps₀ new-cones₀ place dim overlaps new-cones =

@@ -1,68 +1,32 @@
-use Rattle.supernode_tree.proofs.Cliques.{none-here, whole-next, whole-none}
-use Rattle.supernode_tree.specs.Reads.{whole}
+use Rattle.supernode_tree.proofs.Many.{ended-whole}
+use Rattle.supernode_tree.specs.Reads.{whole, endRead}
 use Rattle.layout.specs.Patterns.{readCliques}
 use lib.ListN.{drop}
-use mathlib.Core.Path.{_≡_, sym, _∙_}
+use mathlib.Core.Path.{sym, ap, _∙_}
 use borrow.Author.Needs.{needs}
 use Rattle.supernode_tree.proofs.cliques_whole.Statement.{statement}
 use Rattle.supernode_tree.proofs.cliques_whole.Tie as tie
 
-abbrev Inv-loop : tie.InvT-loop
-Inv-loop words first count at₀ left₀ at left = whole (readCliques left (drop at words)) ≡ whole (readCliques count (drop first words))
+cliques-end-requires : tie.Need-cliques-end-requires
+cliques-end-requires c κs = search needs
 
-abbrev μ-loop : tie.MeasureT-loop
-μ-loop words first count at₀ left₀ at left = left
-
-loop-holds : tie.Need-loop-holds Inv-loop μ-loop
-loop-holds c = search needs
-
-read-requires : tie.Need-read-requires Inv-loop μ-loop
-read-requires c κs = search needs
-
-enum-known-q : tie.Need-enum-known-q Inv-loop μ-loop
-enum-known-q c = search needs
-
-enum-told : tie.Need-enum-told Inv-loop μ-loop
+enum-told : tie.Need-enum-told
 enum-told c = search needs
 
-returns : tie.Need-returns Inv-loop μ-loop
+enum-told-2 : tie.Need-enum-told-2
+enum-told-2 c = search needs
+
+returns : tie.Need-returns
 returns c =
-    let l = c .before .before .before .before in
-    let ws = l .before .before .args .words .now in
-    sym (none-here ws (l .loop .at) (l .loop .left) _ (c .before .before .read .ensures .0) (c .before .before .before .loop-test .taken) (c .enum-told .given .1)) ∙ l .loop .inv
+    let s = c .before .before .before .before in
+    let ws = s .args .words .now in
+    ap whole (sym (ap (endRead ws) (c .enum-told2 .given .1)) ∙ c .before .before .cliques-end .ensures) ∙ ended-whole (readCliques (s .args .count) (drop (s .args .first) ws))
 
-sub-left : tie.Need-sub-left Inv-loop μ-loop
-sub-left c = search needs
-
-loop-less : tie.Need-loop-less Inv-loop μ-loop
-loop-less c = search needs
-
-loop-again : tie.Need-loop-again Inv-loop μ-loop
-loop-again c =
-    let l = c .before .before .before .before .before in
-    let ws = l .before .before .args .words .now in
-    let g = c .before .q .given in
-    let r = c .before .before .before in
-    sym (whole-next ws (l .loop .at) (l .loop .left) _ (r .read .ensures .0) (r .before .loop-test .taken) (g .0 .0) (g .1)) ∙ l .loop .inv
-
-returns-2 : tie.Need-returns-2 Inv-loop μ-loop
+returns-2 : tie.Need-returns-2
 returns-2 c =
-    let l = c .before in
-    let ws = l .before .before .args .words .now in
-    sym (whole-none ws (l .loop .at) (l .loop .left) (c .loop-test .left)) ∙ l .loop .inv
+    let s = c .before .before .before .before in
+    let ws = s .args .words .now in
+    ap whole (sym (ap (endRead ws) (c .enum-told .given .1)) ∙ c .before .before .cliques-end .ensures) ∙ ended-whole (readCliques (s .args .count) (drop (s .args .first) ws))
 
 pub cliques-whole-spec : {M : Type 1} → statement M
-cliques-whole-spec =
-    tie.close
-    (tie.spec
-    Inv-loop
-    μ-loop
-    loop-holds
-    read-requires
-    enum-known-q
-    enum-told
-    returns
-    sub-left
-    loop-less
-    loop-again
-    returns-2)
+cliques-whole-spec = tie.close (tie.spec cliques-end-requires enum-told enum-told-2 returns returns-2)

@@ -10,7 +10,8 @@ use Rattle.layout.specs.Patterns.{blockSize}
 use Rattle.layout.proofs.Tests.{passes}
 use Rattle.supernode_tree.specs.Reads.{Whole, cliquesFrom, cliqueOf}
 use Rattle.supernode_tree.proofs.Cliques.{first-whole, whole-next, from-next, from-none, separator-size, block-size}
-use Rattle.supernode_tree.proofs.Sizes.{rowsOf, overlapsOf, atMost, triangle-small, all-cons, sum-cons, sum-none}
+use Rattle.supernode_tree.specs.Sizes.{atMost}
+use Rattle.supernode_tree.proofs.Sizes.{rowsOf, overlapsOf, triangle-small, all-cons, sum-cons, sum-none}
 use native.Mathlib.Omega.{arith}
 use borrow.Author.Needs.{needs}
 use Rattle.supernode_tree.proofs.dim_and_overlaps.Statement.{statement}

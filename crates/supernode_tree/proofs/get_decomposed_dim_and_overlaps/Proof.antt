@@ -7,7 +7,8 @@ use Rattle.supernode_tree.specs.Reads.{patternAt, patternRead, headOf, W
 use Rattle.supernode_tree.specs.Sizes.{overlapRows}
 use Rattle.supernode_tree.proofs.Words.{head-found}
 use Rattle.supernode_tree.proofs.Cliques.{no-head, right-whole, pattern-whole}
-use Rattle.supernode_tree.proofs.Sizes.{atMost, blocks-small}
+use Rattle.supernode_tree.specs.Sizes.{atMost}
+use Rattle.supernode_tree.proofs.Sizes.{blocks-small}
 use borrow.Author.Needs.{needs}
 use Rattle.supernode_tree.proofs.get_decomposed_dim_and_overlaps.Statement.{statement}
 use Rattle.supernode_tree.proofs.get_decomposed_dim_and_overlaps.Tie as tie

@@ -1,5 +1,4 @@
-use Rattle.supernode_tree.proofs.Cliques.{none-here, whole-next, from-next, from-none, members-part, getD-later}
-use Rattle.layout.proofs.Tests.{differ}
+use Rattle.supernode_tree.proofs.Cliques.{first-whole, whole-next, from-next, from-none, members-part, getD-later}
 use Rattle.supernode_tree.specs.Reads.{Whole, cliquesFrom, cliqueOf}
 use Rattle.layout.specs.Patterns.{Clique, noClique, members}
 use lib.ListN.{getD}
@@ -21,35 +20,34 @@ abbrev μ-loop : tie.MeasureT-loop
 loop-holds : tie.Need-loop-holds Inv-loop μ-loop
 loop-holds c = (c .before .pre, refl)
 
-read-requires : tie.Need-read-requires Inv-loop μ-loop
-read-requires c κs = search needs
+here-requires : tie.Need-here-requires Inv-loop μ-loop
+here-requires c κs =
+    let l = c .before in
+    first-whole (l .before .before .args .words .now) (l .loop .at) (l .loop .left) (c .loop-test .taken) (l .loop .inv .0)
 
-enum-known-q : tie.Need-enum-known-q Inv-loop μ-loop
-enum-known-q c = search needs
-
-enum-told : tie.Need-enum-told Inv-loop μ-loop
-enum-told c = search needs
+-- the clique read is the first of those left
+at-skip : (c : tie.After-here Inv-loop μ-loop) → let l = c .before .before in
+    let s = l .before .before in
+    let ws = s .args .words .now in
+    let q = c .here .result in
+    getD (cliquesFrom ws (s .args .first) (s .args .count)) (s .args .c) noClique
+    ≡ getD (cliqueOf ws q ∷ cliquesFrom ws (q .next) (l .loop .left - 1)) (l .loop .skip) noClique
+at-skip c =
+    let l = c .before .before in
+    let ws = l .before .before .args .words .now in
+    l .loop .inv .1
+    ∙ ap (λ (cs : List Clique). getD cs (l .loop .skip) noClique)
+    (from-next ws (l .loop .at) (l .loop .left) _ (c .here .ensures .0) (c .before .loop-test .taken) (c .here .result) refl (l .loop .inv .0))
 
 returns : tie.Need-returns Inv-loop μ-loop
 returns c =
-    let l = c .before .before .before .before in
+    let r = c .before in
+    let l = r .before .before in
     let ws = l .before .before .args .words .now in
-    absurd (differ _ (l .loop .inv .0) (none-here ws (l .loop .at) (l .loop .left) _ (c .before .before .read .ensures .0) (c .before .before .before .loop-test .taken) (c .enum-told .given .1)))
-
-returns-2 : tie.Need-returns-2 Inv-loop μ-loop
-returns-2 c =
-    let k = c .before in
-    let l = k .before .before .before .before .before in
-    let ws = l .before .before .args .words .now in
-    let g = k .before .q .given in
-    let q = g .0 .0 in
-    let r = k .before .before .before in
-    let inside = rw (g .1) at (r .read .ensures .1) in
+    let q = r .here .result in
     let e : l .loop .skip ≡ 0 = omega arith in (
-      members-part ws (l .loop .at) q inside
-          ∙ ap members (sym (l .loop .inv .1
-          ∙ ap (λ (cs : List Clique). getD cs (l .loop .skip) noClique) (from-next ws (l .loop .at) (l .loop .left) _ (r .read .ensures .0) (r .before .loop-test .taken) q (g .1) (l .loop .inv .0))
-          ∙ ap (λ (n : ℕ). getD (cliqueOf ws q ∷ cliquesFrom ws (q .next) (l .loop .left - 1)) n noClique) e)),
+      members-part ws (l .loop .at) q (r .here .ensures .1)
+          ∙ ap members (sym (at-skip r ∙ ap (λ (n : ℕ). getD (cliqueOf ws q ∷ cliquesFrom ws (q .next) (l .loop .left - 1)) n noClique) e)),
       omega arith,
       omega arith,
     )
@@ -65,20 +63,16 @@ loop-less c = search needs
 
 loop-again : tie.Need-loop-again Inv-loop μ-loop
 loop-again c =
-    let k = c .before in
-    let l = k .before .before .before .before .before in
+    let r = c .before in
+    let l = r .before .before in
     let ws = l .before .before .args .words .now in
-    let g = k .before .q .given in
-    let q = g .0 .0 in
-    let r = k .before .before .before in (
-      sym (whole-next ws (l .loop .at) (l .loop .left) _ (r .read .ensures .0) (r .before .loop-test .taken) q (g .1)) ∙ l .loop .inv .0,
-      l .loop .inv .1
-          ∙ ap (λ (cs : List Clique). getD cs (l .loop .skip) noClique) (from-next ws (l .loop .at) (l .loop .left) _ (r .read .ensures .0) (r .before .loop-test .taken) q (g .1) (l .loop .inv .0))
-          ∙ getD-later (cliqueOf ws q) (cliquesFrom ws (q .next) (l .loop .left - 1)) (l .loop .skip) noClique (c .if1 .left),
+    let q = r .here .result in (
+      sym (whole-next ws (l .loop .at) (l .loop .left) _ (r .here .ensures .0) (r .before .loop-test .taken) q refl) ∙ l .loop .inv .0,
+      at-skip r ∙ getD-later (cliqueOf ws q) (cliquesFrom ws (q .next) (l .loop .left - 1)) (l .loop .skip) noClique (c .if1 .left),
     )
 
-returns-3 : tie.Need-returns-3 Inv-loop μ-loop
-returns-3 c =
+returns-2 : tie.Need-returns-2 Inv-loop μ-loop
+returns-2 c =
     let l = c .before in
     let ws = l .before .before .args .words .now in
     (ap members (sym (l .loop .inv .1 ∙ ap (λ (cs : List Clique). getD cs (l .loop .skip) noClique) (from-none ws (l .loop .at) (l .loop .left) (c .loop-test .left)))), omega arith, omega arith)
@@ -90,13 +84,10 @@ members-of-spec =
     Inv-loop
     μ-loop
     loop-holds
-    read-requires
-    enum-known-q
-    enum-told
+    here-requires
     returns
-    returns-2
     sub-skip
     sub-left
     loop-less
     loop-again
-    returns-3)
+    returns-2)

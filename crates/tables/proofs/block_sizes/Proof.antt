@@ -11,7 +11,8 @@ use Rattle.layout.proofs.Buffers.{copy-more, copy-done}
 use Rattle.supernode_tree.specs.Reads.{Whole, cliquesFrom, cliqueOf}
 use Rattle.supernode_tree.proofs.Many.{many-length}
 use Rattle.supernode_tree.proofs.Cliques.{none-here, whole-next, from-next, block-size}
-use Rattle.supernode_tree.proofs.Sizes.{atMost, all-cons}
+use Rattle.supernode_tree.specs.Sizes.{atMost}
+use Rattle.supernode_tree.proofs.Sizes.{all-cons}
 use Rattle.tables.proofs.Laws.{first-of-drop, rest-of-drop}
 use native.Mathlib.Omega.{arith}
 use borrow.Author.Needs.{needs}

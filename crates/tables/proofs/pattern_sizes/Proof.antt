@@ -3,7 +3,8 @@ use mathlib.Core.List.{map}
 use Rattle.layout.specs.Lists.{all, written}
 use Rattle.layout.specs.Patterns.{Pattern, blockSize}
 use Rattle.supernode_tree.specs.Reads.{patternAt}
-use Rattle.supernode_tree.proofs.Sizes.{atMost, blocks-small}
+use Rattle.supernode_tree.specs.Sizes.{atMost}
+use Rattle.supernode_tree.proofs.Sizes.{blocks-small}
 use Rattle.blocks.proofs.Offsets.{not-short, cliques-here, pattern-here, count-few, cliques-count}
 use native.Mathlib.Omega.{arith}
 use borrow.Author.Needs.{needs}

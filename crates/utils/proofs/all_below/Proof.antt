@@ -9,8 +9,6 @@ use native.Mathlib.Omega.{arith}
 use borrow.Author.Needs.{needs}
 use Rattle.utils.proofs.all_below.Statement.{statement}
 use Rattle.utils.proofs.all_below.Tie as tie
-use Rattle.utils.proofs.all_below.Reads as reads
-use Rattle.utils.proofs.all_below.Lts as lts
 
 abbrev Inv-loop : tie.InvT-loop
 Inv-loop words n i₀ i = (i ≤ length words) × (all (λ x. ltb x n) words ≡ all (λ x. ltb x n) (drop i words))

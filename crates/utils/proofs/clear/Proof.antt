@@ -8,8 +8,6 @@ use native.Mathlib.Omega.{arith}
 use borrow.Author.Needs.{needs}
 use Rattle.utils.proofs.clear.Statement.{statement}
 use Rattle.utils.proofs.clear.Tie as tie
-use Rattle.utils.proofs.clear.Reads as reads
-use Rattle.utils.proofs.clear.Lts as lts
 
 abbrev Inv-loop : tie.InvT-loop
 Inv-loop marks₀ i₀ marks i = (i ≤ length marks₀) × (length marks ≡ length marks₀) × (marks ≡ replicate i false ++ drop i marks₀)

@@ -13,10 +13,6 @@ use native.Mathlib.Omega.{arith}
 use borrow.Author.Needs.{needs}
 use Rattle.utils.proofs.inverse.Statement.{statement}
 use Rattle.utils.proofs.inverse.Tie as tie
-use Rattle.utils.proofs.inverse.Reads as reads
-use Rattle.utils.proofs.inverse.Lts as lts
-use Rattle.utils.proofs.is_permutation.Reads as is-permutation-reads
-use Rattle.utils.proofs.scatter.Reads as scatter-reads
 
 is-permutation-requires : tie.Need-is-permutation-requires
 is-permutation-requires c κs = search needs

@@ -14,8 +14,6 @@ use native.Mathlib.Omega.{arith}
 use borrow.Author.Needs.{needs}
 use Rattle.utils.proofs.mark.Statement.{statement}
 use Rattle.utils.proofs.mark.Tie as tie
-use Rattle.utils.proofs.mark.Reads as reads
-use Rattle.utils.proofs.mark.Lts as lts
 
 abbrev Inv-loop : tie.InvT-loop
 Inv-loop words low marks₀ i₀ marks i =

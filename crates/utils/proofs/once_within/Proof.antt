@@ -6,10 +6,6 @@ use native.Mathlib.Omega.{arith}
 use borrow.Author.Needs.{needs}
 use Rattle.utils.proofs.once_within.Statement.{statement}
 use Rattle.utils.proofs.once_within.Tie as tie
-use Rattle.utils.proofs.once_within.Reads as reads
-use Rattle.utils.proofs.once_within.Lts as lts
-use Rattle.utils.proofs.clear.Reads as clear-reads
-use Rattle.utils.proofs.mark.Reads as mark-reads
 
 clear-requires : tie.Need-clear-requires
 clear-requires c κs = search needs

@@ -10,10 +10,6 @@ use native.Mathlib.Omega.{arith}
 use borrow.Author.Needs.{needs}
 use Rattle.utils.proofs.permutation_by.Statement.{statement}
 use Rattle.utils.proofs.permutation_by.Tie as tie
-use Rattle.utils.proofs.permutation_by.Reads as reads
-use Rattle.utils.proofs.permutation_by.Lts as lts
-use Rattle.utils.proofs.all_below.Reads as all-below-reads
-use Rattle.utils.proofs.once_within.Reads as once-within-reads
 
 abbrev Inv-loop : tie.InvT-loop
 Inv-loop words marks₀ n low₀ marks low = (low ≤ length words) × (length marks ≡ length marks₀) × T (distinct (keep (λ x. ltb x low) words))

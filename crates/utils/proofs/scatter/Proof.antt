@@ -1,28 +1,26 @@
-use Rattle.utils.proofs.Scattered.{scattered-none, scattered-step, scattered-done}
+use Rattle.utils.proofs.Scattered.{scattered-step, scattered-done}
 use Rattle.utils.specs.Scattered.{scattered}
 use lib.ListN.{length, drop, getD, length-set}
-use Prim.Native.Nat.{_+_, _-_, _≤_, _<_}
+use Prim.Native.Nat.{_-_, _≤_, _<_}
 use mathlib.Core.Path.{_≡_, sym, _∙_}
 use native.Mathlib.Omega.{arith}
 use borrow.Author.Needs.{needs}
 use Rattle.utils.proofs.scatter.Statement.{statement}
 use Rattle.utils.proofs.scatter.Tie as tie
-use Rattle.utils.proofs.scatter.Reads as reads
-use Rattle.utils.proofs.scatter.Lts as lts
 
 abbrev Inv-loop : tie.InvT-loop
-Inv-loop words first out₀ k₀ out k =
-    (k ≤ length words) × (length out ≡ length out₀) × (scattered (first + k) (drop k words) out ≡ scattered first words out₀)
+Inv-loop words out₀ k₀ out k =
+    (k ≤ length words) × (length out ≡ length out₀) × (scattered k (drop k words) out ≡ scattered 0 words out₀)
 
 abbrev μ-loop : tie.MeasureT-loop
-μ-loop words first out₀ k₀ out k = length words - k
+μ-loop words out₀ k₀ out k = length words - k
 
 -- the place to write is inside
 at-out : (c : tie.In-loop Inv-loop μ-loop) → getD (c .before .before .args .words .now) (c .before .loop .k) 0 < length (c .before .loop .out)
 at-out c = omega (arith, c .before .before .pre .0 (c .before .loop .k) (c .loop-test .taken))
 
 loop-holds : tie.Need-loop-holds Inv-loop μ-loop
-loop-holds c = (search needs, search needs, scattered-none (c .args .first) (c .args .words .now) (c .args .out .now))
+loop-holds c = search needs
 
 mul-w : tie.Need-mul-w Inv-loop μ-loop
 mul-w c = search needs
@@ -35,9 +33,6 @@ cast-w c = omega (arith, c .shared-slice-known .given (c .before .before .loop .
 
 cast-out : tie.Need-cast-out Inv-loop μ-loop
 cast-out c = omega (arith, c .shared-slice-known .given (c .before .before .loop .k))
-
-add-out : tie.Need-add-out Inv-loop μ-loop
-add-out c = omega arith
 
 mul-out : tie.Need-mul-out Inv-loop μ-loop
 mul-out c = omega (arith, at-out (c .before))
@@ -57,7 +52,7 @@ loop-again c =
     let s = l .before in (
       omega arith,
       simp length-set (l .loop .inv .1),
-      sym (scattered-step (s .args .first) (s .args .words .now) (l .loop .out) (l .loop .k) (omega arith)) ∙ l .loop .inv .2,
+      sym (scattered-step (s .args .words .now) (l .loop .out) (l .loop .k) (omega arith)) ∙ l .loop .inv .2,
     )
 
 same-length : tie.Need-same-length Inv-loop μ-loop
@@ -67,7 +62,7 @@ returns : tie.Need-returns Inv-loop μ-loop
 returns c =
     let l = c .before in
     let s = l .before in
-    sym (scattered-done (s .args .first) (s .args .words .now) (l .loop .out) (l .loop .k) (c .loop-test .left)) ∙ l .loop .inv .2
+    sym (scattered-done (s .args .words .now) (l .loop .out) (l .loop .k) (c .loop-test .left)) ∙ l .loop .inv .2
 
 pub scatter-spec : {M : Type 1} → statement M
 scatter-spec =
@@ -80,7 +75,6 @@ scatter-spec =
     shared-slice-read-w
     cast-w
     cast-out
-    add-out
     mul-out
     slice-write-out
     add-k

@@ -14,10 +14,6 @@ use native.Mathlib.Omega.{arith}
 use borrow.Author.Needs.{needs}
 use Rattle.parts.proofs.Place.next.Statement.{statement}
 use Rattle.parts.proofs.Place.next.Tie as tie
-use Rattle.parts.proofs.Place.next.Reads as reads
-use Rattle.parts.proofs.Place.next.Lts as lts
-use Rattle.supportedcone.proofs.cone_rows.Reads as cone-rows-reads
-use Rattle.supernode_tree.proofs.pattern_next.Reads as pattern-next-reads
 
 -- a record is there
 here : (c : tie.Else1) → let s = c .before .before .before in s .args .self .cone < length (records (s .args .cones .now))

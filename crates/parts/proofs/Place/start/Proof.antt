@@ -2,8 +2,6 @@ use Rattle.parts.proofs.Laws.{starts}
 use native.Mathlib.Omega.{arith}
 use Rattle.parts.proofs.Place.start.Statement.{statement}
 use Rattle.parts.proofs.Place.start.Tie as tie
-use Rattle.parts.proofs.Place.start.Reads as reads
-use Rattle.parts.proofs.Place.start.Lts as lts
 
 returns : tie.Need-returns
 returns c =

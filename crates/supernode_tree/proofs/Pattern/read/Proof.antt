@@ -56,7 +56,7 @@ add-t12 c = search needs
 returns-4 : tie.Need-returns-4
 returns-4 c =
     let s = c .before .before .before .before .before .before in
-    (sym (head-whole (s .args .words .now) (s .args .at) (omega arith)), (refl, refl, omega arith))
+    (sym (head-whole (s .args .words .now) (s .args .at) (omega arith)), (refl, refl, omega arith, omega (arith, c .before .before .shared-slice-known2 .given (s .args .at + 1))))
 
 pub read-spec : {M : Type 1} → statement M
 read-spec =
