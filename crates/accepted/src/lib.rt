@@ -6,7 +6,7 @@ ghost use Prim.Native.Nat.{_+_, _-_, _*_, _≤_, _<_};
 ghost use lib.ListN.{length, take, drop};
 ghost use Rattle.supernode_tree.specs.Reads.{Whole, cliquesFrom};
 ghost use Rattle.supernode_tree.specs.Offsets.{OffsetsEvery};
-ghost use Rattle.clique_tree.specs.Trees.{separatorOk, separatorsOk};
+ghost use Rattle.clique_tree.specs.Trees.{separatorOk};
 ghost use Rattle.layout.specs.Patterns.{patterns};
 ghost use Rattle.accepted.specs.Accepted.{Holds, Summed, AllAre, MeetsMore, SnodesHold, SeparatorsHold, CliquesHold, MembersHold, HoldsAt, Few};
 use scalarmath::triangular_number;
@@ -117,9 +117,7 @@ fn separator_holds(
         return false;
     }
     let at = offsets[q.parent as usize];
-    let CliqueRead::Clique(m) = Clique::read(words, at) else {
-        return false;
-    };
+    let m = Clique::here(words, at);
     let b = m.snode;
     let f = m.next;
     vertex_set::once_in(&words[a..e], &words[b..f], n, marks)

@@ -9,7 +9,6 @@ use lib.Ieee.{Float}
 use Rattle.layout.specs.Lists.{all}
 use Rattle.layout.specs.Problem.{Problem, Csc}
 use Rattle.layout.specs.Patterns.{patterns}
-use Rattle.layout.specs.Blocks.{Part, blockRowCount, overlapCount}
 use Rattle.layout.specs.Checks.{conesBounded, startsRight, rowsRight, conesRead, alphasAsMany, patternsRead, treeRight, cliquesRight, firstFailing, Sound}
 use Rattle.layout.specs.Answers.{joinBounded}
 
@@ -42,10 +41,6 @@ joinedTests n m cones count words =
 
 abbrev pub joinedRefusal : ℕ → ℕ → List ℕ → ℕ → List ℕ → ℕ
 joinedRefusal n m cones count words = firstFailing 1 (joinedTests n m cones count words)
-
--- how many rows the blocks have, and how many of them are overlaps
-abbrev pub Counted : List Part → ℕ → ℕ → Type 0
-Counted ps rows overlaps = (rows ≡ blockRowCount ps) × (overlaps ≡ overlapCount ps)
 
 -- What checks 1 to 7 say of a problem.
 pub record Checked (p : Problem) : Type 0 where

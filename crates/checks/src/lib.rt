@@ -4,10 +4,11 @@ ghost use mathlib.Core.Bool.{true};
 ghost use Prim.Native.Nat.{_≤_};
 ghost use lib.Dec.{T};
 ghost use Rattle.layout.specs.Problem.{problem};
+ghost use Rattle.layout.specs.Blocks.{blockRowCount, overlapCount};
 ghost use Rattle.layout.specs.Checks.{conesBounded, conesRead};
 ghost use Rattle.layout.specs.Answers.{joinBounded, joinedParts, problemRefusal};
 ghost use Rattle.csc.specs.Matrix.{matrix};
-ghost use Rattle.checks.specs.Order.{bounds, matricesRefusal, recordsRefusal, patternsRefusal, joinedRefusal, Counted};
+ghost use Rattle.checks.specs.Order.{bounds, matricesRefusal, recordsRefusal, patternsRefusal, joinedRefusal};
 
 // Check 1 of a joining: n, m and the cones.
 pub fn join_bounded(n: u32, m: u32, cones: &[u32]) -> bool
@@ -170,7 +171,7 @@ fn refused_as(refusal: u32) -> Joined
 fn count_patterns(m: u32, cones: &[u32], count: u32, words: &[u32]) -> Joined
     requires { ⌜ (m ≤ 65536) × T (conesBounded (now cones)) × T (conesRead m (now cones)) ⌝ }
     ensures { λ r. ⌜ r .refusal ≡ patternsRefusal (now (cones .entry)) count (now (words .entry)) ⌝ }
-    ensures { λ r. ⌜ (r .refusal ≡ 0 → Counted (joinedParts (now (cones .entry)) count (now (words .entry))) (r .rows) (r .overlaps)) ⌝ }
+    ensures { λ r. ⌜ (r .refusal ≡ 0 → (r .rows ≡ blockRowCount (joinedParts (now (cones .entry)) count (now (words .entry)))) × (r .overlaps ≡ overlapCount (joinedParts (now (cones .entry)) count (now (words .entry))))) ⌝ }
 {
     let walk = accepted::patterns_hold(cones, count, words);
     if walk.holds {
@@ -195,7 +196,7 @@ fn count_patterns(m: u32, cones: &[u32], count: u32, words: &[u32]) -> Joined
 // The same for what a joining is given: checks 1, 4, 5, 6 and 7.
 pub fn check_joined(n: u32, m: u32, cones: &[u32], count: u32, words: &[u32]) -> Joined
     ensures { λ r. ⌜ r .refusal ≡ joinedRefusal n m (now (cones .entry)) count (now (words .entry)) ⌝ }
-    ensures { λ r. ⌜ (r .refusal ≡ 0 → Counted (joinedParts (now (cones .entry)) count (now (words .entry))) (r .rows) (r .overlaps)) ⌝ }
+    ensures { λ r. ⌜ (r .refusal ≡ 0 → (r .rows ≡ blockRowCount (joinedParts (now (cones .entry)) count (now (words .entry)))) × (r .overlaps ≡ overlapCount (joinedParts (now (cones .entry)) count (now (words .entry))))) ⌝ }
 {
     if !join_bounded(n, m, cones) {
         return refused_as(1);

@@ -5,7 +5,6 @@ use mathlib.Core.List.{List, map}
 use lib.ListN.{length}
 use borrow.Author.Tests.{eqb-true}
 use Rattle.layout.specs.Lists.{sum}
-use Rattle.layout.specs.Triangle.{triangle}
 use Rattle.layout.specs.Patterns.{Pattern}
 use Rattle.layout.specs.Blocks.{blockRows}
 use Rattle.layout.proofs.Tests.{differ}

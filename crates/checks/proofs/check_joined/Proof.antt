@@ -1,6 +1,5 @@
 use mathlib.Core.Path.{_≡_, sym, _∙_}
 use mathlib.Core.Bool.{true}
-use lib.Dec.{T}
 use borrow.Author.Tests.{not-true, not-false}
 use Rattle.layout.specs.Checks.{conesRead}
 use Rattle.layout.specs.Answers.{joinBounded}

@@ -1,9 +1,8 @@
-use Prim.Native.Nat.{_+_, _≤_}
-use mathlib.Core.Path.{_≡_, refl, sym, _∙_}
+use Prim.Native.Nat.{_+_}
+use mathlib.Core.Path.{_≡_, sym, _∙_}
 use Rattle.layout.specs.Blocks.{blockRowCount, overlapCount}
-use Rattle.layout.specs.Checks.{Sound}
 use Rattle.layout.specs.Answers.{joinedParts}
-use Rattle.checks.specs.Order.{patternsRefusal, Counted}
+use Rattle.checks.specs.Order.{patternsRefusal}
 use Rattle.checks.proofs.Checked.{patterns-sound}
 use Rattle.checks.proofs.Counts.{sound-counts}
 use native.Mathlib.Omega.{arith}
