@@ -7,21 +7,24 @@ use mathlib.Core.List.{List, [], _∷_, map}
 use lib.ListN.{length, drop}
 use lib.Dec.{eqb}
 use borrow.Author.Tests.{le-leb, eq-eqb}
-use Rattle.layout.specs.Lists.{all}
+use Rattle.layout.specs.Lists.{all, sum}
 use Rattle.layout.specs.Cones.{records}
 use Rattle.layout.specs.Patterns.{Read, read, short, andThen, readMany, Pattern, Clique, Head, withCliques, noPattern, readHead, readClique, readCliques, readPattern, readPatterns, patterns, endsRight}
+use Rattle.layout.specs.Blocks.{blockRows}
 use Rattle.layout.specs.Checks.{namesItsCone, isPermutation, originsRise, orderingsRight, treeRight, cliquesRight}
 use Rattle.supernode_tree.specs.Reads.{headOf, whole, patternAt, cliquesFrom}
 use Rattle.supernode_tree.specs.declared.Pattern.{Pattern as PatternAt}
 use Rattle.supernode_tree.proofs.Many.{whole-read, ends-whole, many-length}
 use Rattle.supernode_tree.proofs.Words.{ends-made, ends-at}
 use Rattle.supernode_tree.proofs.Cliques.{pattern-whole, rest-of-cliques}
-use Rattle.supernode_tree.proofs.Patterns.{patternsFrom, patterns-next, patterns-start}
+use Rattle.supernode_tree.proofs.Patterns.{patternsFrom, patterns-next, patterns-start, patterns-none}
 use Rattle.supportedcone.specs.Ranges.{isPsdOf}
 use Rattle.sparsity_pattern.specs.Sparsity.{patternRight}
 use Rattle.sparsity_pattern.proofs.Sparsity.{risesFrom, rises-start, all-both}
 use Rattle.clique_tree.specs.Trees.{treeFrom, snodesOf}
 use Rattle.clique_tree.proofs.Trees.{tree-right}
+use Rattle.supernode_tree.specs.Sizes.{overlapRows}
+use Rattle.accepted.specs.declared.Blocks.{Blocks}
 use Rattle.accepted.specs.Accepted.{Holds, MembersHold, PatternHolds, HoldsAt}
 
 and-both : (a b : Bool) → a ≡ true → b ≡ true → (a && b) ≡ true
@@ -37,11 +40,12 @@ whole-of-cliques ws h left e w = rw e (go (readCliques (h .cliqueCount) left) w)
     go (read cs end) w = refl
     go short w = w
 
-pub pattern-holds : (cones ws : List ℕ) (p : PatternAt) (next : ℕ) → isPsdOf cones (p .«orig_index») (p .«vertex_count») ≡ true
-    → MembersHold ws p next → HoldsAt cones ws p next
-pattern-holds cones ws p next psd m at e =
+pub pattern-holds : (cones ws : List ℕ) (p : PatternAt) (b : Blocks) → isPsdOf cones (p .«orig_index») (p .«vertex_count») ≡ true
+    → MembersHold ws p b → HoldsAt cones ws p b
+pattern-holds cones ws p b psd m at e =
     let c = m .cliques in
     let s = c .snodes in
+    let t = c .separators in
     let h = headOf ws p in
     let k = p .«clique_count» in
     let cs = cliquesFrom ws (p .cliques) k in
@@ -49,11 +53,13 @@ pattern-holds cones ws p next psd m at e =
     let n : length cs ≡ k = many-length readClique k (drop (p .cliques) ws) (s .stand) in
     record {
       stands = whole-of-cliques (drop at ws) h (drop (p .cliques) ws) e (s .stand);
-      after = rest-of-cliques (drop at ws) h (drop (p .cliques) ws) e ∙ s .after;
-      inside = s .inside;
+      after = rest-of-cliques (drop at ws) h (drop (p .cliques) ws) e ∙ t .after;
+      inside = t .inside;
       right = ap (patternRight cones) w ∙ and-both (isPsdOf cones (p .«orig_index») (p .«vertex_count»)) (isPermutation (h .ordering)) psd (m .ordering);
       tree = ap treeRight w ∙ tree-right (withCliques h cs) ∙ ap (λ (i : ℕ). not (eqb i 0) && treeFrom i 0 cs) n ∙ rw (c .some) (s .tree);
-      cliques = ap cliquesRight w ∙ rw (s .filled, eq-eqb (length (snodesOf cs)) (p .«vertex_count») (s .many), s .permutation) (c .separators);
+      cliques = ap cliquesRight w ∙ rw (s .filled, eq-eqb (length (snodesOf cs)) (p .«vertex_count») (s .many), s .permutation) (t .right);
+      dim = t .dim ∙ ap blockRows (sym w);
+      overlaps = t .overlaps ∙ ap overlapRows (sym w);
     }
 
 -- ---- what is left to hold of the patterns from an offset on
@@ -74,8 +80,11 @@ many-ends one k ws left a more e =
     let o : k ≡ suc (k - 1) = omega arith in
     ap (λ (n : ℕ). endsRight (readMany one n ws)) o ∙ rw e (ends-made (readMany one (k - 1) left) (λ others. a ∷ others))
 
-module _ (cones ws : List ℕ) (least at left next : ℕ) (more : 0 < left) (h : PatternHolds cones ws at next)
-    (o : ℕ) (e : patternAt ws at .origIndex ≡ o) (l : least ≤ o) (r : Left cones ws (o + 1) next (left - 1)) where
+module _ (cones ws : List ℕ) (least at left : ℕ) (b : Blocks) (more : 0 < left) (h : PatternHolds cones ws at b)
+    (o : ℕ) (e : patternAt ws at .origIndex ≡ o) (l : least ≤ o) (r : Left cones ws (o + 1) (b .next) (left - 1)) where
+  abbrev next : ℕ
+  next = b .next
+
   reads : readPattern (drop at ws) ≡ read (patternAt ws at) (drop next ws)
   reads = whole-read noPattern (readPattern (drop at ws)) (h .stands) ∙ ap (read (patternAt ws at)) (h .after)
 
@@ -98,6 +107,14 @@ module _ (cones ws : List ℕ) (least at left next : ℕ) (more : 0 < left) (h :
     trees = each treeRight (h .tree) (r .trees);
     cliques = each cliquesRight (h .cliques) (r .cliques);
   }
+
+  -- the pattern is added to a sum
+  pub sum-more : (f : Pattern → ℕ) (n t s : ℕ) → t ≡ f (patternAt ws at) → n + sum (map f (patternsFrom ws at left)) ≡ s
+      → n + t + sum (map f (patternsFrom ws next (left - 1))) ≡ s
+  sum-more f n t s q h = omega (arith, ap (λ (ps : List Pattern). sum (map f ps)) first-is)
+
+pub sum-done : (f : Pattern → ℕ) (ws : List ℕ) (at left n s : ℕ) → left ≤ 0 → n + sum (map f (patternsFrom ws at left)) ≡ s → n ≡ s
+sum-done f ws at left n s z h = omega (arith, ap (λ (ps : List Pattern). sum (map f ps)) (patterns-none ws at left z))
 
 -- nothing is left where the words end
 pub left-none : (cones ws : List ℕ) (least at left : ℕ) → left ≤ 0 → at ≡ length ws → Left cones ws least at left

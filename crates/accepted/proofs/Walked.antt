@@ -1,5 +1,5 @@
 -- Cliques walked from the first on.
-use Prim.Native.Nat.{ℕ, zero, suc, _+_, _*_, _≤_, _<_}
+use Prim.Native.Nat.{ℕ, zero, suc, _+_, _*_, _<_}
 use native.Mathlib.Numerals.{add-one}
 use native.Mathlib.Omega.{arith}
 use mathlib.Core.Path.{_≡_, refl, sym, ap, subst, _∙_}
@@ -135,13 +135,11 @@ module _ (ws : List ℕ) (first count : ℕ) (marks : List Bool) (offsets : List
     from : readCliques count (drop first ws) ≡ read (w .cliques) (drop at ws)
     from = ap (λ (k : ℕ). readCliques k (drop first ws)) (sym end) ∙ w .reads
 
-    pub walked-snodes : total ≡ length marks → at ≤ length ws → SnodesHold ws first count (length marks) at
-    walked-snodes e l =
+    pub walked-snodes : total ≡ length marks → SnodesHold ws first count (length marks)
+    walked-snodes e =
         let f : cliquesFrom ws first count ≡ w .cliques = ap (valueOr []) from in
         record {
           stand = ap whole from;
-          after = ap rest from;
-          inside = l;
           tree = ap (treeFrom count 0) f ∙ w .tree;
           filled = ap (all filled) f ∙ w .full;
           many = ap (λ (cs : List Clique). length (snodesOf cs)) f ∙ w .many ∙ e;

@@ -1,17 +1,34 @@
 -- What a problem that checks 1 to 7 let pass says, and what a joining's inputs say.
-use Prim.Native.Nat.{ℕ}
+use Prim.Native.Nat.{ℕ, _≤_}
 use mathlib.Core.Path.{_≡_, sym, _∙_}
 use mathlib.Core.Bool.{Bool, _&&_}
-use mathlib.Core.List.{List}
+use mathlib.Core.List.{List, [], _∷_}
 use lib.ListN.{length, take, drop}
 use lib.Dec.{T, leb, eqb, eqb→eq, leb→le, lit<}
 use Rattle.layout.specs.Problem.{Problem, standard}
-use Rattle.layout.specs.Checks.{Sound, conesBounded, conesRead, alphasAsMany, startsRight, rowsRight, firstFailing, checks}
+use Rattle.layout.specs.Lists.{all}
+use Rattle.layout.specs.Patterns.{patterns}
+use Rattle.layout.specs.Checks.{Sound, conesBounded, conesRead, patternsRead, treeRight, cliquesRight, alphasAsMany, startsRight, rowsRight, firstFailing, checks}
 use Rattle.layout.specs.Answers.{joinBounded, problemRefusal}
 use Rattle.layout.proofs.Tests.{and-iff, leb-iff, cond-passed}
 use Rattle.layout.proofs.Accepted.{passed}
 use Rattle.checks.specs.Order.{patternsRefusal, joinedTests, joinedRefusal, Checked}
 use Rattle.checks.proofs.Order.{failing-append, both-zero}
+
+-- what checks 1 and 4 to 7 say where none of them refuses
+pub patterns-sound : (m : ℕ) (cones : List ℕ) (count : ℕ) (words : List ℕ) → m ≤ 65536 → T (conesBounded cones) → T (conesRead m cones)
+    → patternsRefusal cones count words ≡ 0 → Sound m cones count words
+patterns-sound m cones count words few bounded read e =
+    let ps = patterns count words in
+    let tests : List Bool = patternsRead cones count words ∷ all treeRight ps ∷ all cliquesRight ps ∷ [] in
+    record {
+      few = few;
+      bounded = bounded;
+      read = read;
+      named = passed 4 0 tests e (lit< tt);
+      trees = passed 4 1 tests e (lit< tt);
+      cliques = passed 4 2 tests e (lit< tt);
+    }
 
 -- what a joining is given is sound where nothing is refused
 pub joined-sound : (n m : ℕ) (cones : List ℕ) (count : ℕ) (words : List ℕ)

@@ -1,2 +1,3 @@
 pub mod Order
 pub mod Checked
+pub mod Counts

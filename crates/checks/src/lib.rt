@@ -1,9 +1,12 @@
 // Checks 1 to 7 in document 01's order: of a whole problem, and of what a joining is given.
 ghost use mathlib.Core.Path.{_≡_};
 ghost use mathlib.Core.Bool.{true};
+ghost use Prim.Native.Nat.{_≤_};
+ghost use lib.Dec.{T};
 ghost use Rattle.layout.specs.Problem.{problem};
-ghost use Rattle.layout.specs.Checks.{conesBounded};
-ghost use Rattle.layout.specs.Answers.{joinBounded, problemRefusal};
+ghost use Rattle.layout.specs.Blocks.{blockRowCount, overlapCount};
+ghost use Rattle.layout.specs.Checks.{conesBounded, conesRead};
+ghost use Rattle.layout.specs.Answers.{joinBounded, joinedParts, problemRefusal};
 ghost use Rattle.csc.specs.Matrix.{matrix};
 ghost use Rattle.checks.specs.Order.{bounds, matricesRefusal, recordsRefusal, patternsRefusal, joinedRefusal};
 
@@ -87,13 +90,10 @@ pub fn check_records(n: u32, m: u32, q: &[f64], b: &[f64], cones: &[u32], alphas
     0
 }
 
-// Checks 5, 6 and 7: a fast walk accepts patterns that are right, and the checks in order find the number of others.
-pub fn check_patterns(cones: &[u32], count: u32, words: &[u32]) -> u32
+// Checks 5, 6 and 7 in order.
+fn refuse_patterns(cones: &[u32], count: u32, words: &[u32]) -> u32
     ensures { λ r. ⌜ r ≡ patternsRefusal (now (cones .entry)) count (now (words .entry)) ⌝ }
 {
-    if accepted::patterns_hold(cones, count, words) {
-        return 0;
-    }
     if !sparsity_pattern::check_patterns(cones, count, words) {
         return 5;
     }
@@ -104,6 +104,17 @@ pub fn check_patterns(cones: &[u32], count: u32, words: &[u32]) -> u32
         return 7;
     }
     0
+}
+
+// The same: a fast walk accepts patterns that are right, and the checks in order find the number of others.
+pub fn check_patterns(cones: &[u32], count: u32, words: &[u32]) -> u32
+    ensures { λ r. ⌜ r ≡ patternsRefusal (now (cones .entry)) count (now (words .entry)) ⌝ }
+{
+    let walk = accepted::patterns_hold(cones, count, words);
+    if walk.holds {
+        return 0;
+    }
+    refuse_patterns(cones, count, words)
 }
 
 // Checks 1 to 7: the number of the first that fails, or 0.
@@ -139,15 +150,59 @@ pub fn check_problem(
     check_patterns(cones, count, words)
 }
 
+// The number of the first check that fails, or 0 and how many rows and overlaps the blocks have.
+pub struct Joined {
+    pub refusal: u32,
+    pub rows: u64,
+    pub overlaps: u64,
+}
+
+fn refused_as(refusal: u32) -> Joined
+    ensures { λ r. ⌜ r .refusal ≡ refusal ⌝ }
+{
+    Joined {
+        refusal: refusal,
+        rows: 0,
+        overlaps: 0,
+    }
+}
+
+// Checks 5, 6 and 7 after 1 and 4. The walk that accepts patterns counts, too.
+fn count_patterns(m: u32, cones: &[u32], count: u32, words: &[u32]) -> Joined
+    requires { ⌜ (m ≤ 65536) × T (conesBounded (now cones)) × T (conesRead m (now cones)) ⌝ }
+    ensures { λ r. ⌜ r .refusal ≡ patternsRefusal (now (cones .entry)) count (now (words .entry)) ⌝ }
+    ensures { λ r. ⌜ (r .refusal ≡ 0 → (r .rows ≡ blockRowCount (joinedParts (now (cones .entry)) count (now (words .entry)))) × (r .overlaps ≡ overlapCount (joinedParts (now (cones .entry)) count (now (words .entry))))) ⌝ }
+{
+    let walk = accepted::patterns_hold(cones, count, words);
+    if walk.holds {
+        return Joined {
+            refusal: 0,
+            rows: m as u64 + walk.dim - walk.cut,
+            overlaps: walk.overlaps,
+        };
+    }
+    let r = refuse_patterns(cones, count, words);
+    if r != 0 {
+        return refused_as(r);
+    }
+    let d = parts::get_decomposed_dim_and_overlaps(m, cones, count, words);
+    Joined {
+        refusal: 0,
+        rows: d.rows,
+        overlaps: d.overlaps,
+    }
+}
+
 // The same for what a joining is given: checks 1, 4, 5, 6 and 7.
-pub fn check_joined(n: u32, m: u32, cones: &[u32], count: u32, words: &[u32]) -> u32
-    ensures { λ r. ⌜ r ≡ joinedRefusal n m (now (cones .entry)) count (now (words .entry)) ⌝ }
+pub fn check_joined(n: u32, m: u32, cones: &[u32], count: u32, words: &[u32]) -> Joined
+    ensures { λ r. ⌜ r .refusal ≡ joinedRefusal n m (now (cones .entry)) count (now (words .entry)) ⌝ }
+    ensures { λ r. ⌜ (r .refusal ≡ 0 → (r .rows ≡ blockRowCount (joinedParts (now (cones .entry)) count (now (words .entry)))) × (r .overlaps ≡ overlapCount (joinedParts (now (cones .entry)) count (now (words .entry))))) ⌝ }
 {
     if !join_bounded(n, m, cones) {
-        return 1;
+        return refused_as(1);
     }
     if supportedcone::check_cones(m, cones) != 0 {
-        return 4;
+        return refused_as(4);
     }
-    check_patterns(cones, count, words)
+    count_patterns(m, cones, count, words)
 }

@@ -16,7 +16,7 @@ ghost use Rattle.blocks.specs.Columns.{columnPairs};
 ghost use Rattle.blocks.specs.Cliques.{Stands as CliqueStands, Standing, rowsHere};
 ghost use Rattle.chordal_info.specs.Covered.{Below, BlockFits, ColumnsFit, marked, MarksPattern, rowsMarked, valuesMarked, entriesRight};
 ghost use Rattle.chordal_info.specs.Sizes.{rowsFit, outputLengths, routeSizes, Fitting};
-ghost use Rattle.chordal_info.specs.Routes.{Counted, routeChecks, joinRouteChecks, joinCountChecks};
+ghost use Rattle.chordal_info.specs.Routes.{Counted, routeChecks, joinCountChecks};
 use blocks::clique_vertices;
 use parts::Met;
 use parts::Place;
@@ -346,14 +346,6 @@ pub fn check_route(
         d.rows,
         d.overlaps,
     )
-}
-
-pub fn check_join_route(route: u32, n: u32, m: u32, cones: &[u32], count: u32, words: &[u32]) -> u32
-    requires { ⌜ Sound m (now cones) count (now words) ⌝ }
-    ensures { λ r. ⌜ r ≡ firstFailing 8 (joinRouteChecks (routeOf route) n m (parts (records (now (cones .entry))) (patterns count (now (words .entry))))) ⌝ }
-{
-    let d = get_decomposed_dim_and_overlaps(m, cones, count, words);
-    check_join_counted(route, n, m, d.rows, d.overlaps)
 }
 
 // ---- the sizes

@@ -97,11 +97,11 @@ fn map_right(m: u32, cones: &[u32], count: u32, words: &[u32], entries: &[u32]) 
 pub fn check_join(route: u32, n: u32, m: u32, cones: &[u32], count: u32, words: &[u32]) -> u32
     ensures { λ r. ⌜ r ≡ joinChecks (routeOf route) n m (now (cones .entry)) count (now (words .entry)) ⌝ }
 {
-    let r = checks::check_joined(n, m, cones, count, words);
-    if r != 0 {
-        return r;
+    let c = checks::check_joined(n, m, cones, count, words);
+    if c.refusal != 0 {
+        return c.refusal;
     }
-    chordal_info::check_join_route(route, n, m, cones, count, words)
+    chordal_info::check_join_counted(route, n, m, c.rows, c.overlaps)
 }
 
 // Check 11: whether the outputs have room for x, s, z and the two scalars.
@@ -270,11 +270,10 @@ fn refuse_join(
 ) -> u32
     ensures { λ r. ⌜ r ≡ joinRefusal (routeOf route) n m (now (cones .entry)) count (now (words .entry)) (solution (now (x .entry)) (now (s .entry)) (now (z .entry)) one64 one64) (now (entries .entry)) («x_room» ∷ «s_room» ∷ «z_room» ∷ «scalars_room» ∷ []) ⌝ }
 {
-    let r = checks::check_joined(n, m, cones, count, words);
-    if r != 0 {
-        return r;
+    let c = checks::check_joined(n, m, cones, count, words);
+    if c.refusal != 0 {
+        return c.refusal;
     }
-    let d = parts::get_decomposed_dim_and_overlaps(m, cones, count, words);
     refuse_counted(
         route,
         n,
@@ -282,8 +281,8 @@ fn refuse_join(
         cones,
         count,
         words,
-        d.rows,
-        d.overlaps,
+        c.rows,
+        c.overlaps,
         x,
         s,
         z,

@@ -42,11 +42,14 @@ part-mark-all-end c = search needs
 mark-all-requires : tie.Need-mark-all-requires
 mark-all-requires c κs = search needs
 
+not-right-requires : tie.Need-not-right-requires
+not-right-requires c κs = search needs
+
 same-length : tie.Need-same-length
 same-length c = search needs
 
 returns : tie.Need-returns
-returns c = λ z. absurd (omega arith)
+returns c = λ z. absurd (omega (arith, c .not-right .ensures))
 
 cliques-hold-requires : tie.Need-cliques-hold-requires
 cliques-hold-requires c κs =
@@ -80,6 +83,7 @@ returns-2 c =
         cliques = subst (λ (i : ℕ). CliquesHold ws (p .cliques) (p .«clique_count») i (k .cliques-hold .result)) n (k .cliques-hold .ensures z .0);
       },
       k .cliques-hold .ensures z .1,
+      k .cliques-hold .ensures z .2,
     )
 
 pub members-hold-spec : {M : Type 1} → statement M
@@ -91,6 +95,7 @@ members-hold-spec =
     part-mark-all-start
     part-mark-all-end
     mark-all-requires
+    not-right-requires
     same-length
     returns
     cliques-hold-requires

@@ -10,8 +10,11 @@ use borrow.Author.Needs.{needs}
 use Rattle.accepted.proofs.pattern_holds.Statement.{statement}
 use Rattle.accepted.proofs.pattern_holds.Tie as tie
 
+not-right-requires : tie.Need-not-right-requires
+not-right-requires c κs = search needs
+
 returns : tie.Need-returns
-returns c = λ z. absurd (omega arith)
+returns c = λ z. absurd (omega (arith, c .not-right .ensures))
 
 cast-is-psd-of : tie.Need-cast-is-psd-of
 cast-is-psd-of c = search needs
@@ -19,8 +22,11 @@ cast-is-psd-of c = search needs
 is-psd-of-requires : tie.Need-is-psd-of-requires
 is-psd-of-requires c κs = search needs
 
+not-right-requires-2 : tie.Need-not-right-requires-2
+not-right-requires-2 c κs = search needs
+
 returns-2 : tie.Need-returns-2
-returns-2 c = λ z. absurd (omega arith)
+returns-2 c = λ z. absurd (omega (arith, c .not-right2 .ensures))
 
 sub-members-hold : tie.Need-sub-members-hold
 sub-members-hold c = search needs
@@ -55,15 +61,19 @@ returns-3 c =
       pattern-holds (s .args .cones .now) (s .args .words .now) (s .args .p) (m .members-hold .result)
           (sym (c .before .before .before .before .before .before .before .before .before .before .before .is-psd-of .ensures) ∙ not-false _ (c .before .before .before .before .before .before .before .before .before .before .if2 .left)) (m .members-hold .ensures z .0),
       all-over false (m .members-hold .last .1 .1 .0) (s .args .marks .now) (s .args .p .«vertex_count» - 0) (m .members-hold .ensures z .1) (s .pre .1 .0),
+      m .members-hold .ensures z .2,
+      omega arith,
     )
 
 pub pattern-holds-spec : {M : Type 1} → statement M
 pattern-holds-spec =
     tie.close
     (tie.spec
+    not-right-requires
     returns
     cast-is-psd-of
     is-psd-of-requires
+    not-right-requires-2
     returns-2
     sub-members-hold
     part-members-hold-start

@@ -1,12 +1,12 @@
-use Prim.Native.Nat.{ℕ, _-_, _*_}
+use Prim.Native.Nat.{ℕ, suc, _-_, _*_}
 use mathlib.Core.Bool.{false}
 use mathlib.Core.Path.{_≡_, refl, sym, ap, _∙_}
 use mathlib.Core.List.{List}
 use lib.ListN.{getD, take, drop}
-use Rattle.layout.specs.Patterns.{members, noClique}
+use Rattle.layout.specs.Patterns.{read, readClique, members, noClique}
 use Rattle.layout.proofs.Tests.{differ}
-use Rattle.supernode_tree.specs.Reads.{cliqueOf, cliquesFrom, valueOr}
-use Rattle.supernode_tree.proofs.Words.{length-part, clique-found}
+use Rattle.supernode_tree.specs.Reads.{cliqueOf, cliquesFrom, valueOr, whole}
+use Rattle.supernode_tree.proofs.Words.{length-part}
 use Rattle.supernode_tree.proofs.Cliques.{members-part}
 use Rattle.supernode_tree.proofs.Offsets.{after, after-clique}
 use Rattle.vertex_set.specs.OnceIn.{onceIn}
@@ -37,17 +37,22 @@ mul-at c = search needs
 shared-slice-read-at : tie.Need-shared-slice-read-at
 shared-slice-read-at c = search needs
 
-read-requires : tie.Need-read-requires
-read-requires c κs = search needs
+-- the parent's clique stands at its offset
+parent-read : (c : tie.After-shared-slice-known3) → let s = c .before .before .before .before .before .before .before .before in
+    let a = s .args in
+    let ws = a .words .now in
+    readClique (drop (getD (a .offsets .now) (a .q .parent) 0) ws)
+    ≡ read (getD (cliquesFrom ws (a .first) (a .count)) (a .q .parent) noClique) (after ws (a .first) (suc (a .q .parent)))
+parent-read c =
+    let s = c .before .before .before .before .before .before .before .before in
+    let a = s .args in
+    let ws = a .words .now in
+    let parent = a .q .parent in
+    let o : parent * 1 ≡ parent = omega arith in
+    after-clique ws (a .first) (a .count) (s .pre .0) parent (getD (a .offsets .now) parent 0) (omega arith) (s .pre .1 .1 .0 parent (omega arith) ∙ ap (after ws (a .first)) o)
 
-enum-known-m : tie.Need-enum-known-m
-enum-known-m c = search needs
-
-enum-told : tie.Need-enum-told
-enum-told c = search needs
-
-returns-3 : tie.Need-returns-3
-returns-3 c = λ z. absurd (differ false z refl)
+here-requires : tie.Need-here-requires
+here-requires c κs = ap whole (parent-read c)
 
 mul-once-in : tie.Need-mul-once-in
 mul-once-in c = search needs
@@ -62,16 +67,16 @@ part-once-in-end : tie.Need-part-once-in-end
 part-once-in-end c = search needs
 
 mul-once-in-2 : tie.Need-mul-once-in-2
-mul-once-in-2 c = let inside = rw (c .before .before .m .given .1) at (c .before .before .before .before .read .ensures .1) in omega arith
+mul-once-in-2 c = let inside = c .before .here .ensures .1 in omega arith
 
 sub-once-in-2 : tie.Need-sub-once-in-2
-sub-once-in-2 c = let inside = rw (c .before .before .m .given .1) at (c .before .before .before .before .read .ensures .1) in omega arith
+sub-once-in-2 c = let inside = c .before .here .ensures .1 in omega arith
 
 part-once-in-start-2 : tie.Need-part-once-in-start-2
-part-once-in-start-2 c = let inside = rw (c .before .before .m .given .1) at (c .before .before .before .before .read .ensures .1) in omega arith
+part-once-in-start-2 c = let inside = c .before .here .ensures .1 in omega arith
 
 part-once-in-end-2 : tie.Need-part-once-in-end-2
-part-once-in-end-2 c = let inside = rw (c .before .before .m .given .1) at (c .before .before .before .before .read .ensures .1) in omega arith
+part-once-in-end-2 c = let inside = c .before .here .ensures .1 in omega arith
 
 once-in-requires : tie.Need-once-in-requires
 once-in-requires c κs = search needs
@@ -79,25 +84,18 @@ once-in-requires c κs = search needs
 same-length : tie.Need-same-length
 same-length c = search needs
 
-returns-4 : tie.Need-returns-4
-returns-4 c =
-    let k = c .before .before in
-    let g = c .before .before .before .before .before .before .before .m .given in
-    let m = g .0 .0 in
-    let r = c .before .before .before .before .before .before .before .before .before in
-    let s = c .before .before .before .before .before .before .before .before .before .before .before .before .before .before .before .before .before .before in
+returns-3 : tie.Need-returns-3
+returns-3 c =
+    let h = c .before .before .before .before .before .before in
+    let m = h .here .result in
+    let s = c .before .before .before .before .before .before .before .before .before .before .before .before .before .before .before in
     let ws = s .args .words .now in
-    let first = s .args .first in
-    let count = s .args .count in
     let q = s .args .q in
     let at = getD (s .args .offsets .now) (q .parent) 0 in
     let us = take (q .next - q .separator) (drop (q .separator) ws) in
-    let inside = rw (g .1) at (r .read .ensures .1) in
-    let o : q .parent * 1 ≡ q .parent = omega arith in
-    let stands = s .pre .1 .1 .0 (q .parent) (omega arith) ∙ ap (after ws first) o in
-    let same : cliqueOf ws m ≡ getD (cliquesFrom ws first count) (q .parent) noClique =
-    ap (valueOr noClique) (sym (clique-found ws at _ m (r .read .ensures .0) (g .1)) ∙ after-clique ws first count (s .pre .0) (q .parent) at (omega arith) stands) in
-    λ z. ap (λ (ms : List ℕ). onceIn ms us) (sym (members-part ws at m inside ∙ ap members same)) ∙ sym (k .once-in .ensures) ∙ z
+    let same : cliqueOf ws m ≡ getD (cliquesFrom ws (s .args .first) (s .args .count)) (q .parent) noClique =
+    ap (valueOr noClique) (h .here .ensures .0 ∙ parent-read (h .before)) in
+    λ z. ap (λ (ms : List ℕ). onceIn ms us) (sym (members-part ws at m (h .here .ensures .1) ∙ ap members same)) ∙ sym (c .before .before .once-in .ensures) ∙ z
 
 pub separator-holds-spec : {M : Type 1} → statement M
 separator-holds-spec =
@@ -108,10 +106,7 @@ separator-holds-spec =
     cast-at
     mul-at
     shared-slice-read-at
-    read-requires
-    enum-known-m
-    enum-told
-    returns-3
+    here-requires
     mul-once-in
     sub-once-in
     part-once-in-start
@@ -122,4 +117,4 @@ separator-holds-spec =
     part-once-in-end-2
     once-in-requires
     same-length
-    returns-4)
+    returns-3)

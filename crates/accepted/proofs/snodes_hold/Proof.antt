@@ -1,7 +1,9 @@
-use Prim.Native.Nat.{ℕ, _-_, _≤_}
+use Prim.Native.Nat.{_-_, _≤_}
 use mathlib.Core.Path.{_≡_, refl, sym, subst, _∙_}
 use lib.ListN.{length, length-set}
-use borrow.Author.Tests.{not-false}
+use mathlib.Core.Bool.{false}
+use borrow.Author.Tests.{not-false, eqb-true}
+use Rattle.layout.proofs.Tests.{differ}
 use Rattle.supernode_tree.proofs.Words.{clique-found}
 use Rattle.supernode_tree.proofs.Cliques.{snode-part}
 use Rattle.accepted.specs.Accepted.{SnodesHold}
@@ -46,7 +48,7 @@ same-length-2 : tie.Need-same-length-2 Inv-loop μ-loop
 same-length-2 c = search needs
 
 returns : tie.Need-returns Inv-loop μ-loop
-returns c = λ z. absurd (omega arith)
+returns c = λ z. absurd (differ false z refl)
 
 parent-right-requires : tie.Need-parent-right-requires Inv-loop μ-loop
 parent-right-requires c κs = search needs
@@ -58,7 +60,7 @@ same-length-4 : tie.Need-same-length-4 Inv-loop μ-loop
 same-length-4 c = search needs
 
 returns-2 : tie.Need-returns-2 Inv-loop μ-loop
-returns-2 c = λ z. absurd (omega arith)
+returns-2 c = λ z. absurd (differ false z refl)
 
 same-length-5 : tie.Need-same-length-5 Inv-loop μ-loop
 same-length-5 c = search needs
@@ -67,7 +69,7 @@ same-length-6 : tie.Need-same-length-6 Inv-loop μ-loop
 same-length-6 c = search needs
 
 returns-3 : tie.Need-returns-3 Inv-loop μ-loop
-returns-3 c = λ z. absurd (omega arith)
+returns-3 c = λ z. absurd (differ false z refl)
 
 mul-mark-all : tie.Need-mul-mark-all Inv-loop μ-loop
 mul-mark-all c = let inside = rw (c .before .before .before .before .before .q .given .1) at (c .before .before .before .before .before .before .before .read .ensures .1) in omega arith
@@ -91,7 +93,7 @@ same-length-8 : tie.Need-same-length-8 Inv-loop μ-loop
 same-length-8 c = search needs
 
 returns-4 : tie.Need-returns-4 Inv-loop μ-loop
-returns-4 c = λ z. absurd (omega arith)
+returns-4 c = λ z. absurd (differ false z refl)
 
 cast-offsets : tie.Need-cast-offsets Inv-loop μ-loop
 cast-offsets c = search needs
@@ -139,29 +141,19 @@ same-length-10 : tie.Need-same-length-10 Inv-loop μ-loop
 same-length-10 c = search needs
 
 returns-5 : tie.Need-returns-5 Inv-loop μ-loop
-returns-5 c = λ z. absurd (omega arith)
-
-same-length-11 : tie.Need-same-length-11 Inv-loop μ-loop
-same-length-11 c = search needs
-
-same-length-12 : tie.Need-same-length-12 Inv-loop μ-loop
-same-length-12 c = search needs
-
-returns-6 : tie.Need-returns-6 Inv-loop μ-loop
-returns-6 c =
-    let l = c .before .before in
-    let s = c .before .before .before .before .before .before in
+returns-5 c =
+    let l = c .before in
+    let s = c .before .before .before .before .before in
     let ws = s .args .words .now in
     let first = s .args .first in
     let count = s .args .count in
     let w = l .loop .inv .5 in
     let end : l .loop .c ≡ count = omega arith in
     let n : length (l .loop .marks) ≡ length (s .args .marks .now) = omega arith in
-    λ _. (
-      subst (λ (k : ℕ). SnodesHold ws first count k (l .loop .at)) n
-          (walked-snodes ws first count (l .loop .marks) (l .loop .offsets) (l .loop .total) (l .loop .at) (l .loop .c) w end (omega arith) (l .loop .inv .0)),
+    λ z. let all : l .loop .total ≡ length (l .loop .marks) = eqb-true _ _ z in (
+      subst (SnodesHold ws first count) n (walked-snodes ws first count (l .loop .marks) (l .loop .offsets) (l .loop .total) (l .loop .at) (l .loop .c) w end all),
       walked-offsets ws first count (l .loop .marks) (l .loop .offsets) (l .loop .total) (l .loop .at) (l .loop .c) w end,
-      walked-marks ws first count (l .loop .marks) (l .loop .offsets) (l .loop .total) (l .loop .at) (l .loop .c) w end (omega arith),
+      walked-marks ws first count (l .loop .marks) (l .loop .offsets) (l .loop .total) (l .loop .at) (l .loop .c) w end all,
     )
 
 pub snodes-hold-spec : {M : Type 1} → statement M
@@ -201,7 +193,4 @@ snodes-hold-spec =
     loop-again
     same-length-9
     same-length-10
-    returns-5
-    same-length-11
-    same-length-12
-    returns-6)
+    returns-5)

@@ -1,7 +1,7 @@
 use mathlib.Core.Path.{_≡_, sym, _∙_}
-use Rattle.layout.specs.Answers.{routeOf}
+use Rattle.layout.specs.Answers.{routeOf, joinedParts}
 use Rattle.checks.specs.Order.{joinedRefusal}
-use Rattle.checks.proofs.Checked.{joined-sound}
+use Rattle.chordal_info.proofs.Routes.{counted-join}
 use Rattle.decomp_reverse.proofs.Order.{seven-refused, seven-passed}
 use borrow.Author.Needs.{needs}
 use Rattle.decomp_reverse.proofs.check_join.Statement.{statement}
@@ -12,25 +12,27 @@ check-joined-requires c κs = search needs
 
 returns : tie.Need-returns
 returns c =
-    let k = c .before in
+    let k = c .before .before in
     let a = k .before .before .before .args in
-    k .check-joined .ensures
-    ∙ seven-refused (routeOf (a .route)) (a .n) (a .m) (a .cones .now) (a .count) (a .words .now) (λ z. c .if1 .taken (k .check-joined .ensures ∙ z))
+    k .check-joined .ensures .0
+    ∙ seven-refused (routeOf (a .route)) (a .n) (a .m) (a .cones .now) (a .count) (a .words .now) (λ z. c .if1 .taken (k .check-joined .ensures .0 ∙ z))
 
 -- checks 1 to 7 passed
-seven : (c : tie.Else1) → let a = c .before .before .before .before .args in joinedRefusal (a .n) (a .m) (a .cones .now) (a .count) (a .words .now) ≡ 0
-seven c = sym (c .before .check-joined .ensures) ∙ c .if1 .left
+seven : (c : tie.Else1) → let a = c .before .before .before .before .before .args in joinedRefusal (a .n) (a .m) (a .cones .now) (a .count) (a .words .now) ≡ 0
+seven c = sym (c .before .before .check-joined .ensures .0) ∙ c .if1 .left
 
-check-join-route-requires : tie.Need-check-join-route-requires
-check-join-route-requires c κs =
-    let a = c .before .before .before .before .args in
-    joined-sound (a .n) (a .m) (a .cones .now) (a .count) (a .words .now) (seven c)
+check-join-counted-requires : tie.Need-check-join-counted-requires
+check-join-counted-requires c κs = search needs
 
 returns-2 : tie.Need-returns-2
 returns-2 c =
-    let a = c .before .before .before .before .before .args in
-    c .check-join-route .ensures ∙ seven-passed (routeOf (a .route)) (a .n) (a .m) (a .cones .now) (a .count) (a .words .now) (seven (c .before))
+    let e = c .before in
+    let k = e .before .before .check-joined in
+    let a = e .before .before .before .before .before .args in
+    c .check-join-counted .ensures
+    ∙ counted-join (routeOf (a .route)) (a .m) (joinedParts (a .cones .now) (a .count) (a .words .now)) (k .result .rows) (k .result .overlaps) (k .ensures .1 (e .if1 .left)) (a .n)
+    ∙ seven-passed (routeOf (a .route)) (a .n) (a .m) (a .cones .now) (a .count) (a .words .now) (seven e)
 
 pub check-join-spec : {M : Type 1} → statement M
 check-join-spec =
-    tie.close (tie.spec check-joined-requires returns check-join-route-requires returns-2)
+    tie.close (tie.spec check-joined-requires returns check-join-counted-requires returns-2)

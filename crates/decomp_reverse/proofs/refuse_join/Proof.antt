@@ -4,7 +4,6 @@ use mathlib.Core.List.{[], _∷_}
 use Rattle.layout.specs.Problem.{solution, one64}
 use Rattle.layout.specs.Answers.{routeOf, roomy, joinedParts, solutionFits, mapRight, joinChecks}
 use Rattle.checks.specs.Order.{joinedRefusal}
-use Rattle.checks.proofs.Checked.{joined-sound}
 use Rattle.decomp_reverse.proofs.Order.{join-order, seven-refused}
 use borrow.Author.Needs.{needs}
 use Rattle.decomp_reverse.proofs.refuse_join.Statement.{statement}
@@ -18,28 +17,21 @@ check-joined-requires c κs = search needs
 
 returns : tie.Need-returns
 returns c =
-    let k = c .before in
+    let k = c .before .before in
     let a = start k .args in
     let route = routeOf (a .route) in
     let ps = joinedParts (a .cones .now) (a .count) (a .words .now) in
     let room : Bool = roomy (a .n ∷ a .m ∷ a .m ∷ 2 ∷ []) (a .x-room ∷ a .s-room ∷ a .z-room ∷ a .scalars-room ∷ []) in
     let fit : Bool = solutionFits route (a .n) (a .m) ps (solution (a .x .now) (a .s .now) (a .z .now) one64 one64) && mapRight route ps (a .entries .now) in
-    let e = k .check-joined .ensures ∙ seven-refused route (a .n) (a .m) (a .cones .now) (a .count) (a .words .now) (λ z. c .if1 .taken (k .check-joined .ensures ∙ z)) in
+    let e = k .check-joined .ensures .0 ∙ seven-refused route (a .n) (a .m) (a .cones .now) (a .count) (a .words .now) (λ z. c .if1 .taken (k .check-joined .ensures .0 ∙ z)) in
     e ∙ sym (join-order (joinChecks route (a .n) (a .m) (a .cones .now) (a .count) (a .words .now)) room fit .0 (λ z. c .if1 .taken (e ∙ z)))
 
 -- checks 1 to 7 passed
-seven : (c : tie.Else1) → let a = start (c .before) .args in joinedRefusal (a .n) (a .m) (a .cones .now) (a .count) (a .words .now) ≡ 0
-seven c = sym (c .before .check-joined .ensures) ∙ c .if1 .left
-
-get-decomposed-dim-and-overlaps-requires : tie.Need-get-decomposed-dim-and-overlaps-requires
-get-decomposed-dim-and-overlaps-requires c κs =
-    let a = start (c .before) .args in
-    joined-sound (a .n) (a .m) (a .cones .now) (a .count) (a .words .now) (seven c)
+seven : (c : tie.Else1) → let a = start (c .before .before) .args in joinedRefusal (a .n) (a .m) (a .cones .now) (a .count) (a .words .now) ≡ 0
+seven c = sym (c .before .before .check-joined .ensures .0) ∙ c .if1 .left
 
 refuse-counted-requires : tie.Need-refuse-counted-requires
-refuse-counted-requires c κs =
-    let d = c .get-decomposed-dim-and-overlaps .ensures in
-    (seven (c .before), (d .0, d .1 .0))
+refuse-counted-requires c κs = (seven c, c .before .before .check-joined .ensures .1 (c .if1 .left))
 
 returns-2 : tie.Need-returns-2
 returns-2 c = c .refuse-counted .ensures
@@ -50,6 +42,5 @@ refuse-join-spec =
     (tie.spec
     check-joined-requires
     returns
-    get-decomposed-dim-and-overlaps-requires
     refuse-counted-requires
     returns-2)
