@@ -1,7 +1,7 @@
 -- Numbers and slices in a walk by hand: their machine values, and what is owned of them.
---     Datum            a type whose values each have one machine value, and own facts alone: numbers, bools, nothing
+--     Datum            a type whose values each have one machine value, and own facts alone: numbers, bools, nothing, structs of these.        of-type     that is a value of its MIR type
 --     had              what such a value owns is had for nothing.        number, size     of a number
-use mathlib.Core.Path.{refl}
+use mathlib.Core.Path.{_≡_, refl, sym, ap, subst, _∙_}
 use Prim.Native.Nat.{ℕ, _<_, _^_}
 use mathlib.Core.List.{List, [], _∷_}
 use lib.ListN.{length}
@@ -14,30 +14,28 @@ use prog.Wp.{Heap}
 use ghost.Atoms.{Atoms}
 use types.Kit.{Given, Item, ‵, Goal, Step}
 use denote.RattleType.{RattleType}
-use denote.Laws.{Is, Tells, Makes}
+use denote.Laws.{Is, Tells, Makes, Lawful, Typed}
+use denote.Memory.{lone}
 use denote.Plain.{UInt, Nothing, uint-tells, uint-lawful, uint-makes, bool-tells, bool-lawful, bool-makes, nothing-tells, nothing-lawful, nothing-makes}
 use denote.Ref.{RefT}
 use denote.Slice.{sliceVal, finally}
 use denote.Builtin.{bool}
 use denote.Steps.{owned}
+use denote.Struct.Struct.{Plains}
+use denote.Struct.Declared.{Declared, fields, row}
+use denote.Struct.Laws as LL
 
 pub record Datum : Type 3 where
   pub R : RattleType
   pub ty : Ty
+  pub one : R .mir ≡ ty ∷ []
   pub val : R .Denot → Val
   pub tells : Tells R (Is R) (λ x. val x ∷ [])
-  pub typed : {M : Type 1} (𝓤 : URA M) (H : Heap 𝓤) (A : Atoms 𝓤) (W : Given 𝓤 H A) (x : R .Denot) → Is R x (val x ∷ []) → T (hasTy ty (val x)) × WT (val x)
+  pub lawful : {M : Type 1} (𝓤 : URA M) (H : Heap 𝓤) (A : Atoms 𝓤) (W : Given 𝓤 H A) → Lawful 𝓤 H A R
   pub makes : {M : Type 1} (𝓤 : URA M) (H : Heap 𝓤) (A : Atoms 𝓤) (W : Given 𝓤 H A) → Makes 𝓤 H A R (Is R)
 
 abbrev uints : Width → Datum
-uints w = record {
-  R = UInt w;
-  ty = tyInt w;
-  val = vint w;
-  tells = uint-tells w;
-  typed = λ 𝓤 H A W x is. uint-lawful 𝓤 H A W w .typed x (vint w x ∷ []) is .0;
-  makes = λ 𝓤 H A W. uint-makes 𝓤 H A W w;
-}
+uints w = record { R = UInt w; ty = tyInt w; one = refl; val = vint w; tells = uint-tells w; lawful = λ 𝓤 H A W. uint-lawful 𝓤 H A W w; makes = λ 𝓤 H A W. uint-makes 𝓤 H A W w }
 
 abbrev pub u32s : Datum
 u32s = uints w32
@@ -46,24 +44,18 @@ abbrev pub usizes : Datum
 usizes = uints w64
 
 abbrev pub bools : Datum
-bools = record {
-  R = bool;
-  ty = tyBool;
-  val = vbool;
-  tells = bool-tells;
-  typed = λ 𝓤 H A W x is. bool-lawful 𝓤 H A W .typed x (vbool x ∷ []) is .0;
-  makes = λ 𝓤 H A W. bool-makes 𝓤 H A W;
-}
+bools = record { R = bool; ty = tyBool; one = refl; val = vbool; tells = bool-tells; lawful = bool-lawful; makes = bool-makes }
 
 abbrev pub nothings : Datum
-nothings = record {
-  R = Nothing;
-  ty = tyUnit;
-  val = λ _. vunit;
-  tells = nothing-tells;
-  typed = λ 𝓤 H A W x is. nothing-lawful 𝓤 H A W .typed x (vunit ∷ []) is .0;
-  makes = λ 𝓤 H A W. nothing-makes 𝓤 H A W;
-}
+nothings = record { R = Nothing; ty = tyUnit; one = refl; val = λ _. vunit; tells = nothing-tells; lawful = nothing-lawful; makes = nothing-makes }
+
+-- a declared struct's
+abbrev pub structs : (S : Declared) (L : LL.Laws S) → Plains (fields S) → Datum
+structs S L plain = record { R = row S; ty = lone (row S .mir); one = refl; val = LL.val S L; tells = LL.tells S L; lawful = LL.lawful S L; makes = λ 𝓤 H A W. LL.makes S plain 𝓤 H A }
+
+-- its machine value is one of its type, said as τ
+pub of-type : {M : Type 1} (𝓤 : URA M) (H : Heap 𝓤) (A : Atoms 𝓤) (W : Given 𝓤 H A) (D : Datum) (x : D .R .Denot) → Is (D .R) x (D .val x ∷ []) → {τ : Ty} → τ ≡ D .ty → T (hasTy τ (D .val x)) × WT (D .val x)
+of-type 𝓤 H A W D x is e = subst (λ (τs : List Ty). Typed τs (D .val x ∷ [])) (D .one ∙ ap (λ (τ : Ty). τ ∷ []) (sym e)) (D .lawful 𝓤 H A W .typed x (D .val x ∷ []) is) .0
 
 abbrev pub own-of : (D : Datum) → D .R .Denot → Fml
 own-of D x = D .R .own x (D .val x ∷ [])

@@ -13,9 +13,8 @@ use mir.Syntax.{named, w64}
 use mir.Val.{Val, vint, vbool}
 use base.Logic.{SProp, ent, id⊢}
 use base.Fml.{Share, Fml, fobor}
-use prog.Wp.{Env}
-use types.Kit.{Item, ‵, ⋆, atRet, _$_, _∵_, !, qed, by, move, drop, fsplit, done}
-use types.Run.{look, look-raw, forget, stop, hop, from, load, of-opd, bin, stays as keeps-on, leaves-loop, returns}
+use types.Kit.{Item, ‵, ⋆, _$_, _∵_, !, qed, by, move, drop, fsplit, done}
+use types.Run.{look, look-raw, forget, stop, hop, from, load, of-opd, bin, returns}
 use types.Share.{arr-parts}
 use denote.Laws.{Is, shows}
 use denote.Memory.{shares as row-shares}
@@ -35,14 +34,14 @@ use Rattle.cone_map.proofs.Walking.{accepted}
 use Rattle.cone_maps.proofs.Entries.{agree-start, agree-next, agree-end}
 use Rattle.by_hand.proofs.World.{World, Function}
 use Rattle.by_hand.proofs.Stars.{stars, shared-slice, had-twice, fact-of}
-use Rattle.by_hand.proofs.Values.{bools, own-of, had}
+use Rattle.by_hand.proofs.Values.{bools, own-of, of-type, had}
 use Rattle.by_hand.proofs.Outputs.{units}
 use Rattle.by_hand.proofs.Params.{shared}
-use Rattle.by_hand.proofs.Locals.{Blocks, env, becomes, value, pointer, len, sets, lands-in, free-all}
+use Rattle.by_hand.proofs.Locals.{Blocks, becomes, equals, value, pointer, len, sets, lands-in, free-all}
 use Rattle.by_hand.proofs.Operands.{loads}
 use Rattle.by_hand.proofs.Calling.{plain-arg, calls-handing}
-use Rattle.by_hand.proofs.Counted.{More, Ends, counted}
-use Rattle.by_hand.proofs.Walking.{Walked, Here, arg, known-of, Body, Returned, ends-in, Walk, walks-given, stands}
+use Rattle.by_hand.proofs.Counted.{Loop, More, Ends, counted, goes-on, stops}
+use Rattle.by_hand.proofs.Walking.{Walked, Here, arg, known-of, En, loop-in, Body, Returned, ends-in, walks-given, stands}
 use Rattle.cone_maps.proofs.Problem.{Passed, passed, with-entries, holding, entries-val, Local, places, entries, mach, Right, At-place, params-own, entries-lft, entries-share, entries-token, Slices, entriesOf, gather, start, begins, method-args, to-method, steps-on, indexes, entry-out}
 use Rattle.cone_map.proofs.ConeMapEntry as T
 use Rattle.cone_map.proofs.ConeMapEntry.Laws as T′
@@ -75,8 +74,6 @@ abbrev Checked : Here this → Type 0
 Checked h = let (refused, (m, (cones, (count, (words, _))))) = h .a in refused ≡ 0 → Sound m (cones .now) count (words .now)
 
 module _ (h : Here this) (given : Checked h) where
-  open World (h .w) using (𝓤, H, A, W, 𝓣)
-
   abbrev p : Passed
   p = passed (shared 2 tt T.the-row) (h .κs) (h .qs) (h .a) (h .are) (arg h 5) (known-of h 5 .0 .1) given
 
@@ -86,24 +83,22 @@ module _ (h : Here this) (given : Checked h) where
   abbrev answer : Bool
   answer = sameMap (map meant ys) (entriesOf p)
 
-  abbrev n : ℕ
-  n = length ys
-
   abbrev el : ℕ → ConeMapEntry
   el k = getD ys k blank
+
+  open World (h .w) using (𝓤, H, A, W)
 
   abbrev Entries : Fml
   Entries = ShrSlice (named 2) (entries-lft p) T.the-row .own (holding p ys) (entries-val p ∷ [])
 
-  -- what is left at the return
+  -- at the return the borrow is shut, and entries is as it was passed
   abbrev Done : List (Item 𝓤)
   Done = entries-token p ++ (‵ Entries ∷ Slices p [])
 
   exits : ent 𝓤 (⋆ 𝓤 H A Done) (Returned h (vbool answer))
   exits =
       -- [the entries' token; the entries; the tokens; the slices]
-      qed W Done ∵ move ! (2 ∷ 3 ∷ 0 ∷ []) $
-      ends-in h ! bools answer refl answer (units 6 tt) (units 6 tt) (stars (params-own p (Entries ∷ []))) refl
+      qed W Done ∵ move ! (2 ∷ 3 ∷ 0 ∷ []) $ ends-in h ! bools answer refl answer (units 6 tt) (units 6 tt) (stars (params-own p (Entries ∷ []))) refl
       (fact-of 𝓤 (λ e. ap (sameMap (map meant ys)) (accepted (p .refused) (coneMap (joinedParts (p .cones .now) (p .count) (p .words .now))) e))) $
       move ! (1 ∷ 2 ∷ 0 ∷ []) $ gather p [] ! (Entries ∷ []) $ done !
 
@@ -117,25 +112,24 @@ module _ (h : Here this) (given : Checked h) where
 
   -- the body, with any Kf after the return
   module _ (bs : Blocks (code.function .locals)) (Kf : Val → SProp 𝓤) (exits : ent 𝓤 (⋆ 𝓤 H A Done) (Kf (vbool answer))) where
-    abbrev En : Env 𝓤 H
-    En = env (code.function .locals) bs
-
     -- with a share of the entries
     module _ (s′ : Share) where
       -- k entries are compared
       abbrev At : (k : ℕ) → State k → List (Item 𝓤)
-      At k s = Slices p (‵ (row T.the-row s′ ys b o) ∷ ‵ (fobor (entries-lft p) (entries-share p) (arr-parts (row-shares T.the-row) (length ys) .part s′ ys b o)) ∷ ‵ Entries ∷ Local p En (some (mach (s .0)) ∷ some (vint w64 k) ∷ []))
+      At k s = Slices p (‵ (row T.the-row s′ ys b o) ∷ ‵ (fobor (entries-lft p) (entries-share p) (arr-parts (row-shares T.the-row) (length ys) .part s′ ys b o)) ∷ ‵ Entries ∷ Local p (En h bs) (some (mach (s .0)) ∷ some (vint w64 k) ∷ []))
 
-      more : More (h .w) En code.Mir.turn-1 code.Mir.t-4 (atRet En Kf) n State At
-      more k s small q′ again =
+      abbrev comparing : Loop (h .w)
+      comparing = loop-in h bs Kf code.Mir.turn-1 code.Mir.t-4 (length ys) State At
+
+      compares-one : More comparing
+      compares-one k s small q′ again =
           let c = s .0 in
           -- [the tokens; the slices; the row; the open borrow; entries; _0; …]: local i at 7 + 2 * i
-          sets ! (of-opd ! (len ! 19 refl refl)) 25 refl (tt, record { fits = room .0 }) $ sets ! (bin ! (value ! 23 refl) (value ! 25 refl) tt) 27 refl (tt, tt) $
-          becomes ! 27 refl (ap vbool (lt-ltb k n small)) $ keeps-on ! (value ! 27 refl) $
+          sets ! (of-opd ! (len ! 19 refl refl)) 25 refl (tt, record { fits = room .0 }) $ goes-on ! (equals ! (ap vbool (lt-ltb k (length ys) small)) (bin ! (value ! 23 refl) (value ! 25 refl) tt)) 27 refl refl tt $
           forget ! 25 refl $ indexes ! k b o (omega (arith, room .0, room .1)) 25 (value ! 23 refl) refl tt (pointer ! 19 refl refl) refl 29 refl tt $
           move ! (4 ∷ []) $ entry-out ! s′ ys k blank b o small (λ g.
           -- [entries[k]; what it owns; the others; the tokens; the slices; the open borrow; entries; _0; …]: local i at 9 + 2 * i
-          sets ! (of-opd ! (load ! (from ! (hop ! (look ! 31 refl) (stop !))) (look-raw ! 0 refl))) 33 refl (entries .typed 𝓤 H A W (el k) g) $
+          sets ! (of-opd ! (load ! (from ! (hop ! (look ! 31 refl) (stop !))) (look-raw ! 0 refl))) 33 refl (of-type 𝓤 H A W entries (el k) g refl) $
           elem-back ! T.the-row s′ ys k blank (entries .val (el k) ∷ []) b o small $ move ! (1 ∷ 2 ∷ 3 ∷ 4 ∷ []) $
           -- [the tokens; the slices; the row; the open borrow; entries; _0; …]
           let args = method-args p c (s .3) (plain-arg entries (el k) g ∷ []) in
@@ -143,21 +137,19 @@ module _ (h : Here this) (given : Checked h) where
           forget ! 25 refl $ forget ! 27 refl $ forget ! 29 refl $ forget ! 31 refl $
           by ! (again (d, agree-next (p .cones .now) (p .words .now) ys k c d blank answer small (told .0) (s .1), told .1, is))))
 
-      ends : Ends (h .w) En code.Mir.turn-1 code.Mir.t-4 (atRet En Kf) n State At
-      ends s q′ left =
-          let c = s .0 in
-          sets ! (of-opd ! (len ! 19 refl refl)) 25 refl (tt, record { fits = room .0 }) $ sets ! (bin ! (value ! 23 refl) (value ! 25 refl) tt) 27 refl (tt, tt) $
-          becomes ! 27 refl (ap vbool (le-ltb n n (omega arith))) $ leaves-loop ! (value ! 27 refl) $ left _ $
-          had ! places c (s .3) $
+      all-compared : Ends comparing
+      all-compared s q′ left =
+          let (c, so-far, right, known) = s in
+          sets ! (of-opd ! (len ! 19 refl refl)) 25 refl (tt, record { fits = room .0 }) $ stops ! (equals ! (ap vbool (le-ltb (length ys) (length ys) (omega arith))) (bin ! (value ! 23 refl) (value ! 25 refl) tt)) 27 refl refl tt $ left _ $
+          had ! places c known $
           calls-handing (h .w) all-agreed ((tt, tt, tt, (c, tt), (mach c ∷ [], tt)), tt) ! (h .cited .1 .1 .0) [] (own-of places c ∷ []) refl (id⊢ 𝓤 _) bools (λ t us. t ≡ (c .same && not (c .here))) refl (loads ! 8 tt refl) (λ t us told is.
-          drop ! $ lands-in ! 7 refl (bools .typed 𝓤 H A W t is) $
-          becomes ! 7 refl (ap vbool (told ∙ agree-end (p .cones .now) (p .words .now) ys n c answer (omega arith) (s .1))) $
+          drop ! $ lands-in ! bools t is 7 refl refl $
+          becomes ! 7 refl (ap vbool (told ∙ agree-end (p .cones .now) (p .words .now) ys (length ys) c answer (omega arith) so-far)) $
           move ! (4 ∷ 5 ∷ []) $ shuts-slice ! tt T.the-row s′ ys b o $ move ! (0 ∷ 5 ∷ []) $
-          returns ! (look ! 6 refl) $ free-all ! Done En refl $ by ! exits)
+          returns ! (look ! 6 refl) $ free-all ! Done (En h bs) refl $ by ! exits)
 
-    body : Body h bs Kf
-    body =
-        begins (h .w) p Entries (h .cited .0) (λ c told is.
+    compares-all : Body h bs Kf
+    compares-all = begins (h .w) p Entries (h .cited .0) (λ c told is.
         -- [the tokens; the slices; what entries owns; its token; _0; …]
         move ! (4 ∷ []) $ had-twice _ ! (shared-slice (named 2) (entries-lft p) T.the-row (holding p ys) (entries-val p ∷ []) ∷ []) $ fsplit ! $ drop ! $ fsplit ! $ drop ! $
         -- [the borrow; entries; the tokens; the slices; the entries' token; _0; …]
@@ -165,12 +157,8 @@ module _ (h : Here this) (given : Checked h) where
         looks-slice ! tt T.the-row (Is T.the-row) (shows 𝓤 H A T.the-row) (λ e. entries .val e ∷ []) (entries .tells) (LL.copy T.the-type T′.the-copy 𝓤 H A W) ys b o (λ s′.
         -- [the row; the open borrow; the borrow; entries; the tokens; the slices; _0; …]
         move ! (4 ∷ 5 ∷ 6 ∷ 7 ∷ 0 ∷ 1 ∷ 3 ∷ []) $ move ! (7 ∷ []) $ drop ! $
-        counted (h .w) En code.Mir.turn-1 code.Mir.t-4 (atRet En Kf) n State (At s′) (more s′) (ends s′) (c, agree-start (p .cones .now) (p .words .now) ys 0 c (entriesOf p) (told .0) (told .2), told .1, is)))
-
-walk : (h : Here this) → Walk h
-walk h = walks-given h refl (λ bs t. t) (Checked h) refl (λ given bs. body h given bs (Returned h) (exits h given))
+        counted (comparing s′) (compares-one s′) (all-compared s′) (c, agree-start (p .cones .now) (p .words .now) ys 0 c (entriesOf p) (told .0) (told .2), told .1, is)))
 
 pub same-map-spec : {M : Type 1} → stated.statement M
 unfolding code.routine
-same-map-spec 𝓤 H 𝓜 𝓖 𝓡 =
-    stands this key.name code.env (code.calls-cone-map·MapPlace·start, (code.calls-cone-map·MapPlace·compare, (code.calls-cone-map·MapPlace·all-agreed, tt))) walk 𝓤 H 𝓜 𝓖 𝓡 (code.unfolded 𝓤 H 𝓜 𝓡)
+same-map-spec 𝓤 H 𝓜 𝓖 𝓡 = stands this key.name code.env (code.calls-cone-map·MapPlace·start, (code.calls-cone-map·MapPlace·compare, (code.calls-cone-map·MapPlace·all-agreed, tt))) (λ h. walks-given h refl (λ bs t. t) (Checked h) refl (λ given bs. compares-all h given bs (Returned h) (exits h given))) 𝓤 H 𝓜 𝓖 𝓡 (code.unfolded 𝓤 H 𝓜 𝓡)

@@ -27,11 +27,11 @@ use Rattle.by_hand.proofs.Values.{u32s, bools, own-of, had, number}
 use Rattle.by_hand.proofs.Places.{span, lft}
 use Rattle.by_hand.proofs.Outputs.{Lists, lefts, lengths, units, after}
 use Rattle.by_hand.proofs.Params.{Param, handed-number, handed-float, handed-shared, handed-lent, front, back, before}
-use Rattle.by_hand.proofs.Locals.{Blocks, env, lands-in, free-all}
+use Rattle.by_hand.proofs.Locals.{lands-in, free-all}
 use Rattle.by_hand.proofs.Operands.{loads}
 use Rattle.by_hand.proofs.Lending.{lends}
 use Rattle.by_hand.proofs.Calling.{Ends, says-ends, calls-handing, Arg, plain-arg, lent-arg, denoted, vals, calls-lent}
-use Rattle.by_hand.proofs.Walking.{Walked, Here, args, Owned, toks, outs, arg, known-of, Body, Returned, ends-in, taken-apart, to-call, Walk, walks, stands}
+use Rattle.by_hand.proofs.Walking.{Walked, Here, args, Owned, toks, outs, arg, known-of, En, Whole, Returned, ends-in, taken-apart, to-call, walks, stands}
 use Rattle.cone_map.specs.declared.ConeMapEntry.{ConeMapEntry}
 use Rattle.cone_map.specs.Entries.{meant, sameMap}
 use Rattle.cone_map.proofs.ConeMapEntry as E
@@ -43,45 +43,41 @@ use Rattle.decomp_reverse.proofs.check_join.Met as check-thm
 use Rattle.cone_maps.proofs.same_map as same-of
 use Rattle.cone_maps.proofs.same_map.Symbol as same-def
 use Rattle.cone_maps.proofs.same_map.Met as same-thm
-use Rattle.decomp_reverse_entries.proofs.join_as as core-of
-use Rattle.decomp_reverse_entries.proofs.join_as.Symbol as core-def
-use Rattle.decomp_reverse_entries.proofs.join_as.Met as core-thm
+use Rattle.decomp_reverse_entries.proofs.join_as as join-of
+use Rattle.decomp_reverse_entries.proofs.join_as.Symbol as join-def
+use Rattle.decomp_reverse_entries.proofs.join_as.Met as join-thm
 use Rattle.decomp_reverse_entries.proofs.join_compact_entries.Key as key
 use Rattle.decomp_reverse_entries.proofs.join_compact_entries as joins
 use Rattle.decomp_reverse_entries.proofs.join_compact_entries.Statement as stated
 use Rattle.decomp_reverse_entries.proofs.join_compact_entries.Code as code
 
-abbrev check : Function
-check = record { name = check-def.name; routine = check-def.routine; ended = check-of.ended; clauses = check-of.clauses; met = check-thm.met }
+abbrev check-join : Function
+check-join = record { name = check-def.name; routine = check-def.routine; ended = check-of.ended; clauses = check-of.clauses; met = check-thm.met }
 
-abbrev same : Function
-same = record { name = same-def.name; routine = same-def.routine; ended = same-of.ended; clauses = same-of.clauses; met = same-thm.met }
+abbrev same-map : Function
+same-map = record { name = same-def.name; routine = same-def.routine; ended = same-of.ended; clauses = same-of.clauses; met = same-thm.met }
 
-abbrev core : Function
-core = record { name = core-def.name; routine = core-def.routine; ended = core-of.ended; clauses = core-of.clauses; met = core-thm.met }
+abbrev join-as : Function
+join-as = record { name = join-def.name; routine = join-def.routine; ended = join-of.ended; clauses = join-of.clauses; met = join-thm.met }
 
 abbrev params : List (Param 10)
-params =
-    handed-number ∷ handed-number ∷ handed-shared 0 tt u32 ∷ handed-number ∷ handed-shared 1 tt u32 ∷ handed-shared 2 tt f64 ∷ handed-shared 3 tt f64 ∷ handed-shared 4 tt f64 ∷ handed-float ∷ handed-float
-    ∷ handed-shared 5 tt E.the-row ∷ handed-lent 6 tt f64 ∷ handed-lent 7 tt f64 ∷ handed-lent 8 tt f64 ∷ handed-lent 9 tt f64 ∷ []
+params = handed-number ∷ handed-number ∷ handed-shared 0 tt u32 ∷ handed-number ∷ handed-shared 1 tt u32 ∷ handed-shared 2 tt f64 ∷ handed-shared 3 tt f64 ∷ handed-shared 4 tt f64 ∷ handed-float ∷ handed-float ∷ handed-shared 5 tt E.the-row ∷ handed-lent 6 tt f64 ∷ handed-lent 7 tt f64 ∷ handed-lent 8 tt f64 ∷ handed-lent 9 tt f64 ∷ []
 
 abbrev this : Walked
-this = record { n = 10; params = params; result = plain (λ _. u32); clauses = joins.clauses; code = code.function; callees = check ∷ same ∷ core ∷ [] }
+this = record { n = 10; params = params; result = plain (λ _. u32); clauses = joins.clauses; code = code.function; callees = check-join ∷ same-map ∷ join-as ∷ [] }
 
 module _ (h : Here this) where
-  open World (h .w) using (𝓤, H, A, W)
-
   abbrev n : ℕ
   n = arg h 0
 
   abbrev m : ℕ
   m = arg h 1
 
-  abbrev cones : List ℕ
-  cones = arg h 2 .now
-
   abbrev count : ℕ
   count = arg h 3
+
+  abbrev cones : List ℕ
+  cones = arg h 2 .now
 
   abbrev words : List ℕ
   words = arg h 4 .now
@@ -124,15 +120,14 @@ module _ (h : Here this) where
 
   -- ---- the call of `join_as`, with both answers
 
+  open World (h .w) using (𝓤, H, A, W)
+
   module _ (r : ℕ) (t : Bool) where
     abbrev core-owned : List Fml
     core-owned = take 10 (Owned h) ++ (own-of u32s r ∷ own-of bools t ∷ drop 11 (Owned h))
 
-    abbrev to-core : Callee (h .w) core .Ghost
-    to-core = (
-      to-call h core-lifetimes (before (h .κs) (take 10 params) (front (h .κs) 10 params (h .a)) (r, (t, back (h .κs) 11 params (h .a)))) (take 10 (args h) ++ (u32s .val r ∷ bools .val t ∷ drop 11 (args h))),
-      tt,
-    )
+    abbrev to-core : Callee (h .w) join-as .Ghost
+    to-core = (to-call h core-lifetimes (before (h .κs) (take 10 params) (front (h .κs) 10 params (h .a)) (r, (t, back (h .κs) 11 params (h .a)))) (take 10 (args h) ++ (u32s .val r ∷ bools .val t ∷ drop 11 (args h))), tt)
 
     -- what it ensures: its answer w and the outputs' last values
     abbrev Joined : ℕ → Lists (outs h) → Type 0
@@ -142,10 +137,10 @@ module _ (h : Here this) where
         (w ≡ refusalAs t n m cones count words solved (lengths (outs h)))
         × (w₀ ≡ output w (answer .x) (x .now)) × (w₁ ≡ output w (answer .s) (s .now)) × (w₂ ≡ output w (answer .z) (z .now)) × (w₃ ≡ output w (scalars answer) (scalars-out .now))
 
-    module _ (us : Ends (h .w) core to-core) where
-      -- what is left at the return
+    module _ (us : Ends (h .w) join-as to-core) where
+      -- at the return there are its tokens, what it says of the last values, and the map
       abbrev Done : List (Item 𝓤)
-      Done = toks h core-lifetimes ++ (‵ (says-ends (h .w) core to-core us) ∷ (toks h (5 ∷ []) ++ (‵ (getD (Owned h) 10 ftrue) ∷ [])))
+      Done = toks h core-lifetimes ++ (‵ (says-ends (h .w) join-as to-core us) ∷ (toks h (5 ∷ []) ++ (‵ (getD (Owned h) 10 ftrue) ∷ [])))
 
       abbrev all-left : List (ℕ × List Fml)
       all-left = (12, lefts (outs h) (after 12 us)) ∷ []
@@ -161,30 +156,25 @@ module _ (h : Here this) where
           -- [the outputs' last values; the map]
           move ! (1 ∷ []) $ drop-item ! $ joins-said [] ! all-left 11 $ done !
 
-  body : (bs : Blocks (code.function .locals)) → Body h bs (Returned h)
-  body bs =
-      taken-apart h _ ! $
+  joins-all : Whole h
+  joins-all bs = taken-apart h _ ! $
       -- [n; m; cones; count; words; x; s; z; tau; kappa; map; the outputs; the tokens; _0; …]: local i at 25 + 2 * i
       move ! (15 ∷ 16 ∷ 2 ∷ 4 ∷ []) $
-      calls-lent (h .w) check (to-call h (span 0 2) (denoted check-args) (vals check-args), tt) (toks h (span 0 2)) check-args _ ! (h .cited .0) refl (id⊢ 𝓤 _) u32s (λ r. r ≡ checked) refl (and-then ! (lit ! tt) (loads ! 24 tt refl)) (λ r e is.
-      lands-in ! 57 refl (u32s .typed 𝓤 H A W r is) $
+      calls-lent (h .w) check-join (to-call h (span 0 2) (denoted check-args) (vals check-args), tt) (toks h (span 0 2)) check-args _ ! (h .cited .0) refl (id⊢ 𝓤 _) u32s (λ r. r ≡ checked) refl (and-then ! (lit ! tt) (loads ! 24 tt refl)) (λ r e is.
+      lands-in ! u32s r is 57 refl refl $
       -- [the tokens; cones; words; n; m; count; x; s; z; tau; kappa; map; the outputs; the other tokens; _0; …]
       move ! (0 ∷ 1 ∷ 20 ∷ 2 ∷ 3 ∷ 12 ∷ []) $
       let passed = same-args r (is .1) in
-      calls-lent (h .w) same (to-call h map-lifetimes (denoted passed) (vals passed), tt) (toks h map-lifetimes) passed _ ! (h .cited .1 .0) refl (fact-of 𝓤 (λ z. checks-passed compact n m cones count words (sym e ∙ z) .0)) bools
+      calls-lent (h .w) same-map (to-call h map-lifetimes (denoted passed) (vals passed), tt) (toks h map-lifetimes) passed _ ! (h .cited .1 .0) refl (fact-of 𝓤 (λ z. checks-passed compact n m cones count words (sym e ∙ z) .0)) bools
       (λ t. r ≡ 0 → t ≡ right-map) refl (loads ! 23 tt refl) (λ t same-there it.
-      lands-in ! 59 refl (bools .typed 𝓤 H A W t it) $ lends ! 25 (outs h) 12 18 refl refl $ number ! r (is .1) $ had ! bools t it $
+      lands-in ! bools t it 59 refl refl $ lends ! 25 (outs h) 12 18 refl refl $ number ! r (is .1) $ had ! bools t it $
       -- [same; refused; the tokens; cones; words; map; n; m; count; x; s; z; tau; kappa; the outputs; the other tokens; _0; …]
       move ! (2 ∷ 3 ∷ (span 20 7 ++ (8 ∷ 9 ∷ 5 ∷ 10 ∷ 6 ∷ (span 11 5 ++ (1 ∷ 0 ∷ span 16 4))))) $
-      calls-handing (h .w) core (to-core r t) ! (h .cited .1 .1 .0) (toks h core-lifetimes) (core-owned r t) refl (fact-of 𝓤 e) u32s (λ w us. Joined r t w (after 12 us)) refl (loads ! 3 tt refl) (λ w us told wis.
+      calls-handing (h .w) join-as (to-core r t) ! (h .cited .1 .1 .0) (toks h core-lifetimes) (core-owned r t) refl (fact-of 𝓤 e) u32s (λ w us. Joined r t w (after 12 us)) refl (loads ! 3 tt refl) (λ w us told wis.
       -- [its tokens; the outputs' last values; the map's token; the map; _0; …]
-      lands-in ! 12 refl (u32s .typed 𝓤 H A W w wis) $
-      returns ! (look ! 12 refl) $ free-all ! (Done r t us) (env (code.function .locals) bs) refl $ by ! (exits r t us w (wis .1) e same-there told))))
-
-walk : (h : Here this) → Walk h
-walk h = walks h refl (λ bs t. t) (body h)
+      lands-in ! u32s w wis 12 refl refl $
+      returns ! (look ! 12 refl) $ free-all ! (Done r t us) (En h bs) refl $ by ! (exits r t us w (wis .1) e same-there told))))
 
 pub join-compact-entries-spec : {M : Type 1} → stated.statement M
 unfolding code.routine
-join-compact-entries-spec 𝓤 H 𝓜 𝓖 𝓡 =
-    stands this key.name code.env (code.calls-decomp-reverse·check-join, (code.calls-cone-maps·same-map, (code.calls-decomp-reverse-entries·join-as, tt))) walk 𝓤 H 𝓜 𝓖 𝓡 (code.unfolded 𝓤 H 𝓜 𝓡)
+join-compact-entries-spec 𝓤 H 𝓜 𝓖 𝓡 = stands this key.name code.env (code.calls-decomp-reverse·check-join, (code.calls-cone-maps·same-map, (code.calls-decomp-reverse-entries·join-as, tt))) (λ h. walks h refl (λ bs t. t) (joins-all h)) 𝓤 H 𝓜 𝓖 𝓡 (code.unfolded 𝓤 H 𝓜 𝓡)
