@@ -1,4 +1,5 @@
 pub mod Counted
+pub mod World
 pub mod Stars
 pub mod Calling
 pub mod Locals

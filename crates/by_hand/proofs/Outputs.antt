@@ -1,6 +1,6 @@
 -- The `&mut [R]` parameters that a function walked by hand hands on, as a list.
 --     Lists os         a list for each: their last values.        alongside     of two lists of outputs
---     lefts os ws      what is said of them
+--     lefts os ws      what is said of them.        lengths       how long they are
 --     Units k X        k units, and X: what is bound of last values where k parameters have none.        units, after     put before, and taken off
 use Prim.Native.Nat.{ℕ, zero, suc, _<_, _^_}
 use mathlib.Core.List.{List, [], _∷_, _++_}
@@ -31,6 +31,10 @@ alongside (o ∷ os) us vs ws = (vs .0, alongside os us (vs .1) ws)
 abbrev pub lefts : (os : List Output) → Lists os → List Fml
 lefts [] ws = []
 lefts (o ∷ os) ws = left (o .R) (o .ref) (ws .0) ∷ lefts os (ws .1)
+
+abbrev pub lengths : List Output → List ℕ
+lengths [] = []
+lengths (o ∷ os) = length (o .ref .now) ∷ lengths os
 
 abbrev pub Units : ℕ → Type 0 → Type 0
 Units zero X = X
