@@ -50,6 +50,7 @@ fn pattern_right(cones: &[u32], words: &[u32], at: usize) -> bool
     utils::is_short_permutation(&words[a..e])
 }
 
+// Each pattern names a PSD cone of its dimension, and its ordering is a permutation.
 fn patterns_right(cones: &[u32], count: u32, words: &[u32]) -> bool
     requires { ⌜ endsRight (readPatterns count (now words)) ≡ true ⌝ }
     ensures { λ r. ⌜ r ≡ all (patternRight (now (cones .entry))) (patterns count (now (words .entry))) ⌝ }

@@ -3,7 +3,7 @@ use mathlib.Core.Path.{_≡_, sym, ap, _∙_}
 use mathlib.Core.List.{List, map}
 use lib.ListN.{drop}
 use borrow.Author.Tests.{le-leb, lt-leb}
-use Rattle.layout.specs.Patterns.{Pattern, read, patterns}
+use Rattle.layout.specs.Patterns.{Pattern, patterns}
 use Rattle.layout.specs.Checks.{originsRise}
 use Rattle.layout.proofs.Tests.{differ, and-true, and-false}
 use Rattle.supernode_tree.specs.Reads.{patternRead, patternAt, headOf}

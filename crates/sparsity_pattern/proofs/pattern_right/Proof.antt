@@ -3,7 +3,6 @@ use mathlib.Core.Bool.{_&&_}
 use mathlib.Core.Path.{_≡_, sym, ap, _∙_}
 use lib.ListN.{length, take, drop}
 use borrow.Author.Tests.{not-true, not-false}
-use Rattle.layout.specs.Patterns.{read}
 use Rattle.layout.specs.Checks.{isPermutation}
 use Rattle.layout.proofs.Tests.{differ, and-true, and-false}
 use Rattle.supernode_tree.specs.Reads.{patternRead, patternAt, headOf}
