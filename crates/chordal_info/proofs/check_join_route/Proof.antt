@@ -7,10 +7,6 @@ use Rattle.chordal_info.proofs.Routes.{counted-join}
 use borrow.Author.Needs.{needs}
 use Rattle.chordal_info.proofs.check_join_route.Statement.{statement}
 use Rattle.chordal_info.proofs.check_join_route.Tie as tie
-use Rattle.chordal_info.proofs.check_join_route.Reads as reads
-use Rattle.chordal_info.proofs.check_join_route.Lts as lts
-use Rattle.chordal_info.proofs.check_join_counted.Reads as check-join-counted-reads
-use Rattle.parts.proofs.get_decomposed_dim_and_overlaps.Reads as get-decomposed-dim-and-overlaps-reads
 
 get-decomposed-dim-and-overlaps-requires : tie.Need-get-decomposed-dim-and-overlaps-requires
 get-decomposed-dim-and-overlaps-requires c κs = search needs
