@@ -18,18 +18,13 @@ use Rattle.layout.proofs.Laid.{sound-laid}
 use Rattle.layout.proofs.Columns.{RightStarts, starts-right}
 use Rattle.layout.proofs.Sizes.{standard-count}
 use Rattle.layout.proofs.Keeps.{append-nil}
+use Rattle.tables.proofs.Laws.{three-more}
 use Rattle.augment_standard.specs.Beside.{hRows, besideStarts, besideRows, besideValues, besideH}
 use Rattle.augment_standard.proofs.Columns.{length-hRows}
 use Rattle.augment_standard.proofs.Beside.{beside-standard}
 use Rattle.csc.proofs.Writing.{written-after}
 
 -- three words at the front
-three : (old : List ℕ) (a b c : ℕ) → 3 ≤ length old → set (set (set old 0 a) 1 b) 2 c ≡ written (a ∷ b ∷ c ∷ []) old
-three [] a b c h = absurd (omega arith)
-three (x ∷ []) a b c h = absurd (omega arith)
-three (x ∷ y ∷ []) a b c h = absurd (omega arith)
-three (x ∷ y ∷ z ∷ old) a b c h = refl
-
 pub length-three : (old : List ℕ) (a b c : ℕ) → length (set (set (set old 0 a) 1 b) 2 c) ≡ length old
 length-three old a b c =
     length-set (set (set old 0 a) 1 b) 2 c ∙ length-set (set old 0 a) 1 b ∙ length-set old 0 a
@@ -39,7 +34,7 @@ pub three-then : (a b c : ℕ) (ys old : List ℕ) {vs : List ℕ} → 3 + lengt
     → let ws = set (set (set old 0 a) 1 b) 2 c in
     vs ≡ written ys (take (length ws - 3) (drop 3 ws))
     → take 3 ws ++ (vs ++ drop (length ws - 3) (drop 3 ws)) ≡ written (a ∷ b ∷ c ∷ ys) old
-three-then a b c ys old h e = written-after (a ∷ b ∷ c ∷ []) ys old h (three old a b c (omega arith)) e
+three-then a b c ys old h e = written-after (a ∷ b ∷ c ∷ []) ys old h (three-more [] old a b c 0 refl (omega arith)) e
 
 -- the original rows of k columns of H are written to the part after k places, and then spread
 module _ (m k : ℕ) (os old : List ℕ) (e : length os ≡ k) (room : 2 * k ≤ length old) where

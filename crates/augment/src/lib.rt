@@ -1,4 +1,4 @@
-// The cut of a whole problem, each output written by its own function.
+// The standard cut of a whole problem that the route accepts, each output written by its own function; P and q of either route.
 ghost use mathlib.Core.Path.{_≡_};
 ghost use mathlib.Core.List.{_++_};
 ghost use Prim.Native.Nat.{suc, _+_, _*_, _≤_};

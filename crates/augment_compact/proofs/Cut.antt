@@ -14,22 +14,23 @@ use Rattle.layout.specs.Blocks.{Row, kept, owned, overlap, originalRow, compact
 use Rattle.layout.specs.Checks.{layout, refusal}
 use Rattle.layout.specs.Compact.{Entry, column, csc, moved, rowEntries, augmentedColumn, overlapColumn, overlapColumns, compactA}
 use Rattle.layout.proofs.Tests.{and-iff, ltb-iff}
-use Rattle.layout.proofs.Members.{EveryAt, every-cons, has-below, all-has, has-at}
+use Rattle.layout.proofs.Members.{every-cons, has-below, all-has, has-at}
 use Rattle.layout.proofs.Joins.{map-same}
 use Rattle.layout.proofs.Keeps.{map-append}
 use Rattle.layout.proofs.Accepted.{accepted-sound}
 use Rattle.layout.proofs.Columns.{column-all}
 use Rattle.layout.proofs.Links.{links}
-use Rattle.layout.proofs.Cut.{right-rows, right-starts, link-count}
+use Rattle.layout.proofs.Cut.{right-starts, link-count}
 use Rattle.layout.proofs.Augmented.{columns-keep}
 use Rattle.codes.specs.Codes.{cutCode}
+use Rattle.codes.proofs.Rows.{Small, accepted-small}
 use Rattle.csc.proofs.Compressed.{totals, starts-beside, fields-append}
-use Rattle.augment_standard.specs.Beside.{hStarts}
+use Rattle.augment_standard.specs.Beside.{hStarts, pairValues}
+use Rattle.augment_standard.proofs.Columns.{length-pairs}
 use Rattle.columns.proofs.Lists.{join-same}
 use Rattle.columns.specs.Column.{codedColumn}
 use Rattle.augment_compact.proofs.Places.{rows-known}
-use Rattle.augment_compact.proofs.Steps.{length-tiedValues}
-use Rattle.augment_compact.specs.Cut.{codedColumns, tie, tiedRows, tiedValues, cutA}
+use Rattle.augment_compact.specs.Cut.{codedColumns, tie, tiedRows, cutA}
 
 -- ---- a column
 
@@ -74,9 +75,6 @@ column-coded es R h =
 
 -- ---- the overlaps' columns
 
-abbrev Small : List Row → Type 0
-Small R = EveryAt (kept 0) (λ x. originalRow x < 65536) R
-
 ties : (r : ℕ) (x : Row) → originalRow x < 65536 → csc (overlapColumn r x) .rows ≡ tie r (cutCode x)
 ties r (kept o) l = rw (lt-ltb o 65536 l)
 ties r (owned o) l = rw (lt-ltb o 65536 l)
@@ -92,7 +90,7 @@ tied-rows r (x ∷ R) h =
     fields-append (λ (e : Entry). e .row) (overlapColumn r x) (overlapColumns (suc r) R)
     ∙ ap₂ _++_ (ties r x here) (tied-rows (suc r) R rest)
 
-tied-values : (r : ℕ) (R : List Row) → csc (overlapColumns r R) .values ≡ tiedValues (length (links r R))
+tied-values : (r : ℕ) (R : List Row) → csc (overlapColumns r R) .values ≡ pairValues minusOne64 one64 (length (links r R))
 tied-values r [] = refl
 tied-values r (kept o ∷ R) = tied-values (suc r) R
 tied-values r (owned o ∷ R) = tied-values (suc r) R
@@ -115,9 +113,6 @@ module _ (p : Problem) (ok : refusal compact p ≡ 0) where
 
   abbrev added : List (List Entry)
   added = overlapColumns 0 R
-
-  small : Small R
-  small r l = omega (arith, right-rows p ok .inside r l .1, accepted-sound compact p ok .few)
 
   -- every entry stands on an original row
   entries-original : (c : ℕ) → c < p .n → Originals (column (p .A) c)
@@ -151,20 +146,20 @@ module _ (p : Problem) (ok : refusal compact p ≡ 0) where
   rows : compactA p .rows ≡ cutA (p .n) (p .A) codes (overlapCount (layout p)) .rows
   rows =
       fields-append (λ (e : Entry). e .row) (map (λ c. augmentedColumn (column (p .A) c) 0 R) (below (p .n))) added
-      ∙ ap₂ _++_ (ap (λ (cs : List (List Entry)). csc cs .rows) columns-coded) (tied-rows 0 R small)
+      ∙ ap₂ _++_ (ap (λ (cs : List (List Entry)). csc cs .rows) columns-coded) (tied-rows 0 R (accepted-small p ok))
 
   values : compactA p .values ≡ cutA (p .n) (p .A) codes (overlapCount (layout p)) .values
   values =
       fields-append (λ (e : Entry). e .value) (map (λ c. augmentedColumn (column (p .A) c) 0 R) (below (p .n))) added
       ∙ ap₂ _++_ (ap (λ (cs : List (List Entry)). csc cs .values) columns-coded)
-      (tied-values 0 R ∙ ap tiedValues (link-count p ok))
+      (tied-values 0 R ∙ ap (pairValues minusOne64 one64) (link-count p ok))
 
   -- the room that `write_entries` asks for the overlaps' rows
   pub tied-count : length (tiedRows 0 (map cutCode (compactRows (layout p)))) ≡ 2 * overlapCount (layout p)
   tied-count =
-      ap length (sym (tied-rows 0 R small)) ∙ length-map (join (λ c. c) added) (λ (e : Entry). e .row)
+      ap length (sym (tied-rows 0 R (accepted-small p ok))) ∙ length-map (join (λ c. c) added) (λ (e : Entry). e .row)
       ∙ sym (length-map (join (λ c. c) added) (λ (e : Entry). e .value)) ∙ ap length (tied-values 0 R)
-      ∙ length-tiedValues (length (links 0 R)) ∙ ap (λ (k : ℕ). 2 * k) (link-count p ok)
+      ∙ length-pairs minusOne64 one64 (length (links 0 R)) ∙ ap (λ (k : ℕ). 2 * k) (link-count p ok)
 
   -- what a caller cites: the tables written are those of the compact cut
   pub cut-compact : cutA (p .n) (p .A) (map cutCode (compactRows (layout p))) (overlapCount (layout p)) ≡ compactA p

@@ -20,8 +20,9 @@ use Rattle.layout.proofs.Laid.{accepted-count}
 use Rattle.layout.proofs.Moves.{rowAt, isMoved, RightRows}
 use Rattle.layout.proofs.Cut.{right-rows, right-starts, covered-entries}
 use Rattle.codes.specs.Codes.{cutCode}
+use Rattle.codes.proofs.Rows.{rows-inside}
 use Rattle.columns.specs.Marks.{RowsKnown, Placing}
-use Rattle.augment_compact.specs.Places.{placed, CodesKnown, ColumnsRise}
+use Rattle.augment_compact.specs.Places.{placed, ColumnsRise}
 
 -- ---- the table
 
@@ -80,15 +81,6 @@ module _ (m : ℕ) (few : m ≤ 65536) (R : List Row) (right : RightRows 0 0 m R
   moved-small (owned o) l = tt
   moved-small (overlap o q) l = absurd (omega arith)
 
-  code-known : (x : Row) → originalRow x < m → cutCode x < 65536 → cutCode x < m
-  code-known x i s = rw (code-moved x (moved-small x s)) i
-
-  pub codes-known : (n : ℕ) → m ≤ n → CodesKnown n (map cutCode R)
-  codes-known n h r l s =
-      let k : r < length R = omega (arith, size) in
-      let i = code-known (rowAt R r) (right .inside r k .1) (rw (code-at r k) at s) in
-      rw (code-at r k) (omega (arith, i))
-
   -- no code below 65,536 stands twice
   code-once : (r s : ℕ) → r < length codes → s < length codes → getD codes s 0 ≡ getD codes r 0 → getD codes r 0 < 65536 → s ≡ r
   code-once r s l k e small =
@@ -103,7 +95,7 @@ module _ (m : ℕ) (few : m ≤ 65536) (R : List Row) (right : RightRows 0 0 m R
   pub places-own : (t : List ℕ) → m ≤ length t → (r : ℕ) → r < length (map cutCode R) → getD (map cutCode R) r 0 < 65536
       → getD (placed 0 (map cutCode R) t) (getD (map cutCode R) r 0) 0 ≡ r
   places-own t b r l s =
-      placed-here 0 codes t r l s (codes-known (length t) b r l s) (λ j k e. code-once r j l k e s) ∙ zero-add r
+      placed-here 0 codes t r l s (rows-inside (length t) R (λ j k. omega (arith, right .inside j k .1)) r l s) (λ j k e. code-once r j l k e s) ∙ zero-add r
 
   -- an overlap's code is above 65,536 by a row before it
   code-small : (r : ℕ) → r < length R → (x : Row) → rowAt R r ≡ x → originalRow x < m → cutCode x < 65536 + length R
@@ -188,7 +180,3 @@ module _ (p : Problem) (ok : refusal compact p ≡ 0) where
       rows-placing (p .m) (sizes .1) R (right-rows p ok) t (p .A .rows) b (omega (arith, few-rows, length-map R cutCode))
       (omega (arith, right-starts p ok .even, sizes .0)) rows-known
       (λ k l. all-has (λ r. has r (coveredRows (layout p))) (p .A .rows) .0 (covered-entries p ok) (getD (p .A .rows) k 0) (has-getD (p .A .rows) k 0 l))
-
-  -- and `write_place`
-  pub accepted-known : (n : ℕ) → p .m ≤ n → CodesKnown n (map cutCode (compactRows (layout p)))
-  accepted-known n b = codes-known (p .m) (sizes .1) R (right-rows p ok) n b

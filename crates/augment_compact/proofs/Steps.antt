@@ -1,17 +1,15 @@
 -- The work left at a code, and the overlaps' columns before it.
-use Prim.Native.Nat.{ℕ, zero, suc, _+_, _*_, _≤_, _<_}
+use Prim.Native.Nat.{ℕ, suc, _+_, _≤_, _<_}
 use native.Mathlib.Numerals.{add-one}
 use native.Mathlib.Omega.{arith}
-use mathlib.Core.Path.{_≡_, refl, ap, sym, _∙_}
+use mathlib.Core.Path.{_≡_, ap, sym, _∙_}
 use mathlib.Core.Bool.{cond}
 use mathlib.Core.List.{List, [], _∷_, _++_, append-assoc}
 use lib.ListN.{length, getD, take, drop, set, length-append, take-append-drop, drop-of-length-le}
 use lib.Seq.{drop-cons, take-suc, length-take-le}
 use lib.Dec.{ltb}
-use lib.Ieee.{Float}
-use Rattle.layout.specs.Problem.{one64, minusOne64}
 use Rattle.layout.proofs.Keeps.{append-nil}
-use Rattle.augment_compact.specs.Cut.{tie, tiedRows, tiedValues}
+use Rattle.augment_compact.specs.Cut.{tie, tiedRows}
 use Rattle.augment_compact.specs.Places.{placed}
 
 -- ---- places
@@ -51,14 +49,3 @@ tied-append r (c ∷ cs) ds =
 pub tied-le : (codes : List ℕ) (r : ℕ) → length (tiedRows 0 (take r codes)) ≤ length (tiedRows 0 codes)
 tied-le codes r =
     omega (arith, tied-append 0 (take r codes) (drop r codes), ap (λ (l : List ℕ). length (tiedRows 0 l)) (take-append-drop r codes))
-
-values-last : (k : ℕ) → tiedValues (suc k) ≡ tiedValues k ++ (minusOne64 ∷ one64 ∷ [])
-values-last zero = refl
-values-last (suc k) = ap (λ (l : List Float). minusOne64 ∷ one64 ∷ l) (values-last k)
-
-pub values-more : (k : ℕ) → tiedValues (k + 1) ≡ tiedValues k ++ (minusOne64 ∷ one64 ∷ [])
-values-more k = rw add-one (values-last k)
-
-pub length-tiedValues : (k : ℕ) → length (tiedValues k) ≡ 2 * k
-length-tiedValues zero = refl
-length-tiedValues (suc k) = omega (arith, length-tiedValues k)

@@ -1,5 +1,5 @@
 -- The compact cut's A from the codes of the augmented rows. Definitions only.
-use Prim.Native.Nat.{ℕ, zero, suc, _-_}
+use Prim.Native.Nat.{ℕ, suc, _-_}
 use mathlib.Core.Bool.{cond}
 use mathlib.Core.List.{List, [], _∷_, _++_, map}
 use lib.ListN.{length}
@@ -8,7 +8,7 @@ use lib.Ieee.{Float}
 use Rattle.layout.specs.Lists.{below}
 use Rattle.layout.specs.Problem.{Csc, one64, minusOne64}
 use Rattle.layout.specs.Compact.{Entry, column, csc}
-use Rattle.augment_standard.specs.Beside.{besideStarts}
+use Rattle.augment_standard.specs.Beside.{pairValues, besideStarts}
 use Rattle.columns.specs.Column.{codedColumn}
 
 -- all columns of A
@@ -23,17 +23,12 @@ abbrev pub tiedRows : ℕ → List ℕ → List ℕ
 tiedRows r [] = []
 tiedRows r (c ∷ cs) = tie r c ++ tiedRows (suc r) cs
 
--- -1 and +1 in each of k overlaps' columns
-abbrev pub tiedValues : ℕ → List Float
-tiedValues zero = []
-tiedValues (suc k) = minusOne64 ∷ one64 ∷ tiedValues k
-
--- A's columns moved, and k overlaps' columns after them
+-- A's columns moved, and k overlaps' columns after them, with -1 and +1 in each
 abbrev pub cutRows : ℕ → Csc → List ℕ → List ℕ
 cutRows n A codes = csc (codedColumns n A codes) .rows ++ tiedRows 0 codes
 
 abbrev pub cutValues : ℕ → Csc → List ℕ → ℕ → List Float
-cutValues n A codes k = csc (codedColumns n A codes) .values ++ tiedValues k
+cutValues n A codes k = csc (codedColumns n A codes) .values ++ pairValues minusOne64 one64 k
 
 abbrev pub cutA : ℕ → Csc → List ℕ → ℕ → Csc
 cutA n A codes k = record {

@@ -2,7 +2,7 @@
 use Prim.Native.Nat.{ℕ, suc, _<_}
 use mathlib.Core.Bool.{cond}
 use mathlib.Core.List.{List, [], _∷_}
-use lib.ListN.{length, getD, set}
+use lib.ListN.{set}
 use lib.Dec.{T, ltb}
 use Rattle.layout.specs.Lists.{rises}
 use Rattle.layout.specs.Problem.{Csc}
@@ -12,10 +12,6 @@ use Rattle.layout.specs.Checks.{columnRows}
 abbrev pub placed : ℕ → List ℕ → List ℕ → List ℕ
 placed r [] t = t
 placed r (c ∷ cs) t = placed (suc r) cs (cond (ltb c 65536) (set t c r) t)
-
--- the codes that are original rows are below n
-abbrev pub CodesKnown : ℕ → List ℕ → Type 0
-CodesKnown n codes = (r : ℕ) → r < length codes → getD codes r 0 < 65536 → getD codes r 0 < n
 
 -- the rows of each column rise
 abbrev pub ColumnsRise : ℕ → Csc → Type 0

@@ -7,14 +7,15 @@ ghost use lib.Dec.{T};
 ghost use Rattle.layout.specs.Lists.{written};
 ghost use Rattle.layout.specs.Checks.{startsRight};
 ghost use Rattle.layout.specs.Compact.{csc};
+ghost use Rattle.codes.specs.Codes.{RowsInside};
 ghost use Rattle.csc.specs.Matrix.{matrix};
-ghost use Rattle.augment_compact.specs.Cut.{codedColumns, tiedRows, tiedValues, cutRows, cutValues};
-ghost use Rattle.augment_compact.specs.Places.{placed, CodesKnown, ColumnsRise};
+ghost use Rattle.augment_compact.specs.Cut.{codedColumns, tiedRows, cutRows, cutValues};
+ghost use Rattle.augment_compact.specs.Places.{placed, ColumnsRise};
 ghost use Rattle.columns.specs.Marks.{Placing, Clear};
 
 // Writes where each original row moves to.
 pub fn write_place(place: &mut [u32], codes: &[u32])
-    requires { ⌜ CodesKnown (length (now place)) (now codes) × (length (now codes) ≤ 262144) ⌝ }
+    requires { ⌜ RowsInside (length (now place)) (now codes) × (length (now codes) ≤ 262144) ⌝ }
     ensures { λ _. ⌜ now (place .exit) ≡ placed 0 (now (codes .entry)) (now (place .entry)) ⌝ }
 {
     let mut r = 0;
@@ -85,22 +86,7 @@ pub fn write_overlap_rows(out: &mut [u32], codes: &[u32])
     }
 }
 
-// Writes the values of k overlaps' columns.
-pub fn write_overlap_values(out: &mut [f64], k: usize)
-    requires { ⌜ 2 * k ≤ length (now out) ⌝ }
-    ensures { λ _. ⌜ now (out .exit) ≡ written (tiedValues k) (now (out .entry)) ⌝ }
-{
-    let mut t = 0;
-    let mut i = 0;
-    while i < k {
-        out[t] = -1.0;
-        out[t + 1] = 1.0;
-        t += 2;
-        i += 1;
-    }
-}
-
-// Writes the rows and the values of the compact cut's A: A's columns moved, and the k overlaps' columns. place and chunks are scratch; the
+// Writes the rows and the values of the compact cut's A: A's columns moved, and the k overlaps' columns, -1 and 1 in each. place and chunks are scratch; the
 // codes and the flags are as before then.
 pub fn write_entries(
     rows_out: &mut [u32],
@@ -115,7 +101,7 @@ pub fn write_entries(
     k: usize,
 )
     requires { ⌜ T (startsRight n (matrix (now starts) (now rows) (now values))) × ColumnsRise n (matrix (now starts) (now rows) (now values)) ⌝ }
-    requires { ⌜ CodesKnown (length (now place)) (now codes) × Placing (now codes) (placed 0 (now codes) (now place)) (now rows) × Clear (length (now codes)) (now chunks) ⌝ }
+    requires { ⌜ RowsInside (length (now place)) (now codes) × Placing (now codes) (placed 0 (now codes) (now place)) (now rows) × Clear (length (now codes)) (now chunks) ⌝ }
     requires { ⌜ (length (now rows) + length (tiedRows 0 (now codes)) ≤ length (now «rows_out»)) × (length (now values) + 2 * k ≤ length (now «values_out»)) ⌝ }
     ensures { λ _. ⌜ now («rows_out» .exit) ≡ written (cutRows n (matrix (now (starts .entry)) (now (rows .entry)) (now (values .entry))) (now (codes .entry))) (now («rows_out» .entry)) ⌝ }
     ensures { λ _. ⌜ now («values_out» .exit) ≡ written (cutValues n (matrix (now (starts .entry)) (now (rows .entry)) (now (values .entry))) (now (codes .entry)) k) (now («values_out» .entry)) ⌝ }
@@ -136,5 +122,5 @@ pub fn write_entries(
         values,
     );
     write_overlap_rows(&mut rows_out[rows.len()..], &*codes);
-    write_overlap_values(&mut values_out[values.len()..], k);
+    augment_standard::write_pairs(&mut values_out[values.len()..], k, -1.0, 1.0);
 }

@@ -13,7 +13,7 @@ use Rattle.layout.specs.Compact.{column, csc}
 use Rattle.layout.specs.Standard.{blockColumns, standardA}
 use Rattle.layout.proofs.Columns.{RightStarts, starts-right}
 use Rattle.csc.proofs.Compressed.{totals, starts-beside, rows-beside, values-beside}
-use Rattle.augment_standard.specs.Beside.{hStarts, hRows, hValues, besideH}
+use Rattle.augment_standard.specs.Beside.{hStarts, hRows, pairValues, besideH}
 
 columns-starts : (a r : ℕ) (os : List ℕ) → totals a (map length (blockColumns r os)) ≡ hStarts a (length os)
 columns-starts a r [] = refl
@@ -23,7 +23,7 @@ columns-rows : (r : ℕ) (os : List ℕ) → csc (blockColumns r os) .rows ≡ h
 columns-rows r [] = refl
 columns-rows r (o ∷ os) = ap (λ (l : List ℕ). o ∷ r ∷ l) (columns-rows (suc r) os)
 
-columns-values : (r : ℕ) (os : List ℕ) → csc (blockColumns r os) .values ≡ hValues (length os)
+columns-values : (r : ℕ) (os : List ℕ) → csc (blockColumns r os) .values ≡ pairValues one64 minusOne64 (length os)
 columns-values r [] = refl
 columns-values r (o ∷ os) = ap (λ (l : List Float). one64 ∷ minusOne64 ∷ l) (columns-values (suc r) os)
 

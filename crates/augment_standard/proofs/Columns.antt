@@ -1,4 +1,4 @@
--- The tables of H over -I, one column more.
+-- The tables of H over -I, one column more, and pairs of values.
 use Prim.Native.Nat.{ℕ, zero, suc, _+_, _*_, _≤_, _<_}
 use native.Mathlib.Numerals.{add-one}
 use native.Mathlib.Omega.{arith}
@@ -8,10 +8,9 @@ use lib.ListN.{length, getD, take, drop, set, length-drop}
 use lib.Seq.{take-suc, take-all, length-take-le, getD-take, getD-drop}
 use lib.Ieee.{Float}
 use Rattle.layout.specs.Lists.{written}
-use Rattle.layout.specs.Problem.{one64, minusOne64}
 use Rattle.layout.proofs.Starts.{written-rest}
 use Rattle.csc.proofs.Writing.{two-more}
-use Rattle.augment_standard.specs.Beside.{hStarts, hRows, hValues}
+use Rattle.augment_standard.specs.Beside.{hStarts, hRows, pairValues}
 
 pub length-hStarts : (a k : ℕ) → length (hStarts a k) ≡ k
 length-hStarts a zero = refl
@@ -21,9 +20,9 @@ pub length-hRows : (r : ℕ) (os : List ℕ) → length (hRows r os) ≡ 2 * len
 length-hRows r [] = refl
 length-hRows r (o ∷ os) = omega (arith, length-hRows (suc r) os)
 
-pub length-hValues : (k : ℕ) → length (hValues k) ≡ 2 * k
-length-hValues zero = refl
-length-hValues (suc k) = omega (arith, length-hValues k)
+pub length-pairs : (u v : Float) (k : ℕ) → length (pairValues u v k) ≡ 2 * k
+length-pairs u v zero = refl
+length-pairs u v (suc k) = omega (arith, length-pairs u v k)
 
 starts-last : (a k : ℕ) → hStarts a (suc k) ≡ hStarts a k ++ ((a + 2 * suc k) ∷ [])
 starts-last a zero = refl
@@ -76,9 +75,9 @@ module _ (r k : ℕ) (old : List ℕ) (room : 2 * k ≤ length old) where
   pub spread-done : (i : ℕ) → k ≤ i → done i ≡ hRows r os
   spread-done i h = ap (hRows r) (take-all i os (omega (arith, size)))
 
-values-last : (k : ℕ) → hValues (suc k) ≡ hValues k ++ (one64 ∷ minusOne64 ∷ [])
-values-last zero = refl
-values-last (suc k) = ap (λ (l : List Float). one64 ∷ minusOne64 ∷ l) (values-last k)
+pairs-last : (u v : Float) (k : ℕ) → pairValues u v (suc k) ≡ pairValues u v k ++ (u ∷ v ∷ [])
+pairs-last u v zero = refl
+pairs-last u v (suc k) = ap (λ (l : List Float). u ∷ v ∷ l) (pairs-last u v k)
 
-pub values-more : (k : ℕ) → hValues (k + 1) ≡ hValues k ++ (one64 ∷ minusOne64 ∷ [])
-values-more k = rw add-one (values-last k)
+pub pairs-more : (u v : Float) (k : ℕ) → pairValues u v (k + 1) ≡ pairValues u v k ++ (u ∷ v ∷ [])
+pairs-more u v k = rw add-one (pairs-last u v k)

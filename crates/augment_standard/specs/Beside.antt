@@ -15,9 +15,10 @@ abbrev pub hRows : ℕ → List ℕ → List ℕ
 hRows r [] = []
 hRows r (o ∷ os) = o ∷ r ∷ hRows (suc r) os
 
-abbrev pub hValues : ℕ → List Float
-hValues zero = []
-hValues (suc k) = one64 ∷ minusOne64 ∷ hValues k
+-- the same two values in each of k columns
+abbrev pub pairValues : Float → Float → ℕ → List Float
+pairValues u v zero = []
+pairValues u v (suc k) = u ∷ v ∷ pairValues u v k
 
 abbrev pub besideStarts : List ℕ → ℕ → ℕ → List ℕ
 besideStarts starts entries k = starts ++ hStarts entries k
@@ -26,7 +27,7 @@ abbrev pub besideRows : List ℕ → ℕ → List ℕ → List ℕ
 besideRows rows m os = rows ++ hRows m os
 
 abbrev pub besideValues : List Float → ℕ → List Float
-besideValues values k = values ++ hValues k
+besideValues values k = values ++ pairValues one64 minusOne64 k
 
 -- A of m rows, with a column of H for each of the original rows os
 abbrev pub besideH : Csc → ℕ → List ℕ → Csc

@@ -1,9 +1,9 @@
-// The standard cut's matrix: A beside H, over zero beside -I. H has one 1 a column, and os has its row for each column.
+// The standard cut's matrix: A beside H, over zero beside -I. H has one 1 a column, at the block entry's original row.
 ghost use mathlib.Core.Path.{_≡_};
 ghost use Prim.Native.Nat.{_+_, _*_, _≤_, _<_};
 ghost use lib.ListN.{length, take, drop};
 ghost use Rattle.layout.specs.Lists.{written};
-ghost use Rattle.augment_standard.specs.Beside.{hStarts, hRows, hValues, besideStarts, besideValues};
+ghost use Rattle.augment_standard.specs.Beside.{hStarts, hRows, pairValues, besideStarts, besideValues};
 
 // Writes the ends of k columns of H over -I, which hold two entries each, where entries come before them.
 pub fn write_h_starts(out: &mut [u32], entries: u32, k: usize)
@@ -19,8 +19,8 @@ pub fn write_h_starts(out: &mut [u32], entries: u32, k: usize)
     }
 }
 
-// Writes the rows of H over -I: column i has its original row, and row m + i. The k original rows stand in place after as many more, so that
-// each is read before its place is written.
+// Writes the rows of H over -I: column i has its original row, and row m + i. The k original rows stand at out[k..2k], so that each
+// is read before its place is written.
 pub fn spread_rows(out: &mut [u32], k: usize, m: u32)
     requires { ⌜ (2 * k ≤ length (now out)) × (m + k ≤ 262144) ⌝ }
     ensures { λ _. ⌜ now (out .exit) ≡ written (hRows m (take k (drop k (now (out .entry))))) (now (out .entry)) ⌝ }
@@ -35,16 +35,16 @@ pub fn spread_rows(out: &mut [u32], k: usize, m: u32)
     }
 }
 
-// Writes the values of k columns of H over -I: 1 and -1 for each.
-pub fn write_h_values(out: &mut [f64], k: usize)
+// Writes the values of k columns that have the same two each.
+pub fn write_pairs(out: &mut [f64], k: usize, first: f64, second: f64)
     requires { ⌜ 2 * k ≤ length (now out) ⌝ }
-    ensures { λ _. ⌜ now (out .exit) ≡ written (hValues k) (now (out .entry)) ⌝ }
+    ensures { λ _. ⌜ now (out .exit) ≡ written (pairValues first second k) (now (out .entry)) ⌝ }
 {
     let mut t = 0;
     let mut i = 0;
     while i < k {
-        out[t] = 1.0;
-        out[t + 1] = -1.0;
+        out[t] = first;
+        out[t + 1] = second;
         t += 2;
         i += 1;
     }
@@ -59,11 +59,11 @@ pub fn write_starts(out: &mut [u32], starts: &[u32], entries: u32, k: usize)
     write_h_starts(&mut out[starts.len()..], entries, k);
 }
 
-// Writes the values of A beside the k columns of H.
+// Writes the values of A beside the k columns of H over -I: 1 and -1 in each.
 pub fn write_values(out: &mut [f64], values: &[f64], k: usize)
     requires { ⌜ length (now values) + 2 * k ≤ length (now out) ⌝ }
     ensures { λ _. ⌜ now (out .exit) ≡ written (besideValues (now (values .entry)) k) (now (out .entry)) ⌝ }
 {
     csc::copy_values(&mut *out, values);
-    write_h_values(&mut out[values.len()..], k);
+    write_pairs(&mut out[values.len()..], k, 1.0, -1.0);
 }

@@ -15,7 +15,7 @@ use Rattle.layout.proofs.Rising.{rises-keep, rises-upFrom}
 use Rattle.layout.proofs.Triangles.{triangle-mono}
 use Rattle.layout.proofs.Pairs.{length-pairs}
 use Rattle.blocks.specs.Vertices.{Below, originalsOf}
-use Rattle.blocks.specs.Columns.{Inside}
+use Rattle.blocks.specs.Columns.{ColumnsFit}
 use Rattle.blocks.specs.Cliques.{cliqueHere, verticesHere, rowsHere}
 
 module _ (ws ordering : List ℕ) (at : ℕ) where
@@ -36,8 +36,8 @@ module _ (ws ordering : List ℕ) (at : ℕ) where
       has-below (getD vs k 0) (length ordering) .0
       (has-keep (λ w. has w (originalsOf ordering (members (cliqueHere ws at)))) (getD vs k 0) (below (length ordering)) .0 (has-getD vs k 0 l) .0)
 
-  pub vertices-inside : (base : ℕ) → base + triangle (length ordering) ≤ 65536 → Inside base (verticesHere ws ordering at)
-  vertices-inside base h k l =
+  pub vertices-fit : (base n : ℕ) → base + triangle (length ordering) ≤ n → ColumnsFit base (verticesHere ws ordering at) n
+  vertices-fit base n h k l =
       omega (arith, triangle-mono (suc (getD (verticesHere ws ordering at) k 0)) (length ordering) (vertices-below k l))
 
   pub length-rows : (base : ℕ) → length (rowsHere base ws ordering at) ≡ triangle (length (verticesHere ws ordering at))

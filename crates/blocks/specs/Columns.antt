@@ -9,6 +9,6 @@ use Rattle.layout.specs.Blocks.{Pair, pair}
 abbrev pub columnPairs : List ℕ → ℕ → List Pair
 columnPairs vs j = map (λ i. pair (getD vs i 0) (getD vs j 0)) (below (suc j))
 
--- every entry of the block lies below row 65,536
-abbrev pub Inside : ℕ → List ℕ → Type 0
-Inside base vs = (k : ℕ) → k < length vs → base + triangle (suc (getD vs k 0)) ≤ 65536
+-- each column of the block, whose cone starts at row base, ends below row n
+abbrev pub ColumnsFit : ℕ → List ℕ → ℕ → Type 0
+ColumnsFit base vs n = (k : ℕ) → k < length vs → base + triangle (suc (getD vs k 0)) ≤ n

@@ -1,7 +1,7 @@
 -- The original rows of the augmented rows, part by part.
 use Prim.Native.Nat.{ℕ, _+_}
 use mathlib.Core.Path.{_≡_, refl, sym, ap, ap₂, _∙_}
-use mathlib.Core.Bool.{Bool}
+use mathlib.Core.Bool.{Bool, true}
 use mathlib.Core.List.{List, [], _∷_, _++_, map}
 use Rattle.layout.specs.Lists.{upFrom, join}
 use Rattle.layout.specs.Triangle.{triangle}
@@ -11,21 +11,21 @@ use Rattle.layout.specs.Blocks.{Part, whole, cut, kept, originalRow, patternRow
 use Rattle.layout.specs.Checks.{Sound, coveredRows}
 use Rattle.layout.proofs.Keeps.{map-append}
 use Rattle.layout.proofs.Laid.{Laid, sound-laid}
+use Rattle.blocks.specs.Vertices.{marked}
+use Rattle.blocks.proofs.Laws.{marked-append}
 use Rattle.blocks.proofs.Patterns.{original-rows}
-use Rattle.chordal_info.specs.Covered.{marked}
-use Rattle.chordal_info.proofs.Marks.{marked-append}
 
 -- the original rows of a part's augmented rows
-abbrev pub partRows : Part → List ℕ
-partRows (whole i c row) = upFrom row (rowCount c)
-partRows (cut i row k p) = map originalRow (patternRows p row 0)
+abbrev pub partOriginals : Part → List ℕ
+partOriginals (whole i c row) = upFrom row (rowCount c)
+partOriginals (cut i row k p) = map originalRow (patternRows p row 0)
 
 kept-originals : (xs : List ℕ) → map originalRow (map kept xs) ≡ xs
 kept-originals [] = refl
 kept-originals (x ∷ xs) = ap (λ (r : List ℕ). x ∷ r) (kept-originals xs)
 
 -- wherever the augmented rows start
-originals-from : (first row : ℕ) (ps : List Part) → Laid row ps → map originalRow (rowsFrom first ps) ≡ join partRows ps
+originals-from : (first row : ℕ) (ps : List Part) → Laid row ps → map originalRow (rowsFrom first ps) ≡ join partOriginals ps
 originals-from first row [] h = refl
 originals-from first row (whole i c r ∷ ps) h =
     map-append originalRow (map kept (upFrom r (rowCount c))) (rowsFrom (first + rowCount c) ps)
@@ -37,16 +37,16 @@ originals-from first row (cut i r k p ∷ ps) h =
     (originals-from (first + blockRows p) (row + triangle (p .vertexCount)) ps (h .2))
 
 pub covered-parts : {m : ℕ} {cones : List ℕ} {count : ℕ} {words : List ℕ} → Sound m cones count words
-    → let ps = parts (records cones) (patterns count words) in coveredRows ps ≡ join partRows ps
+    → let ps = parts (records cones) (patterns count words) in coveredRows ps ≡ join partOriginals ps
 covered-parts {m} {cones} {count} {words} h = originals-from 0 0 (parts (records cones) (patterns count words)) (sound-laid h .0)
 
 -- the rows left to mark are those of the parts ahead
-pub part-step : (x : Part) (ps qs : List Part) (os : List ℕ) (marks : List Bool) → ps ≡ x ∷ qs → os ≡ partRows x
-    → marked (join partRows qs) (marked os marks) ≡ marked (join partRows ps) marks
+pub part-step : (x : Part) (ps qs : List Part) (os : List ℕ) (marks : List Bool) → ps ≡ x ∷ qs → os ≡ partOriginals x
+    → marked true (join partOriginals qs) (marked true os marks) ≡ marked true (join partOriginals ps) marks
 part-step x ps qs os marks e f =
-    ap (λ (rows : List ℕ). marked (join partRows qs) (marked rows marks)) f ∙ sym (marked-append (partRows x) (join partRows qs) marks)
-    ∙ ap (λ (rs : List Part). marked (join partRows rs) marks) (sym e)
+    ap (λ (rows : List ℕ). marked true (join partOriginals qs) (marked true rows marks)) f ∙ sym (marked-append true (partOriginals x) (join partOriginals qs) marks)
+    ∙ ap (λ (rs : List Part). marked true (join partOriginals rs) marks) (sym e)
 
-pub parts-done : (ps : List Part) (marks : List Bool) → ps ≡ [] → marks ≡ marked (join partRows ps) marks
+pub parts-done : (ps : List Part) (marks : List Bool) → ps ≡ [] → marks ≡ marked true (join partOriginals ps) marks
 unfolding marked
 parts-done ps marks e = rw e

@@ -1,11 +1,13 @@
 -- Check 10 and the sizes from counts, for a route's number and for a problem that the route accepts.
-use Prim.Native.Nat.{ℕ, zero, suc, _+_, _≤_}
+use Prim.Native.Nat.{ℕ, zero, suc, _+_, _≤_, _<_}
 use native.Mathlib.Numerals.{add-one}
 use native.Mathlib.Omega.{arith}
 use mathlib.Core.Path.{_≡_, refl, ap, _∙_}
+use mathlib.Core.Bool.{false}
 use mathlib.Core.List.{List, [], _∷_}
 use lib.ListN.{length, set}
 use lib.Dec.{T, leb}
+use borrow.Author.Tests.{lt-leb}
 use Rattle.layout.specs.Lists.{written}
 use Rattle.layout.specs.Problem.{Problem, Route, standard, compact}
 use Rattle.layout.specs.Blocks.{Part, blockRowCount, overlapCount}
@@ -65,3 +67,7 @@ lengths-written out columns p a b cones α map h = eleven-written out (columns +
 pub rows-few : (route : Route) (m rows overlaps : ℕ) → T (rowsFit route m rows overlaps) → rows ≤ 262144
 rows-few standard m rows overlaps h = omega (arith, leb-iff (m + rows) 262144 .0 h)
 rows-few compact m rows overlaps h = leb-iff rows 262144 .0 (and-iff (leb rows 262144) (leb overlaps 131072) .0 h .0)
+
+pub rows-many : (route : Route) (m rows overlaps : ℕ) → 262144 < rows → rowsFit route m rows overlaps ≡ false
+rows-many standard m rows overlaps h = lt-leb (m + rows) 262144 (omega arith)
+rows-many compact m rows overlaps h = rw (lt-leb rows 262144 h)

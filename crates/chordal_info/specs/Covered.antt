@@ -1,9 +1,9 @@
 -- Check 9 over a table by original row: a mark for each row that stands on an augmented row.
-use Prim.Native.Nat.{ℕ, suc, _+_, _<_, _≤_}
+use Prim.Native.Nat.{ℕ, _+_, _<_, _≤_}
 use mathlib.Core.Bool.{Bool, true, false, _&&_, _||_}
 use mathlib.Core.Path.{_≡_}
-use mathlib.Core.List.{List, [], _∷_, map}
-use lib.ListN.{length, getD, set}
+use mathlib.Core.List.{List, map}
+use lib.ListN.{length, getD}
 use lib.Ieee.{Float, nan, eq}
 use Rattle.layout.specs.Lists.{has, all, below}
 use Rattle.layout.specs.Problem.{zero64}
@@ -11,27 +11,19 @@ use Rattle.layout.specs.Triangle.{triangle}
 use Rattle.layout.specs.Patterns.{Pattern}
 use Rattle.layout.specs.Blocks.{Part, originalRow, patternRows}
 use Rattle.layout.specs.Checks.{coveredRows, valuesOn}
+use Rattle.blocks.specs.Vertices.{marked}
 
 -- each number of the list is below n
 abbrev pub Below : ℕ → List ℕ → Type 0
 Below n xs = (k : ℕ) → k < length xs → getD xs k 0 < n
 
--- a table with the rows marked
-unfoldable pub marked : List ℕ → List Bool → List Bool
-marked [] marks = marks
-marked (o ∷ os) marks = marked os (set marks o true)
-
 -- what marking the blocks of a pattern does, wherever its augmented rows start
 abbrev pub MarksPattern : Pattern → ℕ → List Bool → List Bool → Type 0
-MarksPattern p base old new = (first : ℕ) → new ≡ marked (map originalRow (patternRows p base first)) old
+MarksPattern p base old new = (first : ℕ) → new ≡ marked true (map originalRow (patternRows p base first)) old
 
 -- the rows of a cone of side n from row base on are below 65,536 and the table's length
 abbrev pub BlockFits : ℕ → ℕ → ℕ → Type 0
 BlockFits base n table = (base + triangle n ≤ 65536) × (base + triangle n ≤ table)
-
--- and so are the rows of each column of a block over vertices vs
-abbrev pub ColumnsFit : ℕ → List ℕ → ℕ → Type 0
-ColumnsFit base vs table = (k : ℕ) → k < length vs → BlockFits base (suc (getD vs k 0)) table
 
 -- the rows are marked, and so is each row whose value is unequal to zero
 abbrev pub rowsMarked : List Bool → List ℕ → Bool

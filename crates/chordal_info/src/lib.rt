@@ -1,7 +1,7 @@
 // Checks 8 to 10 of a route, and the sizes of the cut's outputs.
 ghost use mathlib.Core.Path.{_≡_};
 ghost use Prim.Native.Nat.{suc, _+_, _≤_, _<_};
-ghost use mathlib.Core.Bool.{false, cond};
+ghost use mathlib.Core.Bool.{true, false, cond};
 ghost use lib.ListN.{length, getD, replicate};
 ghost use lib.Dec.{T, ltb};
 ghost use mathlib.Core.List.{map, reverse};
@@ -12,9 +12,10 @@ ghost use Rattle.layout.specs.Blocks.{pairs, pairRow, parts};
 ghost use Rattle.layout.specs.Checks.{Sound, RightPattern, coveredRows, firstFailing};
 ghost use Rattle.layout.specs.Answers.{routeOf};
 ghost use Rattle.supernode_tree.specs.Reads.{patternAt};
-ghost use Rattle.blocks.specs.Columns.{columnPairs};
+ghost use Rattle.blocks.specs.Vertices.{marked};
+ghost use Rattle.blocks.specs.Columns.{columnPairs, ColumnsFit};
 ghost use Rattle.blocks.specs.Cliques.{Stands as CliqueStands, Standing, rowsHere};
-ghost use Rattle.chordal_info.specs.Covered.{Below, BlockFits, ColumnsFit, marked, MarksPattern, rowsMarked, valuesMarked, entriesRight};
+ghost use Rattle.chordal_info.specs.Covered.{Below, BlockFits, MarksPattern, rowsMarked, valuesMarked, entriesRight};
 ghost use Rattle.chordal_info.specs.Sizes.{rowsFit, outputLengths, routeSizes, Fitting};
 ghost use Rattle.chordal_info.specs.Routes.{Counted, routeChecks, joinCountChecks};
 use blocks::clique_vertices;
@@ -30,7 +31,7 @@ use supernode_tree::clique_offsets;
 // Marks the rows of a cone that no pattern cuts.
 fn mark_range(first: u32, count: u32, covered: &mut [bool])
     requires { ⌜ (first + count ≤ length (now covered)) × (first + count < 4294967296) ⌝ }
-    ensures { λ _. ⌜ now (covered .exit) ≡ marked (upFrom first count) (now (covered .entry)) ⌝ }
+    ensures { λ _. ⌜ now (covered .exit) ≡ marked true (upFrom first count) (now (covered .entry)) ⌝ }
 {
     let mut i = 0;
     while i < count {
@@ -43,7 +44,7 @@ fn mark_range(first: u32, count: u32, covered: &mut [bool])
 fn mark_column(vertices: &[u32], j: usize, base: u32, covered: &mut [bool])
     requires { ⌜ (j < length (now vertices)) × T (rises (now vertices)) ⌝ }
     requires { ⌜ BlockFits base (suc (getD (now vertices) j 0)) (length (now covered)) ⌝ }
-    ensures { λ _. ⌜ now (covered .exit) ≡ marked (map (pairRow base) (columnPairs (now (vertices .entry)) j)) (now (covered .entry)) ⌝ }
+    ensures { λ _. ⌜ now (covered .exit) ≡ marked true (map (pairRow base) (columnPairs (now (vertices .entry)) j)) (now (covered .entry)) ⌝ }
 {
     let c = vertices[j];
     let row = base + c * (c + 1) / 2;
@@ -56,8 +57,8 @@ fn mark_column(vertices: &[u32], j: usize, base: u32, covered: &mut [bool])
 
 // Marks the rows of a block, column by column.
 fn mark_block(vertices: &[u32], base: u32, covered: &mut [bool])
-    requires { ⌜ T (rises (now vertices)) × ColumnsFit base (now vertices) (length (now covered)) ⌝ }
-    ensures { λ _. ⌜ now (covered .exit) ≡ marked (map (pairRow base) (pairs (now (vertices .entry)))) (now (covered .entry)) ⌝ }
+    requires { ⌜ T (rises (now vertices)) × ColumnsFit base (now vertices) 65536 × ColumnsFit base (now vertices) (length (now covered)) ⌝ }
+    ensures { λ _. ⌜ now (covered .exit) ≡ marked true (map (pairRow base) (pairs (now (vertices .entry)))) (now (covered .entry)) ⌝ }
 {
     let mut j = 0;
     while j < vertices.len() {
@@ -77,7 +78,7 @@ fn mark_clique(
 )
     requires { ⌜ CliqueStands (now words) (now ordering) at ⌝ }
     requires { ⌜ (256 ≤ length (now vertices)) × BlockFits base (length (now ordering)) (length (now covered)) ⌝ }
-    ensures { λ _. ⌜ now (covered .exit) ≡ marked (rowsHere base (now (words .entry)) (now (ordering .entry)) at) (now (covered .entry)) ⌝ }
+    ensures { λ _. ⌜ now (covered .exit) ≡ marked true (rowsHere base (now (words .entry)) (now (ordering .entry)) at) (now (covered .entry)) ⌝ }
 {
     let k = clique_vertices(words, ordering, at, &mut *vertices);
     mark_block(&vertices[..k], base, covered);
@@ -94,7 +95,7 @@ fn mark_cliques(
 )
     requires { ⌜ Standing (now words) (now ordering) (now offsets) ⌝ }
     requires { ⌜ (256 ≤ length (now vertices)) × BlockFits base (length (now ordering)) (length (now covered)) ⌝ }
-    ensures { λ _. ⌜ now (covered .exit) ≡ marked (join (rowsHere base (now (words .entry)) (now (ordering .entry))) (reverse (now (offsets .entry)))) (now (covered .entry)) ⌝ }
+    ensures { λ _. ⌜ now (covered .exit) ≡ marked true (join (rowsHere base (now (words .entry)) (now (ordering .entry))) (reverse (now (offsets .entry)))) (now (covered .entry)) ⌝ }
 {
     let mut c = offsets.len();
     while 0 < c {
@@ -138,7 +139,7 @@ fn mark_pattern(
 fn mark_covered(m: u32, cones: &[u32], count: u32, words: &[u32], covered: &mut [bool])
     requires { ⌜ Sound m (now cones) count (now words) ⌝ }
     requires { ⌜ m ≤ length (now covered) ⌝ }
-    ensures { λ _. ⌜ now (covered .exit) ≡ marked (coveredRows (parts (records (now (cones .entry))) (patterns count (now (words .entry))))) (now (covered .entry)) ⌝ }
+    ensures { λ _. ⌜ now (covered .exit) ≡ marked true (coveredRows (parts (records (now (cones .entry))) (patterns count (now (words .entry))))) (now (covered .entry)) ⌝ }
 {
     let mut offsets = [0usize; 256];
     let mut vertices = [0u32; 256];
@@ -251,14 +252,11 @@ pub fn entries_right(
 pub fn rows_right(route: u32, m: u32, rows: u64, overlaps: u64) -> bool
     ensures { λ r. ⌜ r ≡ rowsFit (routeOf route) m rows overlaps ⌝ }
 {
-    if route == 0 {
-        if 262144 < rows {
-            return false;
-        }
-        return m as u64 + rows <= 262144;
-    }
     if 262144 < rows {
         return false;
+    }
+    if route == 0 {
+        return m as u64 + rows <= 262144;
     }
     overlaps <= 131072
 }
@@ -318,7 +316,7 @@ pub fn check_join_counted(route: u32, n: u32, m: u32, rows: u64, overlaps: u64) 
     rows_refusal(route, m, rows, overlaps)
 }
 
-// The same, counted here.
+// Checks 8 to 10 of a whole problem, its blocks counted here.
 pub fn check_route(
     route: u32,
     n: u32,
@@ -377,7 +375,7 @@ fn write_lengths(
     out[10] = map_words;
 }
 
-// The length of each output of the cut, from the counts that clarabel's `get_decomposed_dim_and_overlaps` gives.
+// The length of each output of the cut, from the counts of parts' `get_decomposed_dim_and_overlaps`.
 pub fn write_sizes(
     route: u32,
     n: u32,

@@ -18,18 +18,19 @@ use Rattle.layout.proofs.Starts.{length-written}
 use Rattle.layout.proofs.Buffers.{take-written}
 use Rattle.layout.proofs.Accepted.{passed, accepted-sound}
 use Rattle.layout.proofs.Laid.{sound-laid}
-use Rattle.codes.specs.Codes.{cutCode}
+use Rattle.codes.specs.Codes.{cutCode, RowsInside}
+use Rattle.codes.proofs.Rows.{accepted-inside}
 use Rattle.tables.specs.declared.Table.the-variants.{CutRows}
 use Rattle.tables.proofs.Tables.{table-length}
-use Rattle.sparsevector.specs.Values.{RowsInside, codeValue}
-use Rattle.sparsevector.proofs.Rows.{compact-inside, compact-values}
+use Rattle.sparsevector.specs.Values.{codeValue}
+use Rattle.sparsevector.proofs.Rows.{compact-values}
 use Rattle.columns.specs.Marks.{Placing, Clear}
 use Rattle.augment.proofs.Laws.{right-A, length-b, few-entries}
 use Rattle.augment_standard.specs.Beside.{besideStarts}
 use Rattle.augment_compact.specs.Cut.{tiedRows, cutRows, cutValues}
-use Rattle.augment_compact.specs.Places.{placed, CodesKnown, ColumnsRise}
+use Rattle.augment_compact.specs.Places.{placed, ColumnsRise}
 use Rattle.augment_compact.proofs.Cut.{cut-compact, tied-count}
-use Rattle.augment_compact.proofs.Places.{few-rows, accepted-starts, accepted-rise, accepted-known, accepted-placing}
+use Rattle.augment_compact.proofs.Places.{few-rows, accepted-starts, accepted-rise, accepted-placing}
 use Rattle.compact_constraints.specs.Constraints.{completed, Accepted}
 
 -- as many codes as augmented rows
@@ -85,15 +86,10 @@ module _ {p : Problem} (h : Accepted p) where
   -- ---- what the writers ask of A, b and the codes
 
   pub rows-inside : RowsInside (length (p .b)) (map cutCode (compactRows (layout p)))
-  rows-inside =
-      subst (λ (k : ℕ). RowsInside k (map cutCode (compactRows (layout p)))) (sym (length-b compact whole (h .accepted)))
-      (compact-inside whole (h .accepted))
+  rows-inside = accepted-inside whole (h .accepted) (length (p .b)) (omega (arith, length-b compact whole (h .accepted)))
 
   pub columns-right : T (startsRight (p .n) (p .A)) × ColumnsRise (p .n) (p .A)
   columns-right = (accepted-starts whole (h .accepted), accepted-rise whole (h .accepted))
-
-  codes-known : (n : ℕ) → p .m ≤ n → CodesKnown n (map cutCode (compactRows (layout p)))
-  codes-known = accepted-known whole (h .accepted)
 
   codes-placing : (t : List ℕ) → p .m ≤ length t
       → Placing (map cutCode (compactRows (layout p))) (placed 0 (map cutCode (compactRows (layout p))) t) (p .A .rows)
@@ -132,7 +128,7 @@ module _ {p : Problem} (h : Accepted p) {rows : ℕ} (e : rows ≡ blockRowCount
   module _ (size flags k rowsRoom valuesRoom : ℕ) where
     abbrev Placeable : List ℕ → Type 0
     Placeable cs =
-        (CodesKnown (length (replicate {A = ℕ} size 0)) cs × Placing cs (placed 0 cs (replicate size 0)) (p .A .rows) × Clear (length cs) (take ((rows + 63) / 64) (replicate flags false)))
+        (RowsInside (length (replicate {A = ℕ} size 0)) cs × Placing cs (placed 0 cs (replicate size 0)) (p .A .rows) × Clear (length cs) (take ((rows + 63) / 64) (replicate flags false)))
         × ((length (p .A .rows) + length (tiedRows 0 cs) ≤ rowsRoom) × (length (p .A .values) + 2 * k ≤ valuesRoom))
 
     pub placeable : {cs : List ℕ} → cs ≡ map cutCode (compactRows (layout p)) → p .m ≤ size → rows ≤ 64 * flags → flags ≤ 4096 → k ≡ overlapCount (layout p)
@@ -141,7 +137,7 @@ module _ {p : Problem} (h : Accepted p) {rows : ℕ} (e : rows ≡ blockRowCount
         let place : p .m ≤ length (replicate {A = ℕ} size 0) = omega (arith, length-replicate {A = ℕ} size 0) in
         subst Placeable (sym taken) (
           (
-            codes-known h (length (replicate {A = ℕ} size 0)) place,
+            accepted-inside (whole h) (h .accepted) (length (replicate {A = ℕ} size 0)) place,
             codes-placing h (replicate size 0) place,
             subst (λ (n : ℕ). Clear n (take ((rows + 63) / 64) (replicate flags false))) (e ∙ sym (codes-count (sound h))) (flags-down rows flags enough few),
           ),

@@ -8,13 +8,13 @@ ghost use Rattle.layout.specs.Blocks.{compactRows, blockRowCount, overlapCount}
 ghost use Rattle.layout.specs.Checks.{Sound};
 ghost use Rattle.layout.specs.Compact.{compactA, compactB};
 ghost use Rattle.layout.specs.Answers.{joinedParts};
-ghost use Rattle.codes.specs.Codes.{cutCode};
-ghost use Rattle.sparsevector.specs.Values.{RowsInside, codeValue};
+ghost use Rattle.codes.specs.Codes.{cutCode, RowsInside};
+ghost use Rattle.sparsevector.specs.Values.{codeValue};
 ghost use Rattle.augment_standard.specs.Beside.{besideStarts};
 ghost use Rattle.compact_constraints.specs.Constraints.{constraints, Accepted};
 use tables::Table;
 
-// Writes the starts of A with the k overlaps' columns, the codes of so many augmented rows to their table, and b from these.
+// Writes the starts of A with the k overlaps' columns, the codes of the `rows` augmented rows to their table, and b from these.
 fn write_starts_and_b(
     m: u32,
     a_starts: &[u32],
@@ -162,7 +162,7 @@ fn with_large_tables(
     );
 }
 
-// Writes A with the k overlaps' columns, and b, over so many augmented rows.
+// Writes A with the k overlaps' columns, and b, over `rows` augmented rows.
 pub fn write_compact_a(
     n: u32,
     m: u32,

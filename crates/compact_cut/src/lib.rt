@@ -9,7 +9,7 @@ ghost use Rattle.layout.specs.Checks.{layout, refusal};
 ghost use Rattle.layout.specs.Compact.{coneMap, mapWords, compactA, compactB, compactP, compactQ, compactCones};
 use tables::Table;
 
-// Writes all of the compact cut but the cone map: of a problem that passes the route's checks, where it has so many augmented rows, and k overlaps.
+// Writes all of the compact cut but the cone map: of a problem that passes the route's checks, where it has `rows` augmented rows, and k overlaps.
 pub fn write_all_but_map(
     n: u32,
     m: u32,

@@ -12,7 +12,7 @@ ghost use Rattle.layout.specs.Blocks.{pairs, patternRows, blockRows};
 ghost use Rattle.layout.specs.Checks.{RightPattern};
 ghost use Rattle.supernode_tree.specs.Reads.{whole, patternAt};
 ghost use Rattle.blocks.specs.Vertices.{Below};
-ghost use Rattle.blocks.specs.Columns.{columnPairs, Inside};
+ghost use Rattle.blocks.specs.Columns.{columnPairs, ColumnsFit};
 ghost use Rattle.blocks.specs.Cliques.{cliqueHere, verticesHere, Stands};
 ghost use Rattle.codes.specs.Codes.{cutCode};
 ghost use Rattle.overlaps.specs.Places.{Places, Climbing, placeCode};
@@ -21,7 +21,6 @@ use blocks::clique_rows;
 use blocks::clique_vertices;
 use blocks::row_column;
 use supernode_tree::Clique;
-use supernode_tree::CliqueRead;
 use supernode_tree::Pattern;
 use supernode_tree::PatternRead;
 use supernode_tree::clique_offsets;
@@ -34,9 +33,7 @@ fn block_rows(words: &[u32], at: usize) -> u32
     requires { ⌜ sizeHere (now words) at ≤ 262144 ⌝ }
     ensures { λ r. ⌜ r ≡ sizeHere (now (words .entry)) at ⌝ }
 {
-    let CliqueRead::Clique(q) = Clique::read(words, at) else {
-        return 0;
-    };
+    let q = Clique::here(words, at);
     let k = (q.snode_count + q.separator_count) as u32;
     k * (k + 1) / 2
 }
@@ -131,7 +128,7 @@ fn code_column(out: &mut [u32], vertices: &[u32], places: &[u32], j: usize, base
 
 // The codes of a block, column by column; how many.
 fn code_block(out: &mut [u32], vertices: &[u32], places: &[u32], base: u32, start: u32) -> usize
-    requires { ⌜ T (rises (now vertices)) × Below (length (now places)) (now vertices) × Inside base (now vertices) ⌝ }
+    requires { ⌜ T (rises (now vertices)) × Below (length (now places)) (now vertices) × ColumnsFit base (now vertices) 65536 ⌝ }
     requires { ⌜ (start ≤ 262144) × Climbing (now places) × (triangle (length (now vertices)) ≤ length (now out)) ⌝ }
     ensures { λ r. ⌜ r ≡ triangle (length (now (vertices .entry))) ⌝ }
     ensures { λ _. ⌜ now (out .exit) ≡ written (map (placeCode (now (places .entry)) base start) (pairs (now (vertices .entry)))) (now (out .entry)) ⌝ }
@@ -174,9 +171,7 @@ fn clique_parent(words: &[u32], at: usize) -> usize
     requires { ⌜ whole (readClique (drop at (now words))) ≡ true ⌝ }
     ensures { λ r. ⌜ r ≡ cliqueHere (now (words .entry)) at .parent ⌝ }
 {
-    let CliqueRead::Clique(q) = Clique::read(words, at) else {
-        return 0;
-    };
+    let q = Clique::here(words, at);
     q.parent as usize
 }
 

@@ -1,13 +1,12 @@
 -- How each route joins block values over the rows of a cone: true stands for the standard route, false for the compact one.
 -- s adds on both: that is layout's `addColumns`.
-use Prim.Native.Nat.{ℕ, suc, _+_, _≤_, _<_}
+use Prim.Native.Nat.{ℕ, _+_, _≤_, _<_}
 use mathlib.Core.Path.{_≡_}
 use mathlib.Core.Bool.{Bool, true, false}
 use mathlib.Core.List.{List, map, reverse}
 use lib.ListN.{length, getD}
 use lib.Ieee.{Float, add, binary64}
 use Rattle.layout.specs.Lists.{walk}
-use Rattle.layout.specs.Triangle.{triangle}
 use Rattle.layout.specs.Patterns.{Pattern}
 use Rattle.layout.specs.Blocks.{pairs, pairRow, originalRow, patternRows}
 use Rattle.layout.specs.Reverse.{addAt, putAt, columnCount}
@@ -46,10 +45,6 @@ columnRows vs j = map (pairRow 0) (columnPairs vs j)
 
 abbrev pub blockRowsOf : List ℕ → List ℕ
 blockRowsOf vs = map (pairRow 0) (pairs vs)
-
--- each column of the block ends below row n
-abbrev pub Within : ℕ → List ℕ → Type 0
-Within n vs = (k : ℕ) → k < length vs → triangle (suc (getD vs k 0)) ≤ n
 
 -- the cliques in the order of the route
 abbrev pub inOrder : Bool → List ℕ → List ℕ

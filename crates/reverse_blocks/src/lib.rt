@@ -11,8 +11,9 @@ ghost use Rattle.layout.specs.Blocks.{blockRows};
 ghost use Rattle.layout.specs.Checks.{RightPattern};
 ghost use Rattle.layout.specs.Reverse.{addColumns};
 ghost use Rattle.supernode_tree.specs.Reads.{patternAt};
+ghost use Rattle.blocks.specs.Columns.{ColumnsFit};
 ghost use Rattle.blocks.specs.Cliques.{Standing, rowsHere};
-ghost use Rattle.reverse_blocks.specs.Joins.{zValue, joinZ, Counts, Countable, columnRows, blockRowsOf, Within, inOrder, ownRows};
+ghost use Rattle.reverse_blocks.specs.Joins.{zValue, joinZ, Counts, Countable, columnRows, blockRowsOf, inOrder, ownRows};
 use supernode_tree::Pattern;
 use supernode_tree::PatternRead;
 use supernode_tree::clique_offsets;
@@ -21,7 +22,7 @@ use supernode_tree::clique_offsets;
 
 // z on a row where old stands.
 fn z_value(standard: bool, old: f64, v: f64) -> f64
-    ensures { λ r. ⌜ r ≡ zValue (standard) old v ⌝ }
+    ensures { λ r. ⌜ r ≡ zValue standard old v ⌝ }
 {
     if standard {
         return old + v;
@@ -31,8 +32,8 @@ fn z_value(standard: bool, old: f64, v: f64) -> f64
 
 // The standard route counts a column on row o.
 fn count_column(standard: bool, counts: &mut [u32], o: usize)
-    requires { ⌜ Countable (standard) (suc o) 1 (now counts) ⌝ }
-    ensures { λ _. ⌜ Counts (standard) (o ∷ []) (now (counts .entry)) (now (counts .exit)) ⌝ }
+    requires { ⌜ Countable standard (suc o) 1 (now counts) ⌝ }
+    ensures { λ _. ⌜ Counts standard (o ∷ []) (now (counts .entry)) (now (counts .exit)) ⌝ }
 {
     if standard {
         counts[o] += 1;
@@ -52,10 +53,10 @@ fn join_column(
 )
     requires { ⌜ T (rises (now vertices)) × (j < length (now vertices)) × (j < length (now s)) × (j < length (now z)) ⌝ }
     requires { ⌜ (triangle (suc (getD (now vertices) j 0)) ≤ length (now «s_out»)) × (length (now «z_out») ≡ length (now «s_out»)) × (length (now «s_out») ≤ 65536) ⌝ }
-    requires { ⌜ Countable (standard) (length (now «s_out»)) (suc j) (now counts) ⌝ }
+    requires { ⌜ Countable standard (length (now «s_out»)) (suc j) (now counts) ⌝ }
     ensures { λ _. ⌜ now («s_out» .exit) ≡ addColumns (columnRows (now (vertices .entry)) j) (now (s .entry)) (now («s_out» .entry)) ⌝ }
-    ensures { λ _. ⌜ now («z_out» .exit) ≡ joinZ (standard) (columnRows (now (vertices .entry)) j) (now (z .entry)) (now («z_out» .entry)) ⌝ }
-    ensures { λ _. ⌜ Counts (standard) (columnRows (now (vertices .entry)) j) (now (counts .entry)) (now (counts .exit)) ⌝ }
+    ensures { λ _. ⌜ now («z_out» .exit) ≡ joinZ standard (columnRows (now (vertices .entry)) j) (now (z .entry)) (now («z_out» .entry)) ⌝ }
+    ensures { λ _. ⌜ Counts standard (columnRows (now (vertices .entry)) j) (now (counts .entry)) (now (counts .exit)) ⌝ }
 {
     let c = vertices[j];
     let row = c * (c + 1) / 2;
@@ -79,14 +80,14 @@ fn join_block(
     z_out: &mut [f64],
     counts: &mut [u32],
 ) -> usize
-    requires { ⌜ T (rises (now vertices)) × Within (length (now «s_out»)) (now vertices) ⌝ }
+    requires { ⌜ T (rises (now vertices)) × ColumnsFit 0 (now vertices) (length (now «s_out»)) ⌝ }
     requires { ⌜ (triangle (length (now vertices)) ≤ length (now s)) × (triangle (length (now vertices)) ≤ length (now z)) ⌝ }
     requires { ⌜ (length (now «z_out») ≡ length (now «s_out»)) × (length (now «s_out») ≤ 65536) ⌝ }
-    requires { ⌜ Countable (standard) (length (now «s_out»)) (triangle (length (now vertices))) (now counts) ⌝ }
+    requires { ⌜ Countable standard (length (now «s_out»)) (triangle (length (now vertices))) (now counts) ⌝ }
     ensures { λ r. ⌜ r ≡ triangle (length (now (vertices .entry))) ⌝ }
     ensures { λ _. ⌜ now («s_out» .exit) ≡ addColumns (blockRowsOf (now (vertices .entry))) (now (s .entry)) (now («s_out» .entry)) ⌝ }
-    ensures { λ _. ⌜ now («z_out» .exit) ≡ joinZ (standard) (blockRowsOf (now (vertices .entry))) (now (z .entry)) (now («z_out» .entry)) ⌝ }
-    ensures { λ _. ⌜ Counts (standard) (blockRowsOf (now (vertices .entry))) (now (counts .entry)) (now (counts .exit)) ⌝ }
+    ensures { λ _. ⌜ now («z_out» .exit) ≡ joinZ standard (blockRowsOf (now (vertices .entry))) (now (z .entry)) (now («z_out» .entry)) ⌝ }
+    ensures { λ _. ⌜ Counts standard (blockRowsOf (now (vertices .entry))) (now (counts .entry)) (now (counts .exit)) ⌝ }
 {
     let mut t = 0;
     let mut j = 0;

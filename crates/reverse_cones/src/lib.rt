@@ -14,6 +14,7 @@ use supernode_tree::PatternRead;
 
 // ---- a whole cone
 
+// The values on a cone's rows: summed from +0.0 on the standard route, copied on the compact one.
 fn whole_values(standard: bool, out: &mut [f64], values: &[f64])
     requires { ⌜ length (now values) ≡ length (now out) ⌝ }
     ensures { λ _. ⌜ now (out .exit) ≡ wholeValues standard (now (values .entry)) ⌝ }
@@ -59,6 +60,7 @@ fn clear_counts(standard: bool, n: usize, counts: &mut [u32])
     }
 }
 
+// On the standard route z is divided by each row's count where that is above 1; on the compact one it stays.
 fn average(standard: bool, z: &mut [f64], counts: &[u32])
     requires { ⌜ CountsRows standard (length (now z)) (now counts) ⌝ }
     ensures { λ _. ⌜ now (z .exit) ≡ zAveragedBy standard (now (counts .entry)) (now (z .entry)) ⌝ }

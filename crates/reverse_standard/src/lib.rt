@@ -38,7 +38,8 @@ pub fn sum_rows(out: &mut [f64], values: &[f64])
     }
 }
 
-// z on a row where count columns stand. The quotient comes before the test, so that no branch waits for counts that follow no rule.
+// z on a row where count columns stand. The quotient is computed before the test, so that the compiler can select
+// instead of branching on counts that cannot be predicted.
 fn row_average(v: f64, count: u32) -> f64
     ensures { λ r. ⌜ r ≡ shared count v ⌝ }
 {

@@ -1,8 +1,8 @@
 -- b's values by the code of their row. Definitions only.
-use Prim.Native.Nat.{ℕ, _<_}
+use Prim.Native.Nat.{ℕ}
 use mathlib.Core.Bool.{cond}
 use mathlib.Core.List.{List}
-use lib.ListN.{length, getD}
+use lib.ListN.{getD}
 use lib.Dec.{ltb}
 use lib.Ieee.{Float, nan, eq}
 use Rattle.layout.specs.Problem.{zero64}
@@ -14,10 +14,3 @@ valueOn b o = let v = getD b o nan in cond (eq v zero64) zero64 v
 -- an overlap's row holds +0.0
 abbrev pub codeValue : List Float → ℕ → Float
 codeValue b c = cond (ltb c 65536) (valueOn b c) zero64
-
--- where the code is an original row, it is below m
-abbrev pub RowInside : ℕ → ℕ → Type 0
-RowInside m c = c < 65536 → c < m
-
-abbrev pub RowsInside : ℕ → List ℕ → Type 0
-RowsInside m codes = (r : ℕ) → r < length codes → RowInside m (getD codes r 0)

@@ -4,7 +4,8 @@ ghost use mathlib.Core.List.{map};
 ghost use Prim.Native.Nat.{_≤_};
 ghost use lib.ListN.{length};
 ghost use Rattle.layout.specs.Lists.{written};
-ghost use Rattle.sparsevector.specs.Values.{codeValue, RowInside, RowsInside};
+ghost use Rattle.codes.specs.Codes.{RowInside, RowsInside};
+ghost use Rattle.sparsevector.specs.Values.{codeValue};
 
 // The value on a row with this code: a zero of either sign becomes +0.0, a NaN is kept.
 pub fn code_value(code: u32, b: &[f64]) -> f64

@@ -3,15 +3,14 @@ use Prim.Native.Nat.{ℕ, _+_, _*_, _≤_, _<_}
 use native.Mathlib.Numerals.{add-one}
 use native.Mathlib.Omega.{arith}
 use mathlib.Core.Path.{_≡_, refl, ap, sym, _∙_}
-use mathlib.Core.List.{List, [], _∷_, _++_, reverse, append-assoc}
+use mathlib.Core.List.{List, [], _∷_, _++_, append-assoc}
 use lib.ListN.{length, getD, take, drop, set, length-append, length-drop}
 use lib.Seq.{take-add, take-at, drop-at, drop-drop, getD-drop}
-use Rattle.layout.specs.Lists.{below, join, upFrom, written}
+use Rattle.layout.specs.Lists.{join, upFrom, written}
 use Rattle.layout.specs.Compact.{blockOf, entryWords}
-use Rattle.layout.proofs.Members.{length-upFrom, getD-below}
+use Rattle.layout.proofs.Members.{length-upFrom}
 use Rattle.layout.proofs.Joins.{upFrom-last}
 use Rattle.layout.proofs.Buffers.{set-written}
-use Rattle.blocks.proofs.Orders.{down-more}
 
 -- three more
 pub three-more : {A : Type 0} (xs old : List A) (u v w : A) (t : ℕ) → t ≡ length xs → t + 2 < length old
@@ -38,15 +37,9 @@ module _ {A B : Type 0} where
   threes f h [] = refl
   threes f h (x ∷ xs) = omega (arith, length-append (f x) (join f xs), h x, threes f h xs)
 
--- the words of a pattern's entries of the cone map: those from c on are done
+-- the words of a pattern's entry of the cone map
 abbrev pub entryOf : ℕ → ℕ → ℕ → List ℕ
 entryOf i k c = entryWords (blockOf i k c)
-
-pub entries-more : (i k n c : ℕ) → c < n
-    → join (entryOf i k) (reverse (drop c (below n))) ≡ join (entryOf i k) (reverse (drop (c + 1) (below n))) ++ (i ∷ k ∷ c ∷ [])
-entries-more i k n c h =
-    down-more (entryOf i k) 0 (below n) c (omega (arith, length-upFrom 0 n))
-    ∙ ap (λ (x : ℕ). join (entryOf i k) (reverse (drop (c + 1) (below n))) ++ (i ∷ k ∷ x ∷ [])) (getD-below n c 0 h)
 
 -- ---- a list written part by part
 

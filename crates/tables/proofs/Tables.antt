@@ -6,9 +6,9 @@ use mathlib.Core.List.{List, [], _∷_, _++_, map}
 use lib.ListN.{length, length-append, length-map}
 use Rattle.layout.specs.Lists.{upFrom, below, join}
 use Rattle.layout.specs.Triangle.{triangle}
-use Rattle.layout.specs.Cones.{Cone, rowCount}
+use Rattle.layout.specs.Cones.{rowCount}
 use Rattle.layout.specs.Patterns.{Pattern, cliqueCount}
-use Rattle.layout.specs.Blocks.{Part, whole, cut, Row, kept, block, pairRow, patternRows, rowsFrom, standardRows, blockRows, blockRowCount}
+use Rattle.layout.specs.Blocks.{Part, whole, cut, kept, block, pairRow, patternRows, rowsFrom, standardRows, blockRows, blockRowCount}
 use Rattle.layout.specs.Checks.{RightPattern}
 use Rattle.layout.specs.Compact.{entryWords, compactPart, mapPart, coneMap, mapWords}
 use Rattle.layout.specs.Standard.{standardPart}
@@ -70,44 +70,24 @@ h-rows t (cut i row k p ∷ ps) =
 
 -- ---- the compact route's rows, coded
 
--- a table whose parts are those of the rows, coded
-module _ (table : Table) (code : Row → ℕ)
-    (keeps : (i : ℕ) (c : Cone) (row : ℕ) → wholeCodes table i c row ≡ map code (map kept (upFrom row (rowCount c))))
-    (cuts : (t i row k : ℕ) (p : Pattern) → cutCodes table t i row k p ≡ map code (patternRows p row t)) where
-  coded-by : (t row : ℕ) (ps : List Part) → Laid row ps → codesFrom table t ps ≡ map code (rowsFrom t ps)
-  unfolding codesFrom
-  coded-by t row [] h = refl
-  coded-by t row (whole i c r ∷ ps) h =
-      let R = map kept (upFrom r (rowCount c)) in
-      let n : length (wholeCodes table i c r) ≡ rowCount c =
-      ap length (keeps i c r) ∙ length-map R code ∙ length-map (upFrom r (rowCount c)) kept ∙ length-upFrom r (rowCount c) in
-      ap₂ _++_ (keeps i c r)
-      (ap (λ (k : ℕ). codesFrom table (t + k) ps) n ∙ coded-by (t + rowCount c) (row + rowCount c) ps (h .1))
-      ∙ sym (map-append code R (rowsFrom (t + rowCount c) ps))
-  coded-by t row (cut i r k p ∷ ps) h =
-      let R = patternRows p r t in
-      let n : length (cutCodes table t i r k p) ≡ blockRows p =
-      ap length (cuts t i r k p) ∙ length-map R code ∙ rows-count p (h .1) r t in
-      ap₂ _++_ (cuts t i r k p)
-      (ap (λ (k : ℕ). codesFrom table (t + k) ps) n ∙ coded-by (t + blockRows p) (row + triangle (p .vertexCount)) ps (h .2))
-      ∙ sym (map-append code R (rowsFrom (t + blockRows p) ps))
-
-kept-up : (code : Row → ℕ) (a : ℕ) → ((o : ℕ) → code (kept o) ≡ a + o) → (row n : ℕ) → map code (map kept (upFrom row n)) ≡ upFrom (a + row) n
-kept-up code a h row zero = refl
-kept-up code a h row (suc n) =
-    ap₂ {C = List ℕ} (λ x xs. x ∷ xs) (h row) (kept-up code a h (suc row) n ∙ ap (λ (b : ℕ). upFrom b n) (omega arith))
+kept-up : (row n : ℕ) → map cutCode (map kept (upFrom row n)) ≡ upFrom row n
+kept-up row zero = refl
+kept-up row (suc n) = ap (λ (xs : List ℕ). row ∷ xs) (kept-up (suc row) n)
 
 cut-rows : (t row : ℕ) (ps : List Part) → Laid row ps → codesFrom CutRows t ps ≡ map cutCode (rowsFrom t ps)
-unfolding wholeCodes cutCodes
-cut-rows t row ps h = coded-by CutRows cutCode keeps cuts t row ps h
-  where
-    keeps : (i : ℕ) (c : Cone) (row : ℕ) → wholeCodes CutRows i c row ≡ map cutCode (map kept (upFrom row (rowCount c)))
-    keeps i c row =
-        let e : 0 + row ≡ row = omega arith in
-        sym (kept-up cutCode 0 (λ o. omega arith) row (rowCount c) ∙ ap (λ (b : ℕ). upFrom b (rowCount c)) e)
-
-    cuts : (t i row k : ℕ) (p : Pattern) → cutCodes CutRows t i row k p ≡ map cutCode (patternRows p row t)
-    cuts t i row k p = refl
+unfolding codesFrom wholeCodes cutCodes
+cut-rows t row [] h = refl
+cut-rows t row (whole i c r ∷ ps) h =
+    let R = map kept (upFrom r (rowCount c)) in
+    ap₂ _++_ (sym (kept-up r (rowCount c)))
+    (ap (λ (k : ℕ). codesFrom CutRows (t + k) ps) (length-upFrom r (rowCount c)) ∙ cut-rows (t + rowCount c) (row + rowCount c) ps (h .1))
+    ∙ sym (map-append cutCode R (rowsFrom (t + rowCount c) ps))
+cut-rows t row (cut i r k p ∷ ps) h =
+    let R = patternRows p r t in
+    ap (λ (xs : List ℕ). map cutCode R ++ xs)
+    (ap (λ (k : ℕ). codesFrom CutRows (t + k) ps) (length-map R cutCode ∙ rows-count p (h .1) r t)
+    ∙ cut-rows (t + blockRows p) (row + triangle (p .vertexCount)) ps (h .2))
+    ∙ sym (map-append cutCode R (rowsFrom (t + blockRows p) ps))
 
 -- ---- the table from the first part on is the layout's
 

@@ -1,5 +1,6 @@
 -- The tables, and what each part writes to them.
 use Prim.Native.Nat.{ℕ, _+_, _*_, _≤_}
+use mathlib.Core.Bool.{Bool, true, false}
 use mathlib.Core.List.{List, [], _∷_, _++_, map}
 use lib.ListN.{length}
 use Rattle.layout.specs.Lists.{join, upFrom}
@@ -39,6 +40,11 @@ Few CompactCones n = Unit {0}
 Few ConeMap n = Unit {0}
 
 -- ---- part by part
+
+-- the cones of a part: true stands for the standard route, false for the compact one
+abbrev pub routePart : Bool → Part → List ℕ
+routePart true x = standardPart x
+routePart false x = compactPart x
 
 -- a whole cone, number i with record c, from its first row on
 unfoldable pub wholeCodes : Table → ℕ → Cone → ℕ → List ℕ

@@ -10,16 +10,14 @@ ghost use Rattle.layout.specs.Cones.{records, rowCount};
 ghost use Rattle.layout.specs.Patterns.{blockSize, cliqueCount, patterns};
 ghost use Rattle.layout.specs.Blocks.{cut, parts, blockRows, blockRowCount};
 ghost use Rattle.layout.specs.Checks.{Sound, RightPattern, noCone};
-ghost use Rattle.layout.specs.Compact.{blockOf, wholeCone, coneWords, entryWords, mapWords, psdWords, compactPart, mapPart};
-ghost use Rattle.layout.specs.Standard.{standardPart};
+ghost use Rattle.layout.specs.Compact.{blockOf, wholeCone, coneWords, entryWords, mapWords, psdWords, mapPart};
 ghost use Rattle.supernode_tree.specs.Reads.{patternAt, Whole, cliquesFrom};
 ghost use Rattle.supernode_tree.specs.Sizes.{atMost};
-ghost use Rattle.tables.specs.Tables.{tableOf, wholeCodes, cutCodes, Few};
+ghost use Rattle.tables.specs.Tables.{tableOf, routePart, wholeCodes, cutCodes, Few};
 use parts::Met;
 use parts::Place;
 use parts::clique_count;
 use supernode_tree::Clique;
-use supernode_tree::CliqueRead;
 use supernode_tree::Pattern;
 use supernode_tree::PatternRead;
 use supportedcone::SupportedCone;
@@ -27,7 +25,7 @@ use supportedcone::SupportedCone;
 // The mark for none where the cone map has a pattern's number.
 const NO_PATTERN: u32 = 4294967295;
 
-// The rows of H; the compact route's rows, coded for its joining and for its cut; the cones of either route; the cone map.
+// The rows of H; the compact route's rows, coded for its cut; the cones of either route; the cone map.
 pub enum Table {
     HRows,
     CutRows,
@@ -111,9 +109,7 @@ fn block_sizes(words: &[u32], first: usize, count: u32, out: &mut [u32])
     let mut c = 0;
     let mut left = count;
     while 0 < left {
-        let CliqueRead::Clique(q) = Clique::read(words, at) else {
-            break;
-        };
+        let q = Clique::here(words, at);
         out[c] = q.get_nblk() as u32;
         at = q.next;
         c += 1;
@@ -167,27 +163,18 @@ fn psd_down(sizes: &[u32], out: &mut [u32]) -> usize
     t
 }
 
-// The standard route's cones of the pattern at an offset; how many words.
-fn standard_pattern_cones(words: &[u32], at: usize, out: &mut [u32]) -> usize
+// A route's cones of the pattern at an offset, cliques from first to last or from last to first; how many words.
+fn pattern_cones(standard: bool, words: &[u32], at: usize, out: &mut [u32]) -> usize
     requires { ⌜ RightPattern (patternAt (now words) at) × (patternAt (now words) at .vertexCount ≤ 256) ⌝ }
     requires { ⌜ cliqueCount (patternAt (now words) at) * 3 ≤ length (now out) ⌝ }
     ensures { λ r. ⌜ r ≡ cliqueCount (patternAt (now (words .entry)) at) * 3 ⌝ }
-    ensures { λ _. ⌜ now (out .exit) ≡ written (standardPart (cut 0 0 0 (patternAt (now (words .entry)) at))) (now (out .entry)) ⌝ }
+    ensures { λ _. ⌜ now (out .exit) ≡ written (routePart standard (cut 0 0 0 (patternAt (now (words .entry)) at))) (now (out .entry)) ⌝ }
 {
     let mut sizes = [0u32; 256];
     let k = pattern_sizes(words, at, &mut sizes);
-    psd_up(&sizes[..k], out)
-}
-
-// The compact route's.
-fn compact_pattern_cones(words: &[u32], at: usize, out: &mut [u32]) -> usize
-    requires { ⌜ RightPattern (patternAt (now words) at) × (patternAt (now words) at .vertexCount ≤ 256) ⌝ }
-    requires { ⌜ cliqueCount (patternAt (now words) at) * 3 ≤ length (now out) ⌝ }
-    ensures { λ r. ⌜ r ≡ cliqueCount (patternAt (now (words .entry)) at) * 3 ⌝ }
-    ensures { λ _. ⌜ now (out .exit) ≡ written (compactPart (cut 0 0 0 (patternAt (now (words .entry)) at))) (now (out .entry)) ⌝ }
-{
-    let mut sizes = [0u32; 256];
-    let k = pattern_sizes(words, at, &mut sizes);
+    if standard {
+        return psd_up(&sizes[..k], out);
+    }
     psd_down(&sizes[..k], out)
 }
 
@@ -238,8 +225,8 @@ fn write_cut(
     match table {
         Table::HRows => blocks::standard_pattern_rows(words, at, row, out),
         Table::CutRows => overlaps::compact_pattern_rows(words, at, row, t as u32, out),
-        Table::StandardCones => standard_pattern_cones(words, at, out),
-        Table::CompactCones => compact_pattern_cones(words, at, out),
+        Table::StandardCones => pattern_cones(true, words, at, out),
+        Table::CompactCones => pattern_cones(false, words, at, out),
         Table::ConeMap => cut_entries(words, at, i, k, out),
     }
 }

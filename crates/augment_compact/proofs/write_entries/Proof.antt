@@ -4,18 +4,20 @@ use native.Mathlib.Omega.{arith}
 use mathlib.Core.Path.{_≡_, ap, sym, _∙_}
 use mathlib.Core.List.{_++_}
 use lib.ListN.{length, take, drop}
+use lib.Ieee.{ofBits, neg}
 use borrow.Author.Needs.{needs}
 use Rattle.layout.specs.Lists.{written}
-use Rattle.layout.specs.Problem.{Csc}
+use Rattle.layout.specs.Problem.{Csc, one64, minusOne64}
 use Rattle.layout.specs.Compact.{Entry, csc}
 use Rattle.layout.proofs.Columns.{RightStarts, starts-right}
 use Rattle.layout.proofs.Starts.{length-written}
 use Rattle.layout.proofs.Buffers.{length-tail}
 use Rattle.csc.specs.Matrix.{matrix}
+use Rattle.augment_standard.specs.Beside.{pairValues}
+use Rattle.augment_standard.proofs.Columns.{length-pairs}
 use Rattle.columns.proofs.Parts.{written-tail}
 use Rattle.augment_compact.proofs.Columns.{columns-start}
-use Rattle.augment_compact.proofs.Steps.{length-tiedValues}
-use Rattle.augment_compact.specs.Cut.{codedColumns, tiedRows, tiedValues}
+use Rattle.augment_compact.specs.Cut.{codedColumns, tiedRows}
 use Rattle.augment_compact.proofs.write_entries.Statement.{statement}
 use Rattle.augment_compact.proofs.write_entries.Tie as tie
 
@@ -84,20 +86,20 @@ write-overlap-rows-requires c κs =
       s .pre .1 .0 .1 .few,
     )
 
-mul-write-overlap-values : tie.Need-mul-write-overlap-values
-mul-write-overlap-values c = let s = c .before .before .before .before .before .before .before .before .before .before .before .before .before .before .before .before .before .before .before .before .before .before .before .before .before .before .before .before .before .before .before .before in omega (arith, s .pre .1 .0 .1 .short, right s .even)
+mul-write-pairs : tie.Need-mul-write-pairs
+mul-write-pairs c = let s = c .before .before .before .before .before .before .before .before .before .before .before .before .before .before .before .before .before .before .before .before .before .before .before .before .before .before .before .before .before .before .before .before in omega (arith, s .pre .1 .0 .1 .short, right s .even)
 
-sub-write-overlap-values : tie.Need-sub-write-overlap-values
-sub-write-overlap-values c = let w = c .before .before .before .before .before .before .before .before .before .before .before .before .before in omega (arith, values-length w, w .before .before .before .before .before .before .before .before .before .before .before .before .before .before .before .before .before .before .before .pre .1 .1 .1)
+sub-write-pairs : tie.Need-sub-write-pairs
+sub-write-pairs c = let w = c .before .before .before .before .before .before .before .before .before .before .before .before .before in omega (arith, values-length w, w .before .before .before .before .before .before .before .before .before .before .before .before .before .before .before .before .before .before .before .pre .1 .1 .1)
 
-part-write-overlap-values-start : tie.Need-part-write-overlap-values-start
-part-write-overlap-values-start c = let w = c .before .before .before .before .before .before .before .before .before .before .before .before .before in omega (arith, values-length w, w .before .before .before .before .before .before .before .before .before .before .before .before .before .before .before .before .before .before .before .pre .1 .1 .1)
+part-write-pairs-start : tie.Need-part-write-pairs-start
+part-write-pairs-start c = let w = c .before .before .before .before .before .before .before .before .before .before .before .before .before in omega (arith, values-length w, w .before .before .before .before .before .before .before .before .before .before .before .before .before .before .before .before .before .before .before .pre .1 .1 .1)
 
-part-write-overlap-values-end : tie.Need-part-write-overlap-values-end
-part-write-overlap-values-end c = search needs
+part-write-pairs-end : tie.Need-part-write-pairs-end
+part-write-pairs-end c = search needs
 
-write-overlap-values-requires : tie.Need-write-overlap-values-requires
-write-overlap-values-requires c κs =
+write-pairs-requires : tie.Need-write-pairs-requires
+write-pairs-requires c κs =
     let w = c .before .before .before .before .before .before .before .before .before .before .before .before .before .before in
     let s = w .before .before .before .before .before .before .before .before .before .before .before .before .before .before .before .before .before .before .before in
     omega (arith, length-tail (w .write-columns .last .1 .0) (length (s .args .values .now)), values-length w, s .pre .1 .1 .1)
@@ -117,14 +119,15 @@ rows-end c =
 values-end : (c : tie.After-slice-known12) → let s = c .before .before .before .before .before .before .before .before .before .before .before .before .before .before .before .before .before .before .before .before .before .before .before .before .before .before .before .before .before .before .before .before .before .before .before .before in
     let ws = c .before .before .before .before .before .before .before .before .before .before .before .before .before .before .before .before .before .write-columns .last .1 .0 in
     let a = length (s .args .values .now) in
-    take a ws ++ (c .before .before .write-overlap-values .last .0 ++ drop (length ws - a) (drop a ws))
-    ≡ written (moved s .values ++ tiedValues (s .args .k)) (s .args .values-out .now)
+    take a ws ++ (c .before .before .write-pairs .last .0 ++ drop (length ws - a) (drop a ws))
+    ≡ written (moved s .values ++ pairValues minusOne64 one64 (s .args .k)) (s .args .values-out .now)
+unfolding ofBits neg
 values-end c =
     let w = c .before .before .before .before .before .before .before .before .before .before .before .before .before .before .before .before .before in
     let s = c .before .before .before .before .before .before .before .before .before .before .before .before .before .before .before .before .before .before .before .before .before .before .before .before .before .before .before .before .before .before .before .before .before .before .before .before in
-    written-tail (moved s .values) (tiedValues (s .args .k)) (s .args .values-out .now) (length (s .args .values .now)) (sym (values-count s))
-    (omega (arith, values-count s, length-tiedValues (s .args .k), s .pre .1 .1 .1)) (w .write-columns .ensures .1 .0)
-    (c .before .before .write-overlap-values .ensures)
+    written-tail (moved s .values) (pairValues minusOne64 one64 (s .args .k)) (s .args .values-out .now) (length (s .args .values .now)) (sym (values-count s))
+    (omega (arith, values-count s, length-pairs minusOne64 one64 (s .args .k), s .pre .1 .1 .1)) (w .write-columns .ensures .1 .0)
+    (c .before .before .write-pairs .ensures)
 
 same-length : tie.Need-same-length
 same-length c = search needs
@@ -159,11 +162,11 @@ write-entries-spec =
     part-write-overlap-rows-start
     part-write-overlap-rows-end
     write-overlap-rows-requires
-    mul-write-overlap-values
-    sub-write-overlap-values
-    part-write-overlap-values-start
-    part-write-overlap-values-end
-    write-overlap-values-requires
+    mul-write-pairs
+    sub-write-pairs
+    part-write-pairs-start
+    part-write-pairs-end
+    write-pairs-requires
     same-length
     same-length-2
     same-length-3

@@ -6,9 +6,6 @@ use Rattle.chordal_info.proofs.Routes.{standard-rows, no-columns, compa
 use borrow.Author.Needs.{needs}
 use Rattle.chordal_info.proofs.check_join_counted.Statement.{statement}
 use Rattle.chordal_info.proofs.check_join_counted.Tie as tie
-use Rattle.chordal_info.proofs.check_join_counted.Reads as reads
-use Rattle.chordal_info.proofs.check_join_counted.Lts as lts
-use Rattle.chordal_info.proofs.rows_refusal.Reads as rows-refusal-reads
 
 rows-refusal-requires : tie.Need-rows-refusal-requires
 rows-refusal-requires c κs = search needs

@@ -11,10 +11,6 @@ use Rattle.chordal_info.proofs.Routes.{standard-rows, no-columns, entri
 use borrow.Author.Needs.{needs}
 use Rattle.chordal_info.proofs.check_route_counted.Statement.{statement}
 use Rattle.chordal_info.proofs.check_route_counted.Tie as tie
-use Rattle.chordal_info.proofs.check_route_counted.Reads as reads
-use Rattle.chordal_info.proofs.check_route_counted.Lts as lts
-use Rattle.chordal_info.proofs.entries_right.Reads as entries-right-reads
-use Rattle.chordal_info.proofs.rows_refusal.Reads as rows-refusal-reads
 
 -- the problem's parts
 abbrev here : tie.Start → List Part

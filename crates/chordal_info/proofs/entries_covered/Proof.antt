@@ -9,8 +9,6 @@ use borrow.Author.Tests.{not-true, not-false}
 use borrow.Author.Needs.{needs}
 use Rattle.chordal_info.proofs.entries_covered.Statement.{statement}
 use Rattle.chordal_info.proofs.entries_covered.Tie as tie
-use Rattle.chordal_info.proofs.entries_covered.Reads as reads
-use Rattle.chordal_info.proofs.entries_covered.Lts as lts
 
 abbrev Inv-loop : tie.InvT-loop
 Inv-loop covered rows i₀ i = (i ≤ length rows) × (rowsMarked covered rows ≡ rowsMarked covered (drop i rows))

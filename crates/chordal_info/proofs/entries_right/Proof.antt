@@ -6,9 +6,6 @@ use native.Mathlib.Omega.{arith}
 use borrow.Author.Needs.{needs}
 use Rattle.chordal_info.proofs.entries_right.Statement.{statement}
 use Rattle.chordal_info.proofs.entries_right.Tie as tie
-use Rattle.chordal_info.proofs.entries_right.Reads as reads
-use Rattle.chordal_info.proofs.entries_right.Lts as lts
-use Rattle.chordal_info.proofs.entries_right_by.Reads as entries-right-by-reads
 
 slice-aggregate-entries-right-by : tie.Need-slice-aggregate-entries-right-by
 slice-aggregate-entries-right-by c = search needs

@@ -1,6 +1,6 @@
 use Prim.Native.Nat.{ℕ}
 use mathlib.Core.Path.{_≡_, sym, ap, _∙_}
-use mathlib.Core.Bool.{Bool, false}
+use mathlib.Core.Bool.{Bool, false, true}
 use mathlib.Core.List.{List}
 use borrow.Author.Tests.{not-true, not-false}
 use lib.ListN.{length, getD, replicate}
@@ -12,17 +12,13 @@ use Rattle.layout.specs.Blocks.{parts}
 use Rattle.layout.specs.Checks.{coveredRows, valuesOn}
 use Rattle.layout.proofs.Members.{all-at}
 use Rattle.layout.proofs.Tests.{and-true, and-false}
-use Rattle.chordal_info.specs.Covered.{Below, marked, rowsMarked, valuesMarked}
+use Rattle.chordal_info.specs.Covered.{Below, rowsMarked, valuesMarked}
+use Rattle.blocks.specs.Vertices.{marked}
 use Rattle.chordal_info.proofs.Marks.{cleared-rows, cleared-values}
 use native.Mathlib.Omega.{arith}
 use borrow.Author.Needs.{needs}
 use Rattle.chordal_info.proofs.entries_right_by.Statement.{statement}
 use Rattle.chordal_info.proofs.entries_right_by.Tie as tie
-use Rattle.chordal_info.proofs.entries_right_by.Reads as reads
-use Rattle.chordal_info.proofs.entries_right_by.Lts as lts
-use Rattle.chordal_info.proofs.entries_covered.Reads as entries-covered-reads
-use Rattle.chordal_info.proofs.mark_covered.Reads as mark-covered-reads
-use Rattle.chordal_info.proofs.values_covered.Reads as values-covered-reads
 
 -- the rows of the entries lie in the table
 inside : (s : tie.Start) → Below (length (s .args .covered .now)) (s .args .a-rows .now)
@@ -33,11 +29,11 @@ inside s k l =
 
 table : (r : tie.After-mark-covered)
     → let a = r .before .before .before .before .before .before .before .args in
-    r .mark-covered .last .1 .1 .1 .1 .0 ≡ marked (coveredRows (parts (records (a .cones .now)) (patterns (a .count) (a .words .now)))) (replicate (length (a .covered .now)) false)
+    r .mark-covered .last .1 .1 .1 .1 .0 ≡ marked true (coveredRows (parts (records (a .cones .now)) (patterns (a .count) (a .words .now)))) (replicate (length (a .covered .now)) false)
 table r =
     let s = r .before .before .before .before .before .before .before in
     let a = s .args in
-    r .mark-covered .ensures ∙ ap (marked (coveredRows (parts (records (a .cones .now)) (patterns (a .count) (a .words .now))))) (s .pre .1 .1 .1)
+    r .mark-covered .ensures ∙ ap (marked true (coveredRows (parts (records (a .cones .now)) (patterns (a .count) (a .words .now))))) (s .pre .1 .1 .1)
 
 rows-test : (r : tie.After-mark-covered)
     → let a = r .before .before .before .before .before .before .before .args in

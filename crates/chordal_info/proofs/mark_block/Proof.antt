@@ -1,12 +1,13 @@
 use Prim.Native.Nat.{ℕ, _≤_, _-_}
+use mathlib.Core.Bool.{true}
 use mathlib.Core.Path.{_≡_, refl, ap, sym, _∙_}
 use mathlib.Core.List.{List, map}
 use lib.ListN.{length}
 use Rattle.layout.specs.Blocks.{pairRow}
 use Rattle.blocks.specs.Columns.{columnPairs}
 use Rattle.blocks.proofs.Columns.{columnsBelow, columns-more}
-use Rattle.chordal_info.specs.Covered.{marked}
-use Rattle.chordal_info.proofs.Marks.{marked-append}
+use Rattle.blocks.specs.Vertices.{marked}
+use Rattle.blocks.proofs.Laws.{marked-append}
 use native.Mathlib.Omega.{arith}
 use borrow.Author.Needs.{needs}
 use Rattle.chordal_info.proofs.mark_block.Statement.{statement}
@@ -14,7 +15,7 @@ use Rattle.chordal_info.proofs.mark_block.Tie as tie
 
 abbrev Inv-loop : tie.InvT-loop
 Inv-loop vertices base covered₀ j₀ covered j =
-    (j ≤ length vertices) × (length covered ≡ length covered₀) × (covered ≡ marked (columnsBelow (pairRow base) vertices j) covered₀)
+    (j ≤ length vertices) × (length covered ≡ length covered₀) × (covered ≡ marked true (columnsBelow (pairRow base) vertices j) covered₀)
 
 abbrev μ-loop : tie.MeasureT-loop
 μ-loop vertices base covered₀ j₀ covered j = length vertices - j
@@ -28,7 +29,7 @@ mark-column-requires c κs =
     let i = c .before in
     let l = i .before in
     let s = l .before .before .before in
-    ((i .loop-test .taken, s .pre .0), rw (l .loop .inv .1) (s .pre .1 (l .loop .j) (i .loop-test .taken)))
+    ((i .loop-test .taken, s .pre .0), (s .pre .1 (l .loop .j) (i .loop-test .taken), rw (l .loop .inv .1) (s .pre .2 (l .loop .j) (i .loop-test .taken))))
 
 add-j : tie.Need-add-j Inv-loop μ-loop
 add-j c = search needs
@@ -45,9 +46,9 @@ loop-again c =
     let vs = a .vertices .now in (
       omega arith,
       r .mark-column .kept .1 .1 .1 .0 ∙ l .loop .inv .1,
-      r .mark-column .ensures ∙ ap (marked (map f (columnPairs vs (l .loop .j)))) (l .loop .inv .2)
-          ∙ sym (marked-append (columnsBelow f vs (l .loop .j)) (map f (columnPairs vs (l .loop .j))) (a .covered .now))
-          ∙ ap (λ (os : List ℕ). marked os (a .covered .now)) (sym (columns-more f vs (l .loop .j))),
+      r .mark-column .ensures ∙ ap (marked true (map f (columnPairs vs (l .loop .j)))) (l .loop .inv .2)
+          ∙ sym (marked-append true (columnsBelow f vs (l .loop .j)) (map f (columnPairs vs (l .loop .j))) (a .covered .now))
+          ∙ ap (λ (os : List ℕ). marked true os (a .covered .now)) (sym (columns-more f vs (l .loop .j))),
     )
 
 same-length : tie.Need-same-length Inv-loop μ-loop
@@ -58,7 +59,7 @@ returns c =
     let l = c .before in
     let a = l .before .before .before .args in
     let e : l .loop .j ≡ length (a .vertices .now) = omega arith in
-    l .loop .inv .2 ∙ ap (λ (n : ℕ). marked (columnsBelow (pairRow (a .base)) (a .vertices .now) n) (a .covered .now)) e
+    l .loop .inv .2 ∙ ap (λ (n : ℕ). marked true (columnsBelow (pairRow (a .base)) (a .vertices .now) n) (a .covered .now)) e
 
 pub mark-block-spec : {M : Type 1} → statement M
 mark-block-spec =

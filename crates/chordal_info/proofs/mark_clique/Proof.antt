@@ -1,12 +1,12 @@
 use Prim.Native.Nat.{ℕ}
+use mathlib.Core.Bool.{true}
 use mathlib.Core.Path.{ap, sym, _∙_}
 use mathlib.Core.List.{List, map}
 use lib.ListN.{length}
 use Rattle.layout.specs.Blocks.{pairs, pairRow}
 use Rattle.blocks.specs.Cliques.{rowsHere}
-use Rattle.blocks.proofs.Cliques.{vertices-rise, vertices-few}
-use Rattle.chordal_info.specs.Covered.{marked}
-use Rattle.chordal_info.proofs.Rows.{columns-fit}
+use Rattle.blocks.proofs.Cliques.{vertices-rise, vertices-few, vertices-fit}
+use Rattle.blocks.specs.Vertices.{marked}
 use native.Mathlib.Omega.{arith}
 use borrow.Author.Needs.{needs}
 use Rattle.chordal_info.proofs.mark_clique.Statement.{statement}
@@ -39,7 +39,7 @@ mark-block-requires c κs =
     let ws = s .args .words .now in
     let o = s .args .ordering .now in
     rw (v .clique-vertices .ensures .1)
-    (vertices-rise ws o (s .args .at), columns-fit (s .args .base) ws o (s .args .at) (length (s .args .covered .now)) (s .pre .1 .1))
+    (vertices-rise ws o (s .args .at), vertices-fit ws o (s .args .at) (s .args .base) 65536 (s .pre .1 .1 .0), vertices-fit ws o (s .args .at) (s .args .base) (length (s .args .covered .now)) (s .pre .1 .1 .1))
 
 same-length : tie.Need-same-length
 same-length c = search needs
@@ -53,7 +53,7 @@ returns c =
     let m = c .before .before in
     let v = m .before .before .before .before .before in
     let a = v .before .before .before .before .before .before .args in
-    m .mark-block .ensures ∙ ap (λ (vs : List ℕ). marked (map (pairRow (a .base)) (pairs vs)) (a .covered .now)) (v .clique-vertices .ensures .1)
+    m .mark-block .ensures ∙ ap (λ (vs : List ℕ). marked true (map (pairRow (a .base)) (pairs vs)) (a .covered .now)) (v .clique-vertices .ensures .1)
 
 pub mark-clique-spec : {M : Type 1} → statement M
 mark-clique-spec =

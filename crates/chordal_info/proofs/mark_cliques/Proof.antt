@@ -1,24 +1,22 @@
 use Prim.Native.Nat.{_-_, _≤_}
+use mathlib.Core.Bool.{true}
 use mathlib.Core.Path.{_≡_, refl, sym, ap, _∙_}
 use mathlib.Core.List.{reverse}
 use lib.ListN.{length, take}
 use Rattle.layout.specs.Lists.{join}
 use Rattle.blocks.specs.Cliques.{rowsHere}
-use Rattle.chordal_info.specs.Covered.{marked}
+use Rattle.blocks.specs.Vertices.{marked}
 use Rattle.chordal_info.proofs.Rows.{down-start, down-step, down-done}
 use native.Mathlib.Omega.{arith}
 use borrow.Author.Needs.{needs}
 use Rattle.chordal_info.proofs.mark_cliques.Statement.{statement}
 use Rattle.chordal_info.proofs.mark_cliques.Tie as tie
-use Rattle.chordal_info.proofs.mark_cliques.Reads as reads
-use Rattle.chordal_info.proofs.mark_cliques.Lts as lts
-use Rattle.chordal_info.proofs.mark_clique.Reads as mark-clique-reads
 
 abbrev Inv-loop : tie.InvT-loop
 Inv-loop words ordering offsets base vertices₀ covered₀ c₀ vertices covered c =
     let f = rowsHere base words ordering in
     (c ≤ length offsets) × (length vertices ≡ length vertices₀) × (length covered ≡ length covered₀)
-    × (marked (join f (reverse (take c offsets))) covered ≡ marked (join f (reverse offsets)) covered₀)
+    × (marked true (join f (reverse (take c offsets))) covered ≡ marked true (join f (reverse offsets)) covered₀)
 
 abbrev μ-loop : tie.MeasureT-loop
 μ-loop words ordering offsets base vertices₀ covered₀ c₀ vertices covered c = c
@@ -54,7 +52,7 @@ loop-again c =
       omega arith,
       m .mark-clique .kept .1 .1 .1 .1 .0 ∙ l .loop .inv .1,
       m .mark-clique .kept .1 .1 .1 .1 .1 .0 ∙ l .loop .inv .2,
-      ap (marked (join (rowsHere (a .base) (a .words .now) (a .ordering .now)) (reverse (take (l .loop .c - 1) (a .offsets .now))))) (m .mark-clique .ensures)
+      ap (marked true (join (rowsHere (a .base) (a .words .now) (a .ordering .now)) (reverse (take (l .loop .c - 1) (a .offsets .now))))) (m .mark-clique .ensures)
           ∙ sym (down-step (rowsHere (a .base) (a .words .now) (a .ordering .now)) (a .offsets .now) (l .loop .c) (l .loop .covered) (omega arith) (omega arith))
           ∙ l .loop .inv .3,
     )

@@ -6,8 +6,8 @@ use lib.ListN.{length, getD, drop, set, length-set}
 use Rattle.layout.specs.Blocks.{pairRow}
 use Rattle.blocks.specs.Columns.{columnPairs}
 use Rattle.blocks.proofs.Columns.{rises-le, length-column, row-at}
-use Rattle.chordal_info.specs.Covered.{marked}
-use Rattle.chordal_info.proofs.Marks.{mark-step, mark-done}
+use Rattle.blocks.specs.Vertices.{marked}
+use Rattle.blocks.proofs.Laws.{marked-step, marked-done}
 use native.Mathlib.Omega.{arith}
 use borrow.Author.Needs.{needs}
 use Rattle.chordal_info.proofs.mark_column.Statement.{statement}
@@ -16,7 +16,7 @@ use Rattle.chordal_info.proofs.mark_column.Tie as tie
 abbrev Inv-loop : tie.InvT-loop
 Inv-loop vertices j base covered₀ c row i₀ covered i =
     let os = map (pairRow base) (columnPairs vertices j) in
-    (i ≤ j + 1) × (length covered ≡ length covered₀) × (marked (drop i os) covered ≡ marked os covered₀)
+    (i ≤ j + 1) × (length covered ≡ length covered₀) × (marked true (drop i os) covered ≡ marked true os covered₀)
 
 abbrev μ-loop : tie.MeasureT-loop
 μ-loop vertices j base covered₀ c row i₀ covered i = j + 1 - i
@@ -79,8 +79,8 @@ loop-again c =
     let i = l .loop .i in (
       omega arith,
       simp length-set (l .loop .inv .1),
-      ap (λ (o : ℕ). marked (drop (i + 1) os) (set (l .loop .covered) o true)) (sym (row-at (a .base) (a .vertices .now) (a .j) i (s .pre .0 .1) (omega arith) (s .pre .0 .0)))
-          ∙ sym (mark-step os (l .loop .covered) i (omega (arith, length-column (pairRow (a .base)) (a .vertices .now) (a .j)))) ∙ l .loop .inv .2,
+      ap (λ (o : ℕ). marked true (drop (i + 1) os) (set (l .loop .covered) o true)) (sym (row-at (a .base) (a .vertices .now) (a .j) i (s .pre .0 .1) (omega arith) (s .pre .0 .0)))
+          ∙ sym (marked-step true os (l .loop .covered) i (omega (arith, length-column (pairRow (a .base)) (a .vertices .now) (a .j)))) ∙ l .loop .inv .2,
     )
 
 same-length : tie.Need-same-length Inv-loop μ-loop
@@ -90,7 +90,7 @@ returns : tie.Need-returns Inv-loop μ-loop
 returns c =
     let l = c .before in
     let a = l .before .before .args in
-    sym (mark-done (map (pairRow (a .base)) (columnPairs (a .vertices .now) (a .j))) (l .loop .covered) (l .loop .i)
+    sym (marked-done true (map (pairRow (a .base)) (columnPairs (a .vertices .now) (a .j))) (l .loop .covered) (l .loop .i)
     (omega (arith, length-column (pairRow (a .base)) (a .vertices .now) (a .j)))) ∙ l .loop .inv .2
 
 pub mark-column-spec : {M : Type 1} → statement M

@@ -1,4 +1,5 @@
 use Prim.Native.Nat.{ℕ}
+use mathlib.Core.Bool.{true}
 use mathlib.Core.Path.{_≡_, refl, sym, ap, subst, _∙_}
 use mathlib.Core.List.{List, map}
 use lib.ListN.{length, getD}
@@ -10,23 +11,17 @@ use Rattle.layout.specs.Checks.{noCone, coveredRows}
 use Rattle.supernode_tree.specs.Reads.{patternAt}
 use Rattle.parts.specs.Ahead.{ahead, Stands, meets, Knows}
 use Rattle.parts.specs.declared.Met.the-variants.{Whole, Cut}
-use Rattle.chordal_info.specs.Covered.{marked}
-use Rattle.chordal_info.proofs.Parts.{partRows, covered-parts, part-step, parts-done}
+use Rattle.blocks.specs.Vertices.{marked}
+use Rattle.chordal_info.proofs.Parts.{partOriginals, covered-parts, part-step, parts-done}
 use native.Mathlib.Omega.{arith}
 use borrow.Author.Needs.{needs}
 use Rattle.chordal_info.proofs.mark_covered.Statement.{statement}
 use Rattle.chordal_info.proofs.mark_covered.Tie as tie
-use Rattle.chordal_info.proofs.mark_covered.Reads as reads
-use Rattle.chordal_info.proofs.mark_covered.Lts as lts
-use Rattle.chordal_info.proofs.mark_pattern.Reads as mark-pattern-reads
-use Rattle.chordal_info.proofs.mark_range.Reads as mark-range-reads
-use Rattle.parts.proofs.Place.next.Reads as next-reads
-use Rattle.parts.proofs.Place.start.Reads as start-reads
 
 abbrev Inv-loop : tie.InvT-loop
 Inv-loop m cones count words covered₀ offsets₀ vertices₀ place₀ covered offsets vertices place =
     Stands m cones words place × (length covered ≡ length covered₀)
-    × (marked (join partRows (ahead cones words place)) covered ≡ marked (coveredRows (parts (records cones) (patterns count words))) covered₀)
+    × (marked true (join partOriginals (ahead cones words place)) covered ≡ marked true (coveredRows (parts (records cones) (patterns count words))) covered₀)
     × (length offsets ≡ 256) × (length vertices ≡ 256)
 
 abbrev μ-loop : tie.MeasureT-loop
@@ -81,8 +76,8 @@ loop-holds c =
     let a = s .args in (
       c .start .ensures .1,
       refl,
-      ap (λ (ps : List Part). marked (join partRows ps) (a .covered .now)) (c .start .ensures .0)
-          ∙ ap (λ (os : List ℕ). marked os (a .covered .now)) (sym (covered-parts (s .pre .0))),
+      ap (λ (ps : List Part). marked true (join partOriginals ps) (a .covered .now)) (c .start .ensures .0)
+          ∙ ap (λ (os : List ℕ). marked true os (a .covered .now)) (sym (covered-parts (s .pre .0))),
       refl,
       refl,
     )
@@ -113,7 +108,7 @@ loop-again c =
     let at = l .loop .place in (
       whole-knows k .5,
       r .mark-range .kept .1 .1 .0 ∙ l .loop .inv .1,
-      ap (marked (join partRows (ahead cones words (k .met .given .0 .1 .0)))) (r .mark-range .ensures)
+      ap (marked true (join partOriginals (ahead cones words (k .met .given .0 .1 .0)))) (r .mark-range .ensures)
           ∙ part-step (whole (at .cone) (getD (records cones) (at .cone) noCone) (at .row)) (ahead cones words at)
           (ahead cones words (k .met .given .0 .1 .0)) (upFrom (at .row) (k .met .given .0 .0)) (l .loop .covered) (whole-meets k)
           (ap (upFrom (at .row)) (whole-knows k .0))
@@ -154,7 +149,7 @@ loop-again-2 c =
     let p = patternAt words (k .met2 .given .0 .0) in (
       cut-knows k .6,
       r .mark-pattern .kept .1 .1 .1 .1 .1 .0 ∙ l .loop .inv .1,
-      ap (marked (join partRows (ahead cones words (k .met2 .given .0 .1 .0)))) (r .mark-pattern .ensures 0)
+      ap (marked true (join partOriginals (ahead cones words (k .met2 .given .0 .1 .0)))) (r .mark-pattern .ensures 0)
           ∙ part-step (cut (at .cone) (at .row) (at .pattern) p) (ahead cones words at)
           (ahead cones words (k .met2 .given .0 .1 .0)) (map originalRow (patternRows p (at .row) 0)) (l .loop .covered) (cut-meets k) refl
           ∙ l .loop .inv .2,

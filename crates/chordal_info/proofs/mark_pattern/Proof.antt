@@ -1,4 +1,5 @@
 use Prim.Native.Nat.{ℕ, _≤_, _-_}
+use mathlib.Core.Bool.{true}
 use mathlib.Core.Path.{_≡_, ap, sym, _∙_}
 use mathlib.Core.List.{List, reverse}
 use lib.ListN.{length, take, drop}
@@ -10,16 +11,11 @@ use Rattle.supernode_tree.specs.declared.PatternRead.the-variants.{Pattern as F
 use Rattle.blocks.specs.Cliques.{rowsHere}
 use Rattle.blocks.proofs.Patterns.{cliques-few}
 use Rattle.blocks.proofs.Offsets.{StandAt, not-short, cliques-here, cliques-count, ordering-part, stand-here, all-stand, rows-down}
-use Rattle.chordal_info.specs.Covered.{marked}
+use Rattle.blocks.specs.Vertices.{marked}
 use native.Mathlib.Omega.{arith}
 use borrow.Author.Needs.{needs}
 use Rattle.chordal_info.proofs.mark_pattern.Statement.{statement}
 use Rattle.chordal_info.proofs.mark_pattern.Tie as tie
-use Rattle.chordal_info.proofs.mark_pattern.Reads as reads
-use Rattle.chordal_info.proofs.mark_pattern.Lts as lts
-use Rattle.chordal_info.proofs.mark_cliques.Reads as mark-cliques-reads
-use Rattle.supernode_tree.proofs.Pattern.read.Reads as read-reads
-use Rattle.supernode_tree.proofs.clique_offsets.Reads as clique-offsets-reads
 
 -- the pattern's head lies in the words
 inside : (k : tie.After-known-told)
@@ -132,8 +128,8 @@ returns-2 c =
     let os = take (k .before .p .given .0 .0 .«clique_count») (o .clique-offsets .last .1 .1 .1 .0) in
     λ first.
     w .mark-cliques .ensures
-    ∙ ap (λ (ordering : List ℕ). marked (join (rowsHere (s .args .base) (s .args .words .now) ordering) (reverse os)) (s .args .covered .now)) (ordering-here k)
-    ∙ ap (λ (xs : List ℕ). marked xs (s .args .covered .now))
+    ∙ ap (λ (ordering : List ℕ). marked true (join (rowsHere (s .args .base) (s .args .words .now) ordering) (reverse os)) (s .args .covered .now)) (ordering-here k)
+    ∙ ap (λ (xs : List ℕ). marked true xs (s .args .covered .now))
     (rows-down p (s .pre .0 .0) (s .args .words .now) (o .clique-offsets .last .1 .1 .1 .0) _ (count k) (room o) (standing o) (s .args .base) first)
 
 pub mark-pattern-spec : {M : Type 1} → statement M

@@ -1,20 +1,19 @@
 use Prim.Native.Nat.{_+_, _-_, _≤_}
+use mathlib.Core.Bool.{true}
 use mathlib.Core.Path.{_≡_, refl, sym, _∙_}
 use lib.ListN.{length, length-set}
 use Rattle.layout.specs.Lists.{upFrom}
-use Rattle.chordal_info.specs.Covered.{marked}
+use Rattle.blocks.specs.Vertices.{marked}
 use Rattle.chordal_info.proofs.Marks.{range-start, range-step, range-done}
 use native.Mathlib.Omega.{arith}
 use borrow.Author.Needs.{needs}
 use Rattle.chordal_info.proofs.mark_range.Statement.{statement}
 use Rattle.chordal_info.proofs.mark_range.Tie as tie
-use Rattle.chordal_info.proofs.mark_range.Reads as reads
-use Rattle.chordal_info.proofs.mark_range.Lts as lts
 
 abbrev Inv-loop : tie.InvT-loop
 Inv-loop first count covered₀ i₀ covered i =
     (i ≤ count) × (length covered ≡ length covered₀)
-    × (marked (upFrom (first + i) (count - i)) covered ≡ marked (upFrom first count) covered₀)
+    × (marked true (upFrom (first + i) (count - i)) covered ≡ marked true (upFrom first count) covered₀)
 
 abbrev μ-loop : tie.MeasureT-loop
 μ-loop first count covered₀ i₀ covered i = count - i

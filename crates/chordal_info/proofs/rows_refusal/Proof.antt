@@ -3,9 +3,6 @@ use mathlib.Core.Bool.{Bool, cond}
 use borrow.Author.Needs.{needs}
 use Rattle.chordal_info.proofs.rows_refusal.Statement.{statement}
 use Rattle.chordal_info.proofs.rows_refusal.Tie as tie
-use Rattle.chordal_info.proofs.rows_refusal.Reads as reads
-use Rattle.chordal_info.proofs.rows_refusal.Lts as lts
-use Rattle.chordal_info.proofs.rows_right.Reads as rows-right-reads
 
 rows-right-requires : tie.Need-rows-right-requires
 rows-right-requires c κs = search needs

@@ -1,21 +1,15 @@
-use Prim.Native.Nat.{_+_}
 use mathlib.Core.Path.{sym, ap, _∙_}
-use borrow.Author.Tests.{le-leb, lt-leb}
+use borrow.Author.Tests.{le-leb}
 use Rattle.layout.specs.Problem.{Route}
+use Rattle.layout.specs.Answers.{routeOf}
 use Rattle.chordal_info.specs.Sizes.{rowsFit}
-use Rattle.chordal_info.proofs.Sizes.{route-standard, route-compact}
-use native.Mathlib.Omega.{arith}
+use Rattle.chordal_info.proofs.Sizes.{route-standard, route-compact, rows-many}
 use borrow.Author.Needs.{needs}
 use Rattle.chordal_info.proofs.rows_right.Statement.{statement}
 use Rattle.chordal_info.proofs.rows_right.Tie as tie
-use Rattle.chordal_info.proofs.rows_right.Reads as reads
-use Rattle.chordal_info.proofs.rows_right.Lts as lts
 
 returns : tie.Need-returns
-returns c =
-    let a = c .before .before .args in
-    sym (ap (λ (x : Route). rowsFit x (a .m) (a .rows) (a .overlaps)) (route-standard (a .route) (c .before .if1 .taken))
-    ∙ lt-leb (a .m + a .rows) 262144 (omega arith))
+returns c = let a = c .before .args in sym (rows-many (routeOf (a .route)) (a .m) (a .rows) (a .overlaps) (c .if1 .taken))
 
 add-result : tie.Need-add-result
 add-result c = search needs
@@ -23,19 +17,13 @@ add-result c = search needs
 returns-2 : tie.Need-returns-2
 returns-2 c =
     let a = c .before .before .args in
-    sym (ap (λ (x : Route). rowsFit x (a .m) (a .rows) (a .overlaps)) (route-standard (a .route) (c .before .if1 .taken)))
+    sym (ap (λ (x : Route). rowsFit x (a .m) (a .rows) (a .overlaps)) (route-standard (a .route) (c .if2 .taken)))
 
 returns-3 : tie.Need-returns-3
 returns-3 c =
     let a = c .before .before .args in
-    sym (ap (λ (x : Route). rowsFit x (a .m) (a .rows) (a .overlaps)) (route-compact (a .route) (c .before .if1 .left))
-    ∙ rw (lt-leb (a .rows) 262144 (c .if3 .taken)))
-
-returns-4 : tie.Need-returns-4
-returns-4 c =
-    let a = c .before .before .args in
-    sym (ap (λ (x : Route). rowsFit x (a .m) (a .rows) (a .overlaps)) (route-compact (a .route) (c .before .if1 .left))
-    ∙ rw (le-leb (a .rows) 262144 (c .if3 .left)))
+    sym (ap (λ (x : Route). rowsFit x (a .m) (a .rows) (a .overlaps)) (route-compact (a .route) (c .if2 .left))
+    ∙ rw (le-leb (a .rows) 262144 (c .before .if1 .left)))
 
 pub rows-right-spec : {M : Type 1} → statement M
-rows-right-spec = tie.close (tie.spec returns add-result returns-2 returns-3 returns-4)
+rows-right-spec = tie.close (tie.spec returns add-result returns-2 returns-3)

@@ -13,8 +13,6 @@ use borrow.Author.Tests.{not-true, not-false}
 use borrow.Author.Needs.{needs}
 use Rattle.chordal_info.proofs.values_covered.Statement.{statement}
 use Rattle.chordal_info.proofs.values_covered.Tie as tie
-use Rattle.chordal_info.proofs.values_covered.Reads as reads
-use Rattle.chordal_info.proofs.values_covered.Lts as lts
 
 -- the test of one row
 abbrev fine : List Bool → List Float → ℕ → Bool

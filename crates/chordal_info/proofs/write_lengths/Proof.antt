@@ -5,8 +5,6 @@ use native.Mathlib.Omega.{arith}
 use borrow.Author.Needs.{needs}
 use Rattle.chordal_info.proofs.write_lengths.Statement.{statement}
 use Rattle.chordal_info.proofs.write_lengths.Tie as tie
-use Rattle.chordal_info.proofs.write_lengths.Reads as reads
-use Rattle.chordal_info.proofs.write_lengths.Lts as lts
 
 add-out : tie.Need-add-out
 add-out c = omega arith

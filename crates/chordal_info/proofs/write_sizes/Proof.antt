@@ -12,9 +12,6 @@ use native.Mathlib.Omega.{arith}
 use borrow.Author.Needs.{needs}
 use Rattle.chordal_info.proofs.write_sizes.Statement.{statement}
 use Rattle.chordal_info.proofs.write_sizes.Tie as tie
-use Rattle.chordal_info.proofs.write_sizes.Reads as reads
-use Rattle.chordal_info.proofs.write_sizes.Lts as lts
-use Rattle.chordal_info.proofs.write_lengths.Reads as write-lengths-reads
 
 few : (s : tie.Start) → s .args .rows ≤ 262144
 few s = rows-few (routeOf (s .args .route)) (s .args .m) (s .args .rows) (s .args .overlaps) (s .pre .1 .2)

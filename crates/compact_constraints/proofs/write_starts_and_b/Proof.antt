@@ -8,8 +8,8 @@ use lib.Seq.{length-take-le}
 use Rattle.layout.specs.Lists.{written}
 use Rattle.layout.specs.Blocks.{compactRows}
 use Rattle.layout.specs.Answers.{joinedParts}
-use Rattle.codes.specs.Codes.{cutCode}
-use Rattle.sparsevector.specs.Values.{RowsInside, codeValue}
+use Rattle.codes.specs.Codes.{cutCode, RowsInside}
+use Rattle.sparsevector.specs.Values.{codeValue}
 use Rattle.compact_constraints.proofs.Laws.{codes-count, front}
 use Rattle.compact_constraints.proofs.write_starts_and_b.Statement.{statement}
 use Rattle.compact_constraints.proofs.write_starts_and_b.Tie as tie

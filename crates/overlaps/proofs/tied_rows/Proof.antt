@@ -6,7 +6,7 @@ use Rattle.layout.specs.Lists.{written}
 use Rattle.layout.specs.Triangle.{triangle}
 use Rattle.layout.specs.Blocks.{pairs}
 use Rattle.blocks.specs.Cliques.{verticesHere}
-use Rattle.blocks.proofs.Cliques.{vertices-rise, vertices-few, vertices-below, vertices-inside}
+use Rattle.blocks.proofs.Cliques.{vertices-rise, vertices-few, vertices-below, vertices-fit}
 use Rattle.overlaps.specs.Places.{placeCode}
 use Rattle.overlaps.proofs.Places.{places-climb}
 use Rattle.overlaps.proofs.Codes.{length-tied, tied-places}
@@ -49,7 +49,7 @@ code-block-requires c κs =
     let o = a .ordering .now in
     let n : length (p .clique-places .last .1 .1 .1 .0) ≡ 256 = omega (arith, p .clique-places .kept .1 .1 .1 .0, length-replicate {A = ℕ} 256 0) in
     rw (v .clique-vertices .ensures .1) (
-      (vertices-rise ws o (a .at), λ k l. omega (arith, vertices-below ws o (a .at) k l, s .pre .0 .0 .sortable .few), vertices-inside ws o (a .at) (a .base) (s .pre .1 .0 .0)),
+      (vertices-rise ws o (a .at), λ k l. omega (arith, vertices-below ws o (a .at) k l, s .pre .0 .0 .sortable .few), vertices-fit ws o (a .at) (a .base) 65536 (s .pre .1 .0 .0)),
       (
         s .pre .1 .0 .1,
         places-climb (verticesHere ws o (a .parent)) (p .clique-places .last .1 .1 .1 .0) (vertices-rise ws o (a .parent)) (p .clique-places .ensures) (few s (a .parent)),

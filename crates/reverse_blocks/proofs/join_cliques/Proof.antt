@@ -1,4 +1,4 @@
-use Prim.Native.Nat.{ℕ, suc, _≤_, _<_, _-_, _+_}
+use Prim.Native.Nat.{ℕ, _≤_, _<_, _-_, _+_}
 use mathlib.Core.Path.{_≡_, refl, ap, sym, subst, _∙_}
 use mathlib.Core.List.{List, [], _++_}
 use lib.ListN.{length, getD, take, drop, length-append, length-map, length-drop}
@@ -9,13 +9,13 @@ use Rattle.layout.specs.Lists.{join, rises}
 use Rattle.layout.specs.Triangle.{triangle}
 use Rattle.layout.specs.Blocks.{pairs, pairRow}
 use Rattle.layout.specs.Reverse.{addAt, addColumns}
-use Rattle.layout.proofs.Triangles.{triangle-mono}
 use Rattle.layout.proofs.Pairs.{length-pairs}
-use Rattle.blocks.specs.Cliques.{verticesHere, rowsHere, Stands}
-use Rattle.blocks.proofs.Cliques.{vertices-rise, vertices-few, vertices-below}
+use Rattle.blocks.specs.Cliques.{rowsHere, Stands}
+use Rattle.blocks.specs.Columns.{ColumnsFit}
+use Rattle.blocks.proofs.Cliques.{vertices-rise, vertices-few, vertices-fit}
 use Rattle.blocks.proofs.Orders.{up-more, up-room}
 use Rattle.layout.proofs.Buffers.{take-none}
-use Rattle.reverse_blocks.specs.Joins.{zAt, joinZ, Counts, Countable, blockRowsOf, Within, inOrder}
+use Rattle.reverse_blocks.specs.Joins.{zAt, joinZ, Counts, Countable, blockRowsOf, inOrder}
 use Rattle.reverse_blocks.proofs.Laws.{walk-more, counts-none, counts-more, countable-left, length-order, standing-order}
 use native.Mathlib.Omega.{arith}
 use borrow.Author.Needs.{needs}
@@ -160,12 +160,10 @@ join-block-requires c κs =
     let at = v .before .before .offset-at .result in
     let n = l .loop .inv .3 in
     let left : (vs : List Float) → length (take (length vs - l .loop .t) (drop (l .loop .t) vs)) ≡ length vs - l .loop .t =
-    λ vs. length-take-le (length vs - l .loop .t) (drop (l .loop .t) vs) (omega (arith, length-drop (l .loop .t) vs)) in
-    let inColumns : Within (length (l .loop .s-out)) (verticesHere ws o at) =
-    λ k m. omega (arith, n, triangle-mono (suc (getD (verticesHere ws o at) k 0)) (length o) (vertices-below ws o at k m), s .pre .0 .1) in (
+    λ vs. length-take-le (length vs - l .loop .t) (drop (l .loop .t) vs) (omega (arith, length-drop (l .loop .t) vs)) in (
       (
         subst (λ (vs : List ℕ). T (rises vs)) (sym (v .clique-vertices .ensures .1)) (vertices-rise ws o at),
-        subst (Within (length (l .loop .s-out))) (sym (v .clique-vertices .ensures .1)) inColumns,
+        subst (λ (vs : List ℕ). ColumnsFit 0 vs (length (l .loop .s-out))) (sym (v .clique-vertices .ensures .1)) (vertices-fit ws o at 0 (length (l .loop .s-out)) (omega (arith, n, s .pre .0 .1))),
       ),
       (
         (omega (arith, size v, fits i, s .pre .1 .0, left (a .s .now)), omega (arith, size v, fits i, s .pre .1 .0, left (a .z .now))),

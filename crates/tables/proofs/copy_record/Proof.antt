@@ -12,9 +12,6 @@ use native.Mathlib.Omega.{arith}
 use borrow.Author.Needs.{needs}
 use Rattle.tables.proofs.copy_record.Statement.{statement}
 use Rattle.tables.proofs.copy_record.Tie as tie
-use Rattle.tables.proofs.copy_record.Reads as reads
-use Rattle.tables.proofs.copy_record.Lts as lts
-use Rattle.tables.proofs.put.Reads as put-reads
 
 mul-at : tie.Need-mul-at
 mul-at c = search needs

@@ -8,8 +8,6 @@ use native.Mathlib.Omega.{arith}
 use borrow.Author.Needs.{needs}
 use Rattle.tables.proofs.count_up.Statement.{statement}
 use Rattle.tables.proofs.count_up.Tie as tie
-use Rattle.tables.proofs.count_up.Reads as reads
-use Rattle.tables.proofs.count_up.Lts as lts
 
 abbrev Inv-loop : tie.InvT-loop
 Inv-loop out₀ first count i₀ out i =

@@ -6,10 +6,6 @@ use Rattle.layout.specs.Compact.{blockOf, mapWords}
 use borrow.Author.Needs.{needs}
 use Rattle.tables.proofs.cut_entries.Statement.{statement}
 use Rattle.tables.proofs.cut_entries.Tie as tie
-use Rattle.tables.proofs.cut_entries.Reads as reads
-use Rattle.tables.proofs.cut_entries.Lts as lts
-use Rattle.parts.proofs.clique_count.Reads as clique-count-reads
-use Rattle.tables.proofs.map_down.Reads as map-down-reads
 
 clique-count-requires : tie.Need-clique-count-requires
 clique-count-requires c κs = search needs

@@ -6,14 +6,12 @@ use Rattle.layout.specs.Lists.{join, written, below}
 use Rattle.layout.specs.Compact.{blockOf, entryWords}
 use Rattle.layout.proofs.Members.{length-below}
 use Rattle.blocks.proofs.Offsets.{join-map}
-use Rattle.tables.proofs.Laws.{entryOf, entries-more, threes, three-more}
+use Rattle.overlaps.proofs.Codes.{numbers-more}
+use Rattle.tables.proofs.Laws.{entryOf, threes, three-more}
 use native.Mathlib.Omega.{arith}
 use borrow.Author.Needs.{needs}
 use Rattle.tables.proofs.map_down.Statement.{statement}
 use Rattle.tables.proofs.map_down.Tie as tie
-use Rattle.tables.proofs.map_down.Reads as reads
-use Rattle.tables.proofs.map_down.Lts as lts
-use Rattle.tables.proofs.put.Reads as put-reads
 
 abbrev Inv-loop : tie.InvT-loop
 Inv-loop cone pattern count out₀ t₀ c₀ out t c =
@@ -54,7 +52,7 @@ loop-again c =
     ∙ three-more (join f xs) (a .out .now) (a .cone) (a .pattern) n (l .loop .t)
     (omega (arith, threes f (λ k. refl) xs, length-reverse (drop (l .loop .c) (below (a .count))), length-drop (l .loop .c) (below (a .count)), length-below (a .count))) (omega arith)
     ∙ ap (λ (ws : List ℕ). written ws (a .out .now))
-    (ap (λ (k : ℕ). join f (reverse (drop k (below (a .count)))) ++ (a .cone ∷ a .pattern ∷ n ∷ [])) q ∙ sym (entries-more (a .cone) (a .pattern) (a .count) n (omega arith))) in
+    (ap (λ (k : ℕ). join f (reverse (drop k (below (a .count)))) ++ (a .cone ∷ a .pattern ∷ n ∷ [])) q ∙ sym (numbers-more f (a .count) n (omega arith))) in
     (omega arith, omega arith, c .before .before .put .kept .0 ∙ l .loop .inv .2, e)
 
 same-length : tie.Need-same-length Inv-loop μ-loop

@@ -10,10 +10,6 @@ use native.Mathlib.Omega.{arith}
 use borrow.Author.Needs.{needs}
 use Rattle.tables.proofs.pattern_sizes.Statement.{statement}
 use Rattle.tables.proofs.pattern_sizes.Tie as tie
-use Rattle.tables.proofs.pattern_sizes.Reads as reads
-use Rattle.tables.proofs.pattern_sizes.Lts as lts
-use Rattle.supernode_tree.proofs.Pattern.read.Reads as read-reads
-use Rattle.tables.proofs.block_sizes.Reads as block-sizes-reads
 
 read-requires : tie.Need-read-requires
 read-requires c κs = search needs

@@ -3,8 +3,6 @@ use native.Mathlib.Omega.{arith}
 use borrow.Author.Needs.{needs}
 use Rattle.tables.proofs.put.Statement.{statement}
 use Rattle.tables.proofs.put.Tie as tie
-use Rattle.tables.proofs.put.Reads as reads
-use Rattle.tables.proofs.put.Lts as lts
 
 mul-out : tie.Need-mul-out
 mul-out c = search needs

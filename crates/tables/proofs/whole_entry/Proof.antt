@@ -5,9 +5,6 @@ use native.Mathlib.Omega.{arith}
 use borrow.Author.Needs.{needs}
 use Rattle.tables.proofs.whole_entry.Statement.{statement}
 use Rattle.tables.proofs.whole_entry.Tie as tie
-use Rattle.tables.proofs.whole_entry.Reads as reads
-use Rattle.tables.proofs.whole_entry.Lts as lts
-use Rattle.tables.proofs.put.Reads as put-reads
 
 cast-put : tie.Need-cast-put
 cast-put c = search needs

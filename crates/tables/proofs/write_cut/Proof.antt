@@ -20,13 +20,6 @@ use native.Mathlib.Omega.{arith}
 use borrow.Author.Needs.{needs}
 use Rattle.tables.proofs.write_cut.Statement.{statement}
 use Rattle.tables.proofs.write_cut.Tie as tie
-use Rattle.tables.proofs.write_cut.Reads as reads
-use Rattle.tables.proofs.write_cut.Lts as lts
-use Rattle.blocks.proofs.standard_pattern_rows.Reads as standard-pattern-rows-reads
-use Rattle.overlaps.proofs.compact_pattern_rows.Reads as compact-pattern-rows-reads
-use Rattle.tables.proofs.compact_pattern_cones.Reads as compact-pattern-cones-reads
-use Rattle.tables.proofs.cut_entries.Reads as cut-entries-reads
-use Rattle.tables.proofs.standard_pattern_cones.Reads as standard-pattern-cones-reads
 
 -- what the cone writes, by the table
 rows-h : (c : tie.After-enum-told)
@@ -105,8 +98,8 @@ compact-pattern-rows-requires c κs =
 enum-told-3 : tie.Need-enum-told-3
 enum-told-3 c = search needs
 
-standard-pattern-cones-requires : tie.Need-standard-pattern-cones-requires
-standard-pattern-cones-requires c κs =
+pattern-cones-requires : tie.Need-pattern-cones-requires
+pattern-cones-requires c κs =
     let s = c .before .before .before .before .before in
     let a = s .args in
     let p = patternAt (a .words .now) (a .at) in
@@ -116,8 +109,8 @@ standard-pattern-cones-requires c κs =
 enum-told-4 : tie.Need-enum-told-4
 enum-told-4 c = search needs
 
-compact-pattern-cones-requires : tie.Need-compact-pattern-cones-requires
-compact-pattern-cones-requires c κs =
+pattern-cones-requires-2 : tie.Need-pattern-cones-requires-2
+pattern-cones-requires-2 c κs =
     let s = c .before .before .before .before .before in
     let a = s .args in
     let p = patternAt (a .words .now) (a .at) in
@@ -164,7 +157,7 @@ same-length-3 c = search needs
 
 returns-3 : tie.Need-returns-3
 returns-3 c =
-    let w = c .before .before .standard-pattern-cones in
+    let w = c .before .before .pattern-cones in
     let s = c .before .before .before .before .before .before .before .before in
     let a = s .args in
     let p = patternAt (a .words .now) (a .at) in
@@ -176,7 +169,7 @@ same-length-4 c = search needs
 
 returns-4 : tie.Need-returns-4
 returns-4 c =
-    let w = c .before .before .compact-pattern-cones in
+    let w = c .before .before .pattern-cones2 in
     let s = c .before .before .before .before .before .before .before .before in
     let a = s .args in
     let p = patternAt (a .words .now) (a .at) in
@@ -205,9 +198,9 @@ write-cut-spec =
     cast-compact-pattern-rows
     compact-pattern-rows-requires
     enum-told-3
-    standard-pattern-cones-requires
+    pattern-cones-requires
     enum-told-4
-    compact-pattern-cones-requires
+    pattern-cones-requires-2
     enum-told-5
     cut-entries-requires
     same-length

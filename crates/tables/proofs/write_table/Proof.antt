@@ -21,12 +21,6 @@ use native.Mathlib.Omega.{arith}
 use borrow.Author.Needs.{needs}
 use Rattle.tables.proofs.write_table.Statement.{statement}
 use Rattle.tables.proofs.write_table.Tie as tie
-use Rattle.tables.proofs.write_table.Reads as reads
-use Rattle.tables.proofs.write_table.Lts as lts
-use Rattle.parts.proofs.Place.next.Reads as next-reads
-use Rattle.parts.proofs.Place.start.Reads as start-reads
-use Rattle.tables.proofs.write_cut.Reads as write-cut-reads
-use Rattle.tables.proofs.write_whole.Reads as write-whole-reads
 
 abbrev Inv-loop : tie.InvT-loop
 Inv-loop table m cones count words out₀ place₀ t₀ out place t =

@@ -11,11 +11,6 @@ use native.Mathlib.Omega.{arith}
 use borrow.Author.Needs.{needs}
 use Rattle.tables.proofs.write_whole.Statement.{statement}
 use Rattle.tables.proofs.write_whole.Tie as tie
-use Rattle.tables.proofs.write_whole.Reads as reads
-use Rattle.tables.proofs.write_whole.Lts as lts
-use Rattle.tables.proofs.copy_record.Reads as copy-record-reads
-use Rattle.tables.proofs.count_up.Reads as count-up-reads
-use Rattle.tables.proofs.whole_entry.Reads as whole-entry-reads
 
 -- what the cone writes, by the table
 rows-h : (c : tie.After-enum-told)

@@ -2,8 +2,6 @@ use mathlib.Core.Path.{refl}
 use lib.Ieee.{ofBits}
 use Rattle.reverse_standard.proofs.Scalars.joined.Statement.{statement}
 use Rattle.reverse_standard.proofs.Scalars.joined.Tie as tie
-use Rattle.reverse_standard.proofs.Scalars.joined.Reads as reads
-use Rattle.reverse_standard.proofs.Scalars.joined.Lts as lts
 
 returns : tie.Need-returns
 unfolding ofBits

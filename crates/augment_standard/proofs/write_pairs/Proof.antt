@@ -3,20 +3,18 @@ use native.Mathlib.Omega.{arith}
 use mathlib.Core.Path.{_≡_}
 use borrow.Author.Needs.{needs}
 use lib.ListN.{length, length-set}
-use lib.Ieee.{ofBits, neg}
 use Rattle.layout.specs.Lists.{written}
-use Rattle.layout.specs.Problem.{one64, minusOne64}
 use Rattle.csc.proofs.Writing.{two-more}
-use Rattle.augment_standard.specs.Beside.{hValues}
-use Rattle.augment_standard.proofs.Columns.{length-hValues, values-more}
-use Rattle.augment_standard.proofs.write_h_values.Statement.{statement}
-use Rattle.augment_standard.proofs.write_h_values.Tie as tie
+use Rattle.augment_standard.specs.Beside.{pairValues}
+use Rattle.augment_standard.proofs.Columns.{length-pairs, pairs-more}
+use Rattle.augment_standard.proofs.write_pairs.Statement.{statement}
+use Rattle.augment_standard.proofs.write_pairs.Tie as tie
 
 abbrev Inv-loop : tie.InvT-loop
-Inv-loop out₀ k t₀ i₀ out t i = (i ≤ k) × (t ≡ 2 * i) × (length out ≡ length out₀) × (out ≡ written (hValues i) out₀)
+Inv-loop out₀ k first second t₀ i₀ out t i = (i ≤ k) × (t ≡ 2 * i) × (length out ≡ length out₀) × (out ≡ written (pairValues first second i) out₀)
 
 abbrev μ-loop : tie.MeasureT-loop
-μ-loop out₀ k t₀ i₀ out t i = k - i
+μ-loop out₀ k first second t₀ i₀ out t i = k - i
 
 loop-holds : tie.Need-loop-holds Inv-loop μ-loop
 loop-holds c = search needs
@@ -46,16 +44,15 @@ loop-less : tie.Need-loop-less Inv-loop μ-loop
 loop-less c = search needs
 
 loop-again : tie.Need-loop-again Inv-loop μ-loop
-unfolding ofBits neg
 loop-again c =
     let l = c .before in
     let a = l .before .args in
     let i = l .loop .i in
-    let seam : l .loop .t ≡ length (hValues i) = omega (arith, length-hValues i) in (
+    let seam : l .loop .t ≡ length (pairValues (a .first) (a .second) i) = omega (arith, length-pairs (a .first) (a .second) i) in (
       omega arith,
       omega arith,
       simp length-set (l .loop .inv .2),
-      rw (l .loop .inv .3, values-more i) (two-more (hValues i) (a .out .now) one64 minusOne64 (l .loop .t) seam (omega arith)),
+      rw (l .loop .inv .3, pairs-more (a .first) (a .second) i) (two-more (pairValues (a .first) (a .second) i) (a .out .now) (a .first) (a .second) (l .loop .t) seam (omega arith)),
     )
 
 same-length : tie.Need-same-length Inv-loop μ-loop
@@ -64,8 +61,8 @@ same-length c = c .before .loop .inv .2
 returns : tie.Need-returns Inv-loop μ-loop
 returns c = let e : c .before .loop .i ≡ c .before .before .args .k = omega arith in rw e at (c .before .loop .inv .3)
 
-pub write-h-values-spec : {M : Type 1} → statement M
-write-h-values-spec =
+pub write-pairs-spec : {M : Type 1} → statement M
+write-pairs-spec =
     tie.close
     (tie.spec
     Inv-loop
