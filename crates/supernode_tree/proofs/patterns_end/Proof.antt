@@ -3,7 +3,7 @@ use Rattle.supernode_tree.proofs.Words.{ends-at}
 use Rattle.supernode_tree.specs.Reads.{endRead, ended}
 use Rattle.layout.specs.Patterns.{readPattern, readPatterns, endsRight}
 use lib.ListN.{drop}
-use mathlib.Core.Path.{_≡_, refl, sym, ap, _∙_}
+use mathlib.Core.Path.{_≡_, sym, ap, _∙_}
 use borrow.Author.Needs.{needs}
 use Rattle.supernode_tree.proofs.patterns_end.Statement.{statement}
 use Rattle.supernode_tree.proofs.patterns_end.Tie as tie
