@@ -19,7 +19,8 @@ use Rattle.supernode_tree.proofs.Cliques.{pattern-whole, rest-of-cliques}
 use Rattle.supernode_tree.proofs.Patterns.{patternsFrom, patterns-next, patterns-start}
 use Rattle.supportedcone.specs.Ranges.{isPsdOf}
 use Rattle.sparsity_pattern.specs.Sparsity.{patternRight}
-use Rattle.sparsity_pattern.proofs.Sparsity.{risesFrom, rises-start, all-both}
+use Rattle.layout.proofs.Walks.{all-both}
+use Rattle.sparsity_pattern.proofs.Sparsity.{risesFrom, rises-start}
 use Rattle.clique_tree.specs.Trees.{snodesOf}
 use Rattle.clique_tree.proofs.Trees.{treeFrom, tree-right}
 use Rattle.accepted.specs.Accepted.{Holds, MembersHold, PatternHolds, HoldsAt}

@@ -4,13 +4,12 @@ use native.Mathlib.Numerals.{add-one}
 use native.Mathlib.Omega.{arith}
 use mathlib.Core.Path.{_≡_, refl, ap, sym, _∙_}
 use mathlib.Core.Bool.{cond}
-use mathlib.Core.List.{List, [], _∷_, _++_, append-assoc}
+use mathlib.Core.List.{List, [], _∷_, _++_, append-assoc, append-nil}
 use lib.ListN.{length, getD, take, drop, set, length-append, take-append-drop, drop-of-length-le}
 use lib.Seq.{drop-cons, take-suc, length-take-le}
 use lib.Dec.{ltb}
 use lib.Ieee.{Float}
 use Rattle.layout.specs.Problem.{one64, minusOne64}
-use Rattle.layout.proofs.Keeps.{append-nil}
 use Rattle.augment_compact.specs.Cut.{tie, tiedRows, tiedValues}
 use Rattle.augment_compact.specs.Places.{placed}
 

@@ -10,7 +10,7 @@ use lib.Ieee.{Float}
 use Rattle.layout.specs.Lists.{written}
 use Rattle.layout.specs.Problem.{one64, minusOne64}
 use Rattle.layout.proofs.Starts.{written-rest}
-use Rattle.csc.proofs.Writing.{two-more}
+use Rattle.layout.proofs.Buffers.{two-more}
 use Rattle.augment_standard.specs.Beside.{hStarts, hRows, hValues}
 
 pub length-hStarts : (a k : ℕ) → length (hStarts a k) ≡ k

@@ -11,12 +11,12 @@ use lib.ListN.{length, getD, drop, set, replicate, length-set, length-replicate,
 use lib.Seq.{drop-cons, getD-set-same, getD-set-other}
 use lib.Dec.{T, eqb, eqb→eq}
 use lib.Ieee.{Float, nan, eq}
-use Rattle.layout.specs.Lists.{has, all, upFrom, below}
+use Rattle.layout.specs.Lists.{has, all, upFrom, below, Below}
 use Rattle.layout.specs.Problem.{zero64}
 use Rattle.layout.specs.Checks.{valuesOn}
 use Rattle.layout.proofs.Members.{has-cons, has-at, has-below}
 use Rattle.layout.proofs.Tests.{passes, differ}
-use Rattle.chordal_info.specs.Covered.{Below, marked, rowsMarked, valuesMarked}
+use Rattle.chordal_info.specs.Covered.{marked, rowsMarked, valuesMarked}
 
 pub length-marked : (os : List ℕ) (marks : List Bool) → length (marked os marks) ≡ length marks
 unfolding marked

@@ -12,10 +12,6 @@ use Rattle.layout.specs.Patterns.{Pattern}
 use Rattle.layout.specs.Blocks.{Part, originalRow, patternRows}
 use Rattle.layout.specs.Checks.{coveredRows, valuesOn}
 
--- each number of the list is below n
-abbrev pub Below : ℕ → List ℕ → Type 0
-Below n xs = (k : ℕ) → k < length xs → getD xs k 0 < n
-
 -- a table with the rows marked
 unfoldable pub marked : List ℕ → List Bool → List Bool
 marked [] marks = marks

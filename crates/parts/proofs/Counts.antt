@@ -8,10 +8,9 @@ use lib.ListN.{length}
 use lib.Dec.{leb→le}
 use Rattle.layout.specs.Lists.{all, sum}
 use Rattle.layout.specs.Patterns.{Pattern, Clique, blockSize, cliqueCount}
-use Rattle.layout.specs.Blocks.{Part, blockRows}
+use Rattle.layout.specs.Blocks.{Part, blockRows, overlapRows}
 use Rattle.layout.specs.Checks.{RightPattern}
 use Rattle.layout.proofs.Tests.{passes}
-use Rattle.supernode_tree.specs.Sizes.{overlapRows}
 use Rattle.supernode_tree.proofs.Sizes.{rowsOf, overlapsOf, atMost, triangle-small, blocks-small, all-cons}
 
 blocks-few : (cs : List Clique) → all (atMost 256) cs ≡ true

@@ -10,9 +10,8 @@ use Rattle.layout.specs.Problem.{Csc}
 use Rattle.layout.specs.Compact.{Entry, csc}
 use Rattle.layout.proofs.Columns.{RightStarts, starts-right}
 use Rattle.layout.proofs.Starts.{length-written}
-use Rattle.layout.proofs.Buffers.{length-tail}
+use Rattle.layout.proofs.Buffers.{length-tail, written-after}
 use Rattle.csc.specs.Matrix.{matrix}
-use Rattle.columns.proofs.Parts.{written-tail}
 use Rattle.augment_compact.proofs.Columns.{columns-start}
 use Rattle.augment_compact.proofs.Steps.{length-tiedValues}
 use Rattle.augment_compact.specs.Cut.{codedColumns, tiedRows, tiedValues}
@@ -110,7 +109,7 @@ rows-end : (c : tie.After-slice-known12) → let s = c .before .before .before .
 rows-end c =
     let w = c .before .before .before .before .before .before .before .before .before .before .before .before .before .before .before .before .before in
     let s = c .before .before .before .before .before .before .before .before .before .before .before .before .before .before .before .before .before .before .before .before .before .before .before .before .before .before .before .before .before .before .before .before .before .before .before .before in
-    written-tail (moved s .rows) (tiedRows 0 (s .args .codes .now)) (s .args .rows-out .now) (length (s .args .rows .now)) (sym (rows-count s))
+    written-after (moved s .rows) (tiedRows 0 (s .args .codes .now)) (s .args .rows-out .now) (length (s .args .rows .now)) (sym (rows-count s))
     (omega (arith, rows-count s, s .pre .1 .1 .0)) (w .write-columns .ensures .0)
     (rw (w .write-columns .ensures .1 .1 .0) at (c .before .before .before .before .before .before .write-overlap-rows .ensures))
 
@@ -122,7 +121,7 @@ values-end : (c : tie.After-slice-known12) → let s = c .before .before .before
 values-end c =
     let w = c .before .before .before .before .before .before .before .before .before .before .before .before .before .before .before .before .before in
     let s = c .before .before .before .before .before .before .before .before .before .before .before .before .before .before .before .before .before .before .before .before .before .before .before .before .before .before .before .before .before .before .before .before .before .before .before .before in
-    written-tail (moved s .values) (tiedValues (s .args .k)) (s .args .values-out .now) (length (s .args .values .now)) (sym (values-count s))
+    written-after (moved s .values) (tiedValues (s .args .k)) (s .args .values-out .now) (length (s .args .values .now)) (sym (values-count s))
     (omega (arith, values-count s, length-tiedValues (s .args .k), s .pre .1 .1 .1)) (w .write-columns .ensures .1 .0)
     (c .before .before .write-overlap-values .ensures)
 

@@ -6,7 +6,7 @@ use lib.ListN.{length, length-set}
 use borrow.Author.Needs.{needs}
 use Rattle.layout.specs.Lists.{written}
 use Rattle.layout.specs.Problem.{one64, minusOne64}
-use Rattle.csc.proofs.Writing.{two-more}
+use Rattle.layout.proofs.Buffers.{two-more}
 use Rattle.augment_compact.proofs.Steps.{values-more, length-tiedValues}
 use Rattle.augment_compact.specs.Cut.{tiedValues}
 use Rattle.augment_compact.proofs.write_overlap_values.Statement.{statement}

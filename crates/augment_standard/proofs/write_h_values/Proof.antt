@@ -6,7 +6,7 @@ use lib.ListN.{length, length-set}
 use lib.Ieee.{ofBits, neg}
 use Rattle.layout.specs.Lists.{written}
 use Rattle.layout.specs.Problem.{one64, minusOne64}
-use Rattle.csc.proofs.Writing.{two-more}
+use Rattle.layout.proofs.Buffers.{two-more}
 use Rattle.augment_standard.specs.Beside.{hValues}
 use Rattle.augment_standard.proofs.Columns.{length-hValues, values-more}
 use Rattle.augment_standard.proofs.write_h_values.Statement.{statement}

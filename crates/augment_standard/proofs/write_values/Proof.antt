@@ -1,10 +1,12 @@
 use native.Mathlib.Omega.{arith}
 use borrow.Author.Needs.{needs}
-use Rattle.csc.proofs.Writing.{written-after}
+use Rattle.layout.proofs.Buffers.{written-after}
 use Rattle.augment_standard.specs.Beside.{hValues}
 use Rattle.augment_standard.proofs.Columns.{length-hValues}
 use Rattle.augment_standard.proofs.write_values.Statement.{statement}
 use Rattle.augment_standard.proofs.write_values.Tie as tie
+use lib.ListN.{length}
+use mathlib.Core.Path.{refl}
 
 copy-values-requires : tie.Need-copy-values-requires
 copy-values-requires c κs = search needs
@@ -32,7 +34,7 @@ returns c =
     let f = c .before .before in
     let g = f .before .before .before .before in
     let a = g .before .before .before .before .args in
-    written-after (a .values .now) (hValues (a .k)) (a .out .now) (omega (arith, length-hValues (a .k))) (g .copy-values .ensures) (f .write-h-values .ensures)
+    written-after (a .values .now) (hValues (a .k)) (a .out .now) (length (a .values .now)) refl (omega (arith, length-hValues (a .k))) (g .copy-values .ensures) (f .write-h-values .ensures)
 
 pub write-values-spec : {M : Type 1} → statement M
 write-values-spec =

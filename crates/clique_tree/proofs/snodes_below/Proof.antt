@@ -1,6 +1,6 @@
 use Rattle.clique_tree.specs.Trees.{snodesOf}
 use Rattle.supernode_tree.proofs.Cliques.{none-here, whole-next, from-next, from-none, snode-part}
-use Rattle.vertex_set.proofs.Walks.{all-append}
+use Rattle.layout.proofs.Walks.{all-append}
 use Rattle.layout.proofs.Tests.{differ, and-cases}
 use Rattle.supernode_tree.specs.Reads.{Whole, cliquesFrom, cliqueOf}
 use Rattle.layout.specs.Patterns.{Clique}
