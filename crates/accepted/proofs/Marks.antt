@@ -4,7 +4,7 @@ use native.Mathlib.Nat.{le-of-suc-le-suc}
 use native.Mathlib.Omega.{arith}
 use mathlib.Core.Path.{_≡_, refl, sym, ap, subst, _∙_}
 use mathlib.Core.Logic.{inl, inr, ⊎-elim}
-use mathlib.Core.Bool.{Bool, true, false, not, cond, Bool·beq, _||_}
+use mathlib.Core.Bool.{Bool, true, false, not, cond, Bool·beq, _||_, or-false}
 use mathlib.Core.List.{List, [], _∷_, _++_}
 use lib.ListN.{length, getD, take, drop, set, length-set, length-drop}
 use lib.Seq.{getD-set-same, getD-set-other, getD-take, getD-drop, length-take-le}
@@ -12,7 +12,7 @@ use lib.Dec.{T, eqb, ltb, lt→ltb}
 use borrow.Author.Tests.{eqb-true, eqb-false}
 use Rattle.layout.specs.Lists.{has, all, distinct}
 use Rattle.layout.specs.Checks.{isPermutation}
-use Rattle.layout.proofs.Tests.{and-iff, passed, differ, or-false}
+use Rattle.layout.proofs.Tests.{and-iff, passed, differ}
 use Rattle.layout.proofs.Members.{has-cons, has-append, all-has}
 use Rattle.layout.proofs.Distinct.{distinct-append, permutation-has}
 use Rattle.utils.proofs.Windows.{has-more}

@@ -10,7 +10,7 @@ use borrow.Author.Tests.{le-leb, eq-eqb}
 use Rattle.layout.specs.Lists.{all, sum}
 use Rattle.layout.specs.Cones.{records}
 use Rattle.layout.specs.Patterns.{Read, read, short, andThen, readMany, Pattern, Clique, Head, withCliques, noPattern, readHead, readClique, readCliques, readPattern, readPatterns, patterns, endsRight}
-use Rattle.layout.specs.Blocks.{blockRows}
+use Rattle.layout.specs.Blocks.{blockRows, overlapRows}
 use Rattle.layout.specs.Checks.{namesItsCone, isPermutation, originsRise, orderingsRight, treeRight, cliquesRight}
 use Rattle.supernode_tree.specs.Reads.{headOf, whole, patternAt, cliquesFrom}
 use Rattle.supernode_tree.specs.declared.Pattern.{Pattern as PatternAt}
@@ -20,11 +20,11 @@ use Rattle.supernode_tree.proofs.Cliques.{pattern-whole, rest-of-cliques}
 use Rattle.supernode_tree.proofs.Patterns.{patternsFrom, patterns-next, patterns-start, patterns-none}
 use Rattle.supportedcone.specs.Ranges.{isPsdOf}
 use Rattle.sparsity_pattern.specs.Sparsity.{patternRight}
-use Rattle.sparsity_pattern.proofs.Sparsity.{risesFrom, rises-start, all-both}
+use Rattle.sparsity_pattern.proofs.Sparsity.{risesFrom, rises-start}
 use Rattle.clique_tree.specs.Trees.{treeFrom, snodesOf}
 use Rattle.clique_tree.proofs.Trees.{tree-right}
-use Rattle.supernode_tree.specs.Sizes.{overlapRows}
 use Rattle.accepted.specs.declared.Blocks.{Blocks}
+use Rattle.layout.proofs.Walks.{all-both}
 use Rattle.accepted.specs.Accepted.{Holds, MembersHold, PatternHolds, HoldsAt}
 
 and-both : (a b : Bool) → a ≡ true → b ≡ true → (a && b) ≡ true

@@ -4,14 +4,13 @@ use native.Mathlib.Numerals.{add-one}
 use native.Mathlib.Omega.{arith}
 use mathlib.Core.Path.{_≡_, refl, sym, ap, subst, _∙_}
 use mathlib.Core.Bool.{Bool, true, false, not, _&&_}
-use mathlib.Core.List.{List, [], _∷_, _++_}
+use mathlib.Core.List.{List, [], _∷_, _++_, append-nil}
 use lib.ListN.{length, drop, set, length-append}
 use lib.Dec.{eqb}
 use borrow.Author.Tests.{ne-eqb}
 use Rattle.layout.specs.Lists.{all}
 use Rattle.layout.specs.Patterns.{Read, read, short, andThen, readMany, Clique, readClique, readCliques}
 use Rattle.layout.specs.Checks.{isPermutation}
-use Rattle.layout.proofs.Keeps.{append-nil}
 use Rattle.layout.proofs.Starts.{join-append}
 use Rattle.supernode_tree.specs.Reads.{cliqueOf, CliqueInside, whole, rest, valueOr, cliquesFrom}
 use Rattle.supernode_tree.specs.Offsets.{OffsetsEvery}
@@ -19,8 +18,8 @@ use Rattle.supernode_tree.specs.declared.Clique.{Clique as CliqueAt}
 use Rattle.supernode_tree.specs.declared.CliqueRead.the-variants.{Clique as Found}
 use Rattle.supernode_tree.proofs.Words.{length-part}
 use Rattle.supernode_tree.proofs.Offsets.{after, Written, written-more, written-all}
-use Rattle.vertex_set.proofs.Walks.{all-append}
 use Rattle.clique_tree.specs.Trees.{parentOk, cliqueOk, treeFrom, snodesOf}
+use Rattle.layout.proofs.Walks.{all-append}
 use Rattle.accepted.specs.Accepted.{AllAre, Met, MeetsMore, SnodesHold}
 use Rattle.accepted.proofs.Marks.{met-none, met-all, met-marks}
 

@@ -8,12 +8,11 @@ use lib.Dec.{T, eqb, ltb}
 use Rattle.layout.specs.Lists.{has, all, distinct, sum}
 use Rattle.layout.specs.Triangle.{triangle}
 use Rattle.layout.specs.Patterns.{Pattern, read, readHead, readCliques, readPattern, patterns}
-use Rattle.layout.specs.Blocks.{blockRows}
+use Rattle.layout.specs.Blocks.{blockRows, overlapRows}
 use Rattle.layout.specs.Checks.{isPermutation, patternsRead, treeRight, cliquesRight}
 use Rattle.supernode_tree.specs.Reads.{headOf, whole, Whole, rest, cliquesFrom, patternAt}
 use Rattle.supernode_tree.specs.declared.Pattern.{Pattern as PatternAt}
-use Rattle.supernode_tree.specs.Sizes.{overlapRows}
-use Rattle.supernode_tree.proofs.Sizes.{rowsOf, overlapsOf}
+use Rattle.supernode_tree.specs.Sizes.{dimOf, overlapsOf}
 use Rattle.sparsity_pattern.specs.Sparsity.{patternRight}
 use Rattle.clique_tree.specs.Trees.{treeFrom, snodesOf, separatorsOk}
 use Rattle.accepted.specs.declared.Blocks.{Blocks}
@@ -64,7 +63,7 @@ pub record SeparatorsHold (ws : List ℕ) (first count : ℕ) (b : Blocks) : Typ
   pub after : rest (readCliques count (drop first ws)) ≡ drop (b .next) ws
   pub inside : b .next ≤ length ws
   pub right : separatorsOk (cliquesFrom ws first count) ≡ true
-  pub dim : b .dim ≡ sum (map rowsOf (cliquesFrom ws first count))
+  pub dim : b .dim ≡ sum (map dimOf (cliquesFrom ws first count))
   pub overlaps : b .overlaps ≡ sum (map overlapsOf (cliquesFrom ws first count))
 
 -- the blocks of k cliques have few rows

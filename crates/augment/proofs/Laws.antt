@@ -2,27 +2,26 @@
 use Prim.Native.Nat.{ℕ, suc, _+_, _-_, _*_, _≤_}
 use native.Mathlib.Omega.{arith}
 use mathlib.Core.Path.{_≡_, refl, sym, ap, _∙_}
-use mathlib.Core.List.{List, [], _∷_, _++_}
+use mathlib.Core.List.{List, [], _∷_, _++_, append-nil}
 use lib.ListN.{length, take, drop, set, length-set, length-drop, drop-of-length-le}
 use lib.Seq.{take-all, take-at, drop-at, drop-drop, length-take-le}
-use lib.Dec.{T, lit<}
+use lib.Dec.{lit<}
 use Rattle.layout.specs.Lists.{written}
 use Rattle.layout.specs.Problem.{Problem, Csc, Route, standard}
 use Rattle.layout.specs.Blocks.{Part, standardRows, blockRowCount}
-use Rattle.layout.specs.Checks.{Sound, layout, refusal, checks, startsRight}
+use Rattle.layout.specs.Checks.{Sound, layout, refusal, checks}
 use Rattle.layout.specs.Standard.{standardA}
 use Rattle.layout.specs.Answers.{joinedParts}
-use Rattle.layout.proofs.Tests.{and-iff, eqb-iff, leb-iff}
-use Rattle.layout.proofs.Accepted.{passed, accepted-sound}
+use Rattle.layout.proofs.Tests.{leb-iff}
+use Rattle.layout.proofs.Accepted.{passed, accepted-sound, accepted-checked}
 use Rattle.layout.proofs.Laid.{sound-laid}
-use Rattle.layout.proofs.Columns.{RightStarts, starts-right}
+use Rattle.layout.proofs.Columns.{right-P}
 use Rattle.layout.proofs.Sizes.{standard-count}
-use Rattle.layout.proofs.Keeps.{append-nil}
 use Rattle.tables.proofs.Laws.{three-more}
 use Rattle.augment_standard.specs.Beside.{hRows, besideStarts, besideRows, besideValues, besideH}
 use Rattle.augment_standard.proofs.Columns.{length-hRows}
 use Rattle.augment_standard.proofs.Beside.{beside-standard}
-use Rattle.csc.proofs.Writing.{written-after}
+use Rattle.layout.proofs.Buffers.{written-after}
 
 -- three words at the front
 pub length-three : (old : List ℕ) (a b c : ℕ) → length (set (set (set old 0 a) 1 b) 2 c) ≡ length old
@@ -34,7 +33,7 @@ pub three-then : (a b c : ℕ) (ys old : List ℕ) {vs : List ℕ} → 3 + lengt
     → let ws = set (set (set old 0 a) 1 b) 2 c in
     vs ≡ written ys (take (length ws - 3) (drop 3 ws))
     → take 3 ws ++ (vs ++ drop (length ws - 3) (drop 3 ws)) ≡ written (a ∷ b ∷ c ∷ ys) old
-three-then a b c ys old h e = written-after (a ∷ b ∷ c ∷ []) ys old h (three-more [] old a b c 0 refl (omega arith)) e
+three-then a b c ys old h e = written-after (a ∷ b ∷ c ∷ []) ys old 3 refl h (three-more [] old a b c 0 refl (omega arith)) e
 
 -- the original rows of k columns of H are written to the part after k places, and then spread
 module _ (m k : ℕ) (os old : List ℕ) (e : length os ≡ k) (room : 2 * k ≤ length old) where
@@ -76,33 +75,12 @@ module _ {m : ℕ} {cones : List ℕ} {count : ℕ} {words : List ℕ} (h : Soun
 -- ---- a problem that a route accepts
 
 module _ (route : Route) (p : Problem) (ok : refusal route p ≡ 0) where
-  starts : T (startsRight (p .n) (p .A)) × T (startsRight (p .n) (p .P))
-  starts = and-iff (startsRight (p .n) (p .A)) (startsRight (p .n) (p .P)) .0 (passed 0 1 (checks route p) ok (lit< tt))
-
-  pub right-A : RightStarts (p .n) (p .A)
-  right-A = starts-right (p .n) (p .A) (starts .0)
-
-  pub starts-P : T (startsRight (p .n) (p .P))
-  starts-P = starts .1
-
-  right-P : RightStarts (p .n) (p .P)
-  right-P = starts-right (p .n) (p .P) starts-P
-
-  length-q : length (p .q) ≡ p .n
-  length-q = (simp (and-iff, eqb-iff) at (passed 0 3 (checks route p) ok (lit< tt))) .0 .1
-
-  pub length-b : length (p .b) ≡ p .m
-  length-b = (simp (and-iff, eqb-iff) at (passed 0 3 (checks route p) ok (lit< tt))) .1
-
-  pub few-entries : length (p .A .values) ≤ 262144
-  few-entries = (simp (and-iff, leb-iff) at (passed 0 0 (checks route p) ok (lit< tt))) .0 .0 .1
-
   -- what `write_p` asks, by the sizes of its outputs
   pub rooms-P : (k starts rows values costs : ℕ)
       → (suc (p .n + k) ≤ starts) × (length (p .P .values) ≤ rows) × (length (p .P .values) ≤ values) × (p .n + k ≤ costs)
       → (length (p .P .starts) + k ≤ starts) × (length (p .P .rows) ≤ rows) × (length (p .P .values) ≤ values) × (length (p .q) + k ≤ costs)
   rooms-P k starts rows values costs r =
-      (omega (arith, right-P .count, r .0), omega (arith, right-P .even, r .1), r .2, omega (arith, length-q, r .3))
+      (omega (arith, right-P route p ok .count, r .0), omega (arith, right-P route p ok .even, r .1), r .2, omega (arith, accepted-checked route p ok .lengthQ, r .3))
 
 -- ---- a problem that the standard route accepts
 
@@ -112,7 +90,7 @@ module _ (p : Problem) (ok : refusal standard p ≡ 0) where
 
   -- A beside H is the standard cut's A
   beside : besideH (p .A) (p .m) (standardRows (layout p)) ≡ standardA p
-  beside = beside-standard p (starts standard p ok .0)
+  beside = beside-standard p (accepted-checked standard p ok .startsA)
 
   module _ (k : ℕ) (e : k ≡ blockRowCount (layout p)) where
     columns : k ≡ length (standardRows (layout p))

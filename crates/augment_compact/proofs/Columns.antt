@@ -2,8 +2,8 @@
 use Prim.Native.Nat.{ℕ, zero, suc, _+_, _-_, _≤_, _<_}
 use native.Mathlib.Numerals.{add-one}
 use native.Mathlib.Omega.{arith}
-use mathlib.Core.Path.{_≡_, refl, ap, ap₂, sym, _∙_}
-use mathlib.Core.List.{List, [], _∷_, _++_, map, map-map}
+use mathlib.Core.Path.{_≡_, ap, ap₂, sym, _∙_}
+use mathlib.Core.List.{List, [], _∷_, _++_, map, map-map, append-nil, map-append}
 use lib.ListN.{length, getD, drop, length-map, length-append}
 use lib.Seq.{getD-take, getD-drop}
 use lib.Ieee.{Float, nan}
@@ -12,8 +12,8 @@ use Rattle.layout.specs.Problem.{Csc}
 use Rattle.layout.specs.Checks.{columnRows}
 use Rattle.layout.specs.Compact.{Entry, entriesFrom, column}
 use Rattle.layout.proofs.Members.{has-below}
-use Rattle.layout.proofs.Joins.{map-same}
-use Rattle.layout.proofs.Keeps.{append-nil, map-append, below-more}
+use Rattle.layout.proofs.Joins.{map-same, upFrom-shift}
+use Rattle.layout.proofs.Keeps.{below-more}
 use Rattle.layout.proofs.Rising.{rises-distinct}
 use Rattle.layout.proofs.Columns.{RightStarts}
 use Rattle.csc.specs.Matrix.{matrix}
@@ -24,11 +24,6 @@ use Rattle.columns.specs.Column.{entries, codedColumn}
 use Rattle.columns.specs.Marks.{Placing}
 use Rattle.augment_compact.specs.Cut.{codedColumns}
 use Rattle.augment_compact.specs.Places.{ColumnsRise}
-
-upFrom-shift : (a b k : ℕ) → upFrom (a + b) k ≡ map (λ t. a + t) (upFrom b k)
-upFrom-shift a b zero = refl
-upFrom-shift a b (suc k) =
-    ap (λ (l : List ℕ). (a + b) ∷ l) (ap (λ (s : ℕ). upFrom s k) (omega arith) ∙ upFrom-shift a (suc b) k)
 
 part-getD : {A : Type 0} (d : A) (a b t : ℕ) (xs : List A) → t < b - a → getD (part a b xs) t d ≡ getD xs (a + t) d
 part-getD d a b t xs l = getD-take (b - a) (drop a xs) t d l ∙ getD-drop a xs t d

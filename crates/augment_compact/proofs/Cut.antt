@@ -3,7 +3,7 @@ use Prim.Native.Nat.{ℕ, zero, suc, _+_, _-_, _*_, _≤_, _<_}
 use native.Mathlib.Nat.{zero-add}
 use native.Mathlib.Omega.{arith}
 use mathlib.Core.Path.{_≡_, refl, ap, ap₂, sym, _∙_}
-use mathlib.Core.List.{List, [], _∷_, _++_, map, map-map}
+use mathlib.Core.List.{List, [], _∷_, _++_, map, map-map, map-append}
 use lib.ListN.{length, getD, length-map}
 use lib.Dec.{T, ltb}
 use lib.Ieee.{Float}
@@ -15,19 +15,17 @@ use Rattle.layout.specs.Checks.{layout, refusal}
 use Rattle.layout.specs.Compact.{Entry, column, csc, moved, rowEntries, augmentedColumn, overlapColumn, overlapColumns, compactA}
 use Rattle.layout.proofs.Tests.{and-iff, ltb-iff}
 use Rattle.layout.proofs.Members.{every-cons, has-below, all-has, has-at}
-use Rattle.layout.proofs.Joins.{map-same}
-use Rattle.layout.proofs.Keeps.{map-append}
+use Rattle.layout.proofs.Joins.{map-same, join-same}
 use Rattle.layout.proofs.Accepted.{accepted-sound}
-use Rattle.layout.proofs.Columns.{column-all}
+use Rattle.layout.proofs.Columns.{column-all, right-A}
 use Rattle.layout.proofs.Links.{links}
-use Rattle.layout.proofs.Cut.{right-starts, link-count}
+use Rattle.layout.proofs.Cut.{link-count}
 use Rattle.layout.proofs.Augmented.{columns-keep}
 use Rattle.codes.specs.Codes.{cutCode}
 use Rattle.codes.proofs.Rows.{Small, accepted-small}
 use Rattle.csc.proofs.Compressed.{totals, starts-beside, fields-append}
 use Rattle.augment_standard.specs.Beside.{hStarts, pairValues}
 use Rattle.augment_standard.proofs.Columns.{length-pairs}
-use Rattle.columns.proofs.Lists.{join-same}
 use Rattle.columns.specs.Column.{codedColumn}
 use Rattle.augment_compact.proofs.Places.{rows-known}
 use Rattle.augment_compact.specs.Cut.{codedColumns, tie, tiedRows, cutA}
@@ -116,7 +114,7 @@ module _ (p : Problem) (ok : refusal compact p ≡ 0) where
 
   -- every entry stands on an original row
   entries-original : (c : ℕ) → c < p .n → Originals (column (p .A) c)
-  entries-original c l = column-all (p .n) (p .A) (right-starts p ok) c l (λ r. ltb r 65536)
+  entries-original c l = column-all (p .n) (p .A) (right-A compact p ok) c l (λ r. ltb r 65536)
       (all-has (λ r. ltb r 65536) (p .A .rows) .1 (λ r h.
       let (t, m, e) = has-at 0 r (p .A .rows) .0 h in
       ltb-iff r 65536 .1 (omega (arith, rows-known p ok t m, accepted-sound compact p ok .few))))
@@ -139,7 +137,7 @@ module _ (p : Problem) (ok : refusal compact p ≡ 0) where
       (map-append length (map (λ c. augmentedColumn (column (p .A) c) 0 R) (below (p .n))) added
       ∙ ap (λ (ks : List ℕ). ks ++ map length added) lengths-keep
       ∙ sym (map-append length (map (column (p .A)) (below (p .n))) added))
-      ∙ starts-beside (p .n) (p .A) (right-starts p ok) added
+      ∙ starts-beside (p .n) (p .A) (right-A compact p ok) added
       ∙ ap (λ (l : List ℕ). p .A .starts ++ l)
       (tied-starts (length (p .A .values)) 0 R ∙ ap (hStarts (length (p .A .values))) (link-count p ok))
 

@@ -9,19 +9,20 @@ use lib.ListN.{length, getD, set, length-set, length-map}
 use lib.Seq.{getD-set-same, getD-set-other}
 use lib.Dec.{T, ltb, leb, lit<}
 use borrow.Author.Tests.{lt-ltb}
-use Rattle.layout.specs.Lists.{has, all, below, rises}
+use Rattle.layout.specs.Lists.{has, all, below, rises, Below}
 use Rattle.layout.specs.Problem.{Problem, compact}
 use Rattle.layout.specs.Blocks.{Row, kept, owned, overlap, originalRow, compactRows, blockRowCount, overlapCount}
-use Rattle.layout.specs.Checks.{layout, refusal, checks, startsRight, rowsRight, columnRows, coveredRows}
+use Rattle.layout.specs.Checks.{layout, refusal, checks, columnRows, coveredRows}
 use Rattle.layout.proofs.Tests.{and-iff, leb-iff, ltb-iff}
 use Rattle.layout.proofs.Members.{getD-map, has-map, has-getD, has-below, all-has}
-use Rattle.layout.proofs.Accepted.{passed}
+use Rattle.layout.proofs.Accepted.{passed, accepted-checked}
 use Rattle.layout.proofs.Laid.{accepted-count}
 use Rattle.layout.proofs.Moves.{rowAt, isMoved, RightRows}
-use Rattle.layout.proofs.Cut.{right-rows, right-starts, covered-entries}
+use Rattle.layout.proofs.Cut.{right-rows, covered-entries}
+use Rattle.layout.proofs.Columns.{right-A}
 use Rattle.codes.specs.Codes.{cutCode}
 use Rattle.codes.proofs.Rows.{rows-inside}
-use Rattle.columns.specs.Marks.{RowsKnown, Placing}
+use Rattle.columns.specs.Marks.{Placing}
 use Rattle.augment_compact.specs.Places.{placed, ColumnsRise}
 
 -- ---- the table
@@ -116,7 +117,7 @@ module _ (m : ℕ) (few : m ≤ 65536) (R : List Row) (right : RightRows 0 0 m R
       let ls : s < length R = omega arith in
       (s, omega (arith, size), code-at s ls ∙ code-moved (rowAt R s) moves ∙ f ∙ sym e)
 
-  pub rows-placing : (t rows : List ℕ) → m ≤ length t → length R ≤ 262144 → length rows ≤ 262144 → RowsKnown m rows
+  pub rows-placing : (t rows : List ℕ) → m ≤ length t → length R ≤ 262144 → length rows ≤ 262144 → Below m rows
       → ((k : ℕ) → k < length rows → T (has (getD rows k 0) (map originalRow R))) → Placing (map cutCode R) (placed 0 (map cutCode R) t) rows
   rows-placing t rows b few-rows short known covered = record {
     few = omega (arith, size);
@@ -141,42 +142,28 @@ module _ (p : Problem) (ok : refusal compact p ≡ 0) where
   abbrev R : List Row
   R = compactRows (layout p)
 
-  sizes : ((length (p .A .values) ≤ 262144) × (p .m ≤ 65536))
-  sizes =
-      let counts : Bool = leb (p .n) 65536 in
-      let k = simp (and-iff, leb-iff) at (passed 0 0 (checks compact p) ok (lit< tt)) in
-      (k .0 .0 .1, k .0 .0 .0 .1)
-
   pub few-rows : length (map cutCode (compactRows (layout p))) ≤ 262144
   few-rows =
       let k = and-iff (leb (blockRowCount (layout p)) 262144) (leb (overlapCount (layout p)) 131072) .0 (passed 0 9 (checks compact p) ok (lit< tt)) in
       omega (arith, length-map R cutCode, accepted-count compact p ok, leb-iff (blockRowCount (layout p)) 262144 .0 (k .0))
 
-  three : T (rowsRight (p .m) (p .n) (p .A))
-  three =
-      and-iff (rowsRight (p .m) (p .n) (p .A)) (rowsRight (p .n) (p .n) (p .P)) .0
-      (passed 0 2 (checks compact p) ok (lit< tt)) .0
-
-  pub rows-known : RowsKnown (p .m) (p .A .rows)
+  pub rows-known : Below (p .m) (p .A .rows)
   rows-known t l =
       ltb-iff (getD (p .A .rows) t 0) (p .m) .0
       (all-has (λ r. ltb r (p .m)) (p .A .rows) .0
-      (and-iff (all (λ r. ltb r (p .m)) (p .A .rows)) (all (λ c. rises (columnRows (p .A) c)) (below (p .n))) .0 three .0)
+      (and-iff (all (λ r. ltb r (p .m)) (p .A .rows)) (all (λ c. rises (columnRows (p .A) c)) (below (p .n))) .0 (accepted-checked compact p ok .rowsA) .0)
       (getD (p .A .rows) t 0) (has-getD (p .A .rows) t 0 l))
 
   -- what `write_columns` asks
-  pub accepted-starts : T (startsRight (p .n) (p .A))
-  accepted-starts = and-iff (startsRight (p .n) (p .A)) (startsRight (p .n) (p .P)) .0 (passed 0 1 (checks compact p) ok (lit< tt)) .0
-
   pub accepted-rise : ColumnsRise (p .n) (p .A)
   accepted-rise c l =
       all-has (λ c. rises (columnRows (p .A) c)) (below (p .n)) .0
-      (and-iff (all (λ r. ltb r (p .m)) (p .A .rows)) (all (λ c. rises (columnRows (p .A) c)) (below (p .n))) .0 three .1)
+      (and-iff (all (λ r. ltb r (p .m)) (p .A .rows)) (all (λ c. rises (columnRows (p .A) c)) (below (p .n))) .0 (accepted-checked compact p ok .rowsA) .1)
       c (has-below c (p .n) .1 l)
 
   pub accepted-placing : (t : List ℕ) → p .m ≤ length t
       → Placing (map cutCode (compactRows (layout p))) (placed 0 (map cutCode (compactRows (layout p))) t) (p .A .rows)
   accepted-placing t b =
-      rows-placing (p .m) (sizes .1) R (right-rows p ok) t (p .A .rows) b (omega (arith, few-rows, length-map R cutCode))
-      (omega (arith, right-starts p ok .even, sizes .0)) rows-known
+      rows-placing (p .m) (accepted-checked compact p ok .sound .few) R (right-rows p ok) t (p .A .rows) b (omega (arith, few-rows, length-map R cutCode))
+      (omega (arith, right-A compact p ok .even, accepted-checked compact p ok .fewEntriesA)) rows-known
       (λ k l. all-has (λ r. has r (coveredRows (layout p))) (p .A .rows) .0 (covered-entries p ok) (getD (p .A .rows) k 0) (has-getD (p .A .rows) k 0 l))

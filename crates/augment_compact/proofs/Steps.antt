@@ -4,11 +4,10 @@ use native.Mathlib.Numerals.{add-one}
 use native.Mathlib.Omega.{arith}
 use mathlib.Core.Path.{_≡_, ap, sym, _∙_}
 use mathlib.Core.Bool.{cond}
-use mathlib.Core.List.{List, [], _∷_, _++_, append-assoc}
+use mathlib.Core.List.{List, [], _∷_, _++_, append-assoc, append-nil}
 use lib.ListN.{length, getD, take, drop, set, length-append, take-append-drop, drop-of-length-le}
 use lib.Seq.{drop-cons, take-suc, length-take-le}
 use lib.Dec.{ltb}
-use Rattle.layout.proofs.Keeps.{append-nil}
 use Rattle.augment_compact.specs.Cut.{tie, tiedRows}
 use Rattle.augment_compact.specs.Places.{placed}
 

@@ -9,8 +9,8 @@ use lib.Seq.{take-suc, take-all, length-take-le, getD-take, getD-drop}
 use lib.Ieee.{Float}
 use Rattle.layout.specs.Lists.{written}
 use Rattle.layout.proofs.Starts.{written-rest}
-use Rattle.csc.proofs.Writing.{two-more}
 use Rattle.augment_standard.specs.Beside.{hStarts, hRows, pairValues}
+use Rattle.layout.proofs.Buffers.{two-more}
 
 pub length-hStarts : (a k : ℕ) → length (hStarts a k) ≡ k
 length-hStarts a zero = refl

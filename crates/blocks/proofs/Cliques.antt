@@ -5,7 +5,7 @@ use mathlib.Core.Path.{_≡_, _∙_}
 use mathlib.Core.List.{List}
 use lib.ListN.{length, getD, length-map}
 use lib.Dec.{T}
-use Rattle.layout.specs.Lists.{has, below, rises}
+use Rattle.layout.specs.Lists.{has, below, rises, Below}
 use Rattle.layout.specs.Triangle.{triangle}
 use Rattle.layout.specs.Patterns.{members}
 use Rattle.layout.specs.Blocks.{pairs, pairRow}
@@ -14,7 +14,7 @@ use Rattle.layout.proofs.Distinct.{length-keep}
 use Rattle.layout.proofs.Rising.{rises-keep, rises-upFrom}
 use Rattle.layout.proofs.Triangles.{triangle-mono}
 use Rattle.layout.proofs.Pairs.{length-pairs}
-use Rattle.blocks.specs.Vertices.{Below, originalsOf}
+use Rattle.blocks.specs.Vertices.{originalsOf}
 use Rattle.blocks.specs.Columns.{ColumnsFit}
 use Rattle.blocks.specs.Cliques.{cliqueHere, verticesHere, rowsHere}
 

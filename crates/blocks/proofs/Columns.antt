@@ -5,7 +5,7 @@ use native.Mathlib.Nat.{eq-or-lt-of-le, le-of-eq}
 use native.Mathlib.Omega.{arith}
 use mathlib.Core.Path.{_≡_, ap, _∙_}
 use mathlib.Core.Logic.{inl, inr}
-use mathlib.Core.List.{List, [], _∷_, _++_, map}
+use mathlib.Core.List.{List, [], _∷_, _++_, map, append-nil, map-append}
 use lib.ListN.{length, getD, length-append, length-map}
 use lib.Dec.{T}
 use Rattle.layout.specs.Lists.{below, join, rises}
@@ -15,7 +15,7 @@ use Rattle.layout.proofs.Members.{getD-map, getD-below, length-upFrom}
 use Rattle.layout.proofs.Rising.{rises-at}
 use Rattle.layout.proofs.Triangles.{pairIndex-le}
 use Rattle.layout.proofs.Starts.{join-append}
-use Rattle.layout.proofs.Keeps.{below-more, map-append, append-nil}
+use Rattle.layout.proofs.Keeps.{below-more}
 use Rattle.blocks.specs.Columns.{columnPairs}
 
 pub rises-le : (vs : List ℕ) (i j : ℕ) → T (rises vs) → i ≤ j → j < length vs → getD vs i 0 ≤ getD vs j 0

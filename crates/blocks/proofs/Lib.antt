@@ -1,6 +1,5 @@
 pub mod Laws
 pub mod Sifting
-pub mod Writing
 pub mod Columns
 pub mod Cliques
 pub mod Orders

@@ -3,18 +3,17 @@ use Prim.Native.Nat.{ℕ, zero, suc, _-_, _≤_, _<_}
 use native.Mathlib.Omega.{arith}
 use mathlib.Core.Path.{_≡_, refl, ap, sym, subst, _∙_}
 use mathlib.Core.Bool.{Bool, true, false}
-use mathlib.Core.List.{List, [], _∷_, _++_, map, reverse, reverse-cons}
+use mathlib.Core.List.{List, [], _∷_, _++_, map, reverse, reverse-cons, map-append}
 use lib.ListN.{length, getD, take, drop}
 use lib.Seq.{getD-take, length-take-le}
 use lib.Dec.{T}
-use Rattle.layout.specs.Lists.{has, below, join}
+use Rattle.layout.specs.Lists.{below, join}
 use Rattle.layout.specs.Patterns.{Pattern, Clique, cliqueAt, cliqueCount, members, noClique, noPattern, Read, read, short, readHead, readMany, andThen, readClique, readCliques, withCliques}
 use Rattle.layout.specs.Blocks.{pairs, pairRow, block, patternRows, originalRow}
 use Rattle.layout.specs.Checks.{RightPattern, treeRight}
 use Rattle.layout.proofs.Members.{has-below}
-use Rattle.layout.proofs.Joins.{map-same}
+use Rattle.layout.proofs.Joins.{join-same}
 use Rattle.layout.proofs.Starts.{part-at}
-use Rattle.layout.proofs.Keeps.{map-append}
 use Rattle.layout.proofs.Cliques.{cliqueVertices}
 use Rattle.layout.proofs.Reading.{Reads, reads-any, reads-then}
 use Rattle.supernode_tree.specs.Reads.{whole, valueOr, Whole, cliquesFrom, patternAt, patternRead, PatternInside, headOf}
@@ -40,9 +39,6 @@ reverse-map {A} {B} g (x ∷ xs) =
 pub join-map : {A B C : Type 0} (f : B → List C) (g : A → B) (xs : List A) → join f (map g xs) ≡ join (λ x. f (g x)) xs
 join-map f g [] = refl
 join-map {C = C} f g (x ∷ xs) = ap (λ (r : List C). f (g x) ++ r) (join-map f g xs)
-
-join-same : {B : Type 0} (f g : ℕ → List B) (xs : List ℕ) → ((x : ℕ) → T (has x xs) → f x ≡ g x) → join f xs ≡ join g xs
-join-same f g xs h = sym (join-map (λ r. r) f xs) ∙ ap (join (λ r. r)) (map-same f g xs h) ∙ join-map (λ r. r) g xs
 
 -- the first k numbers by their places
 taken : (os : List ℕ) (k : ℕ) → k ≤ length os → take k os ≡ map (λ c. getD os c 0) (below k)

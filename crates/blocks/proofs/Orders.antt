@@ -3,12 +3,11 @@ use Prim.Native.Nat.{ℕ, _+_, _≤_, _<_}
 use native.Mathlib.Numerals.{add-one}
 use native.Mathlib.Omega.{arith}
 use mathlib.Core.Path.{_≡_, ap, sym, _∙_}
-use mathlib.Core.List.{List, [], _∷_, _++_, reverse, reverse-append, reverse-cons}
+use mathlib.Core.List.{List, [], _∷_, _++_, reverse, reverse-append, reverse-cons, append-nil}
 use lib.ListN.{length, getD, take, drop, length-append, take-append-drop}
 use lib.Seq.{take-suc, drop-cons}
 use Rattle.layout.specs.Lists.{join}
 use Rattle.layout.proofs.Starts.{join-append}
-use Rattle.layout.proofs.Keeps.{append-nil}
 
 module _ {A B : Type 0} (f : A → List B) (d : A) (xs : List A) where
   join-last : (ys : List A) (x : A) → join f (ys ++ (x ∷ [])) ≡ join f ys ++ f x

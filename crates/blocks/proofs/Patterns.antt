@@ -3,9 +3,9 @@ use Prim.Native.Nat.{ℕ, zero, suc, _≤_, _<_}
 use native.Mathlib.Omega.{arith}
 use mathlib.Core.Path.{_≡_, refl, ap, sym, _∙_}
 use mathlib.Core.Logic.{inl, inr}
-use mathlib.Core.List.{List, [], _∷_, _++_, map, reverse}
+use mathlib.Core.List.{List, [], _∷_, _++_, map, reverse, append-nil, map-append}
 use lib.ListN.{length, getD, length-append, length-map}
-use Rattle.layout.specs.Lists.{has, keep, below, join}
+use Rattle.layout.specs.Lists.{has, keep, below, join, Below}
 use Rattle.layout.specs.Patterns.{Pattern, Clique, cliqueAt, cliqueCount, members, noClique}
 use Rattle.layout.specs.Blocks.{Pair, pair, originalRow, pairRow, sorted, block, rowOf, patternRows, blockRows, cut}
 use Rattle.layout.specs.Checks.{RightPattern}
@@ -13,12 +13,11 @@ use Rattle.layout.proofs.Members.{has-getD, has-append}
 use Rattle.layout.proofs.Distinct.{permutation-has}
 use Rattle.layout.proofs.Tree.{cliques-right}
 use Rattle.layout.proofs.Joins.{reverse-below}
-use Rattle.layout.proofs.Keeps.{append-nil, map-append}
 use Rattle.layout.proofs.Originals.{Vertices, originals-distinct}
 use Rattle.layout.proofs.Cliques.{clique-vertices, clique-distinct}
 use Rattle.layout.proofs.Rows.{row-original, rows-count}
 use Rattle.layout.proofs.Sizes.{standard-count}
-use Rattle.blocks.specs.Vertices.{Below, Sortable, sortedOf}
+use Rattle.blocks.specs.Vertices.{Sortable, sortedOf}
 use Rattle.blocks.specs.Codes.{standardPatternRows}
 
 -- ---- joined lists

@@ -1,15 +1,14 @@
--- Checks 1 to 7 in the groups that the code makes them in, and what they say of a problem that passes them.
-use Prim.Native.Nat.{ℕ, _≤_}
-use mathlib.Core.Path.{_≡_}
+-- Checks 1 to 7 in the groups that the code makes them in.
+use Prim.Native.Nat.{ℕ}
 use mathlib.Core.Bool.{Bool, true, _&&_}
 use mathlib.Core.List.{List, [], _∷_}
 use lib.ListN.{length}
-use lib.Dec.{T, leb, eqb}
+use lib.Dec.{leb, eqb}
 use lib.Ieee.{Float}
 use Rattle.layout.specs.Lists.{all}
-use Rattle.layout.specs.Problem.{Problem, Csc}
+use Rattle.layout.specs.Problem.{Csc}
 use Rattle.layout.specs.Patterns.{patterns}
-use Rattle.layout.specs.Checks.{conesBounded, startsRight, rowsRight, conesRead, alphasAsMany, patternsRead, treeRight, cliquesRight, firstFailing, Sound}
+use Rattle.layout.specs.Checks.{conesBounded, startsRight, rowsRight, conesRead, alphasAsMany, patternsRead, treeRight, cliquesRight, firstFailing}
 use Rattle.layout.specs.Answers.{joinBounded}
 
 -- 1
@@ -41,17 +40,3 @@ joinedTests n m cones count words =
 
 abbrev pub joinedRefusal : ℕ → ℕ → List ℕ → ℕ → List ℕ → ℕ
 joinedRefusal n m cones count words = firstFailing 1 (joinedTests n m cones count words)
-
--- What checks 1 to 7 say of a problem.
-pub record Checked (p : Problem) : Type 0 where
-  pub fewColumns : p .n ≤ 65536
-  pub fewEntriesA : length (p .A .values) ≤ 262144
-  pub fewEntriesP : length (p .P .values) ≤ 262144
-  pub startsA : T (startsRight (p .n) (p .A))
-  pub startsP : T (startsRight (p .n) (p .P))
-  pub rowsA : T (rowsRight (p .m) (p .n) (p .A))
-  pub rowsP : T (rowsRight (p .n) (p .n) (p .P))
-  pub alphas : T (alphasAsMany (p .cones) (p .alphas))
-  pub lengthQ : length (p .q) ≡ p .n
-  pub lengthB : length (p .b) ≡ p .m
-  pub sound : Sound (p .m) (p .cones) (p .patternCount) (p .patternWords)

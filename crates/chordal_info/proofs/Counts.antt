@@ -2,7 +2,6 @@
 use Prim.Native.Nat.{ℕ, suc, _+_, _≤_, _<_}
 use native.Mathlib.Omega.{arith}
 use mathlib.Core.Path.{_≡_, refl, sym, ap, subst}
-use mathlib.Core.Bool.{Bool, _&&_}
 use mathlib.Core.List.{List, [], _∷_, map}
 use lib.ListN.{length, getD}
 use lib.Dec.{T, leb, lit<}
@@ -11,14 +10,13 @@ use Rattle.layout.specs.Triangle.{triangle}
 use Rattle.layout.specs.Problem.{Problem, Route}
 use Rattle.layout.specs.Cones.{Cone, records, rowCount}
 use Rattle.layout.specs.Patterns.{Pattern, Clique, blockSize, noClique, patterns}
-use Rattle.layout.specs.Blocks.{Part, whole, cut, partsFrom, parts, partRows, partOverlaps, blockRowCount, overlapCount}
-use Rattle.layout.specs.Checks.{Sound, sizesBounded, conesBounded, layout, checks, refusal}
+use Rattle.layout.specs.Blocks.{Part, whole, cut, partsFrom, parts, partRows, partOverlaps, blockRowCount, overlapCount, coneCount}
+use Rattle.layout.specs.Checks.{Sound, sizesBounded, layout, checks, refusal, Laid}
 use Rattle.layout.proofs.Tests.{and-iff, leb-iff}
 use Rattle.layout.proofs.Triangles.{triangle-mono}
 use Rattle.layout.proofs.Tree.{cliques-right}
-use Rattle.layout.proofs.Laid.{Laid, sound-laid}
-use Rattle.layout.proofs.Accepted.{passed, accepted-sound}
-use Rattle.layout.proofs.Sizes.{coneCount}
+use Rattle.layout.proofs.Laid.{sound-laid}
+use Rattle.layout.proofs.Accepted.{passed, accepted-checked}
 use Rattle.chordal_info.specs.Sizes.{Fitting}
 use Rattle.chordal_info.proofs.Sizes.{rows-fit}
 
@@ -74,6 +72,5 @@ pub accepted-fitting : (route : Route) (p : Problem) → refusal route p ≡ 0
     Fitting route (p .n) (p .m) (length (p .A .values)) (blockRowCount ps) (overlapCount ps) (coneCount ps)
 accepted-fitting route p ok =
     let ps = layout p in
-    let counts : Bool = leb (p .n) 65536 && leb (p .m) 65536 && leb (length (p .A .values)) 262144 && leb (length (p .P .values)) 262144 in
-    let bounds = simp (and-iff, leb-iff) at (and-iff counts (conesBounded (p .cones)) .0 (passed 0 0 (checks route p) ok (lit< tt)) .0) in
-    (bounds .0 .0 .0, bounds .0 .1, subst T (sym (rows-fit route (p .m) ps)) (passed 0 9 (checks route p) ok (lit< tt)), overlaps-few ps, sound-cones (accepted-sound route p ok))
+    let h = accepted-checked route p ok in
+    (h .fewColumns, h .fewEntriesA, subst T (sym (rows-fit route (p .m) ps)) (passed 0 9 (checks route p) ok (lit< tt)), overlaps-few ps, sound-cones (h .sound))

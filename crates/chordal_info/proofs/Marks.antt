@@ -10,13 +10,13 @@ use lib.ListN.{length, getD, set, replicate, length-set, length-replicate, getD-
 use lib.Seq.{getD-set-same, getD-set-other}
 use lib.Dec.{T, eqb, eqb→eq}
 use lib.Ieee.{Float, nan, eq}
-use Rattle.layout.specs.Lists.{has, all, upFrom, below}
+use Rattle.layout.specs.Lists.{has, all, upFrom, below, Below}
 use Rattle.layout.specs.Problem.{zero64}
 use Rattle.layout.specs.Checks.{valuesOn}
 use Rattle.layout.proofs.Members.{has-cons, has-at, has-below}
 use Rattle.layout.proofs.Tests.{passes, differ}
 use Rattle.blocks.specs.Vertices.{marked}
-use Rattle.chordal_info.specs.Covered.{Below, rowsMarked, valuesMarked}
+use Rattle.chordal_info.specs.Covered.{rowsMarked, valuesMarked}
 
 pub length-marked : (os : List ℕ) (marks : List Bool) → length (marked true os marks) ≡ length marks
 unfolding marked

@@ -2,15 +2,14 @@
 use Prim.Native.Nat.{ℕ, _+_}
 use mathlib.Core.Path.{_≡_, refl, sym, ap, ap₂, _∙_}
 use mathlib.Core.Bool.{Bool, true}
-use mathlib.Core.List.{List, [], _∷_, _++_, map}
+use mathlib.Core.List.{List, [], _∷_, _++_, map, map-append}
 use Rattle.layout.specs.Lists.{upFrom, join}
 use Rattle.layout.specs.Triangle.{triangle}
 use Rattle.layout.specs.Cones.{records, rowCount}
 use Rattle.layout.specs.Patterns.{patterns}
 use Rattle.layout.specs.Blocks.{Part, whole, cut, kept, originalRow, patternRows, blockRows, rowsFrom, parts}
-use Rattle.layout.specs.Checks.{Sound, coveredRows}
-use Rattle.layout.proofs.Keeps.{map-append}
-use Rattle.layout.proofs.Laid.{Laid, sound-laid}
+use Rattle.layout.specs.Checks.{Sound, coveredRows, Laid}
+use Rattle.layout.proofs.Laid.{sound-laid}
 use Rattle.blocks.specs.Vertices.{marked}
 use Rattle.blocks.proofs.Laws.{marked-append}
 use Rattle.blocks.proofs.Patterns.{original-rows}

@@ -10,11 +10,11 @@ use lib.Dec.{T, leb}
 use borrow.Author.Tests.{lt-leb}
 use Rattle.layout.specs.Lists.{written}
 use Rattle.layout.specs.Problem.{Problem, Route, standard, compact}
-use Rattle.layout.specs.Blocks.{Part, blockRowCount, overlapCount}
+use Rattle.layout.specs.Blocks.{Part, blockRowCount, overlapCount, coneCount}
 use Rattle.layout.specs.Checks.{layout, check10, refusal}
 use Rattle.layout.specs.Answers.{routeOf, sizes}
 use Rattle.layout.proofs.Tests.{and-iff, leb-iff}
-use Rattle.layout.proofs.Sizes.{coneCount, compact-sizes, standard-sizes}
+use Rattle.layout.proofs.Sizes.{compact-sizes, standard-sizes}
 use Rattle.chordal_info.specs.Sizes.{rowsFit, outputLengths, routeSizes}
 
 -- ---- a route's number

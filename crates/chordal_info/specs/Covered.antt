@@ -13,10 +13,6 @@ use Rattle.layout.specs.Blocks.{Part, originalRow, patternRows}
 use Rattle.layout.specs.Checks.{coveredRows, valuesOn}
 use Rattle.blocks.specs.Vertices.{marked}
 
--- each number of the list is below n
-abbrev pub Below : ℕ → List ℕ → Type 0
-Below n xs = (k : ℕ) → k < length xs → getD xs k 0 < n
-
 -- what marking the blocks of a pattern does, wherever its augmented rows start
 abbrev pub MarksPattern : Pattern → ℕ → List Bool → List Bool → Type 0
 MarksPattern p base old new = (first : ℕ) → new ≡ marked true (map originalRow (patternRows p base first)) old

@@ -16,7 +16,7 @@ use Rattle.layout.specs.Answers.{joinedParts}
 use Rattle.layout.proofs.Tests.{and-iff, leb-iff}
 use Rattle.layout.proofs.Starts.{length-written}
 use Rattle.layout.proofs.Buffers.{take-written}
-use Rattle.layout.proofs.Accepted.{passed, accepted-sound}
+use Rattle.layout.proofs.Accepted.{passed, accepted-sound, accepted-checked}
 use Rattle.layout.proofs.Laid.{sound-laid}
 use Rattle.codes.specs.Codes.{cutCode, RowsInside}
 use Rattle.codes.proofs.Rows.{accepted-inside}
@@ -25,12 +25,12 @@ use Rattle.tables.proofs.Tables.{table-length}
 use Rattle.sparsevector.specs.Values.{codeValue}
 use Rattle.sparsevector.proofs.Rows.{compact-values}
 use Rattle.columns.specs.Marks.{Placing, Clear}
-use Rattle.augment.proofs.Laws.{right-A, length-b, few-entries}
+use Rattle.layout.proofs.Columns.{right-A}
 use Rattle.augment_standard.specs.Beside.{besideStarts}
 use Rattle.augment_compact.specs.Cut.{tiedRows, cutRows, cutValues}
 use Rattle.augment_compact.specs.Places.{placed, ColumnsRise}
 use Rattle.augment_compact.proofs.Cut.{cut-compact, tied-count}
-use Rattle.augment_compact.proofs.Places.{few-rows, accepted-starts, accepted-rise, accepted-placing}
+use Rattle.augment_compact.proofs.Places.{few-rows, accepted-rise, accepted-placing}
 use Rattle.compact_constraints.specs.Constraints.{completed, Accepted}
 
 -- as many codes as augmented rows
@@ -81,15 +81,15 @@ module _ {p : Problem} (h : Accepted p) where
   pub few-cut-entries : length (p .A .values) + 2 * overlapCount (layout p) ≤ 524288
   few-cut-entries =
       let tenth = and-iff (leb (blockRowCount (layout p)) 262144) (leb (overlapCount (layout p)) 131072) .0 (passed 0 9 (checks compact whole) (h .accepted) (lit< tt)) in
-      omega (arith, few-entries compact whole (h .accepted), leb-iff (overlapCount (layout p)) 131072 .0 (tenth .1))
+      omega (arith, accepted-checked compact whole (h .accepted) .fewEntriesA, leb-iff (overlapCount (layout p)) 131072 .0 (tenth .1))
 
   -- ---- what the writers ask of A, b and the codes
 
   pub rows-inside : RowsInside (length (p .b)) (map cutCode (compactRows (layout p)))
-  rows-inside = accepted-inside whole (h .accepted) (length (p .b)) (omega (arith, length-b compact whole (h .accepted)))
+  rows-inside = accepted-inside whole (h .accepted) (length (p .b)) (omega (arith, accepted-checked compact whole (h .accepted) .lengthB))
 
   pub columns-right : T (startsRight (p .n) (p .A)) × ColumnsRise (p .n) (p .A)
-  columns-right = (accepted-starts whole (h .accepted), accepted-rise whole (h .accepted))
+  columns-right = (accepted-checked compact whole (h .accepted) .startsA, accepted-rise whole (h .accepted))
 
   codes-placing : (t : List ℕ) → p .m ≤ length t
       → Placing (map cutCode (compactRows (layout p))) (placed 0 (map cutCode (compactRows (layout p))) t) (p .A .rows)

@@ -1,11 +1,10 @@
 -- Entries: structs and layout's, their words, and when two are the same.
 use Prim.Native.Nat.{ℕ}
 use mathlib.Core.Path.{_≡_, refl}
-use mathlib.Core.Bool.{Bool, true, false, _&&_}
+use mathlib.Core.Bool.{Bool, true, false, _&&_, and-false}
 use mathlib.Core.List.{[], _∷_}
 use lib.Dec.{eqb}
 use Rattle.layout.specs.Compact.{MapEntry, wholeCone, blockOf, entryWords}
-use Rattle.layout.proofs.Tests.{false-right}
 use Rattle.cone_map.specs.declared.ConeMapEntry.{ConeMapEntry}
 use Rattle.cone_map.specs.declared.TreeAndClique.{TreeAndClique}
 use Rattle.cone_map.specs.declared.TreeAndClique.the-variants.{None, In}
@@ -33,6 +32,6 @@ and-yes false = refl
 -- the cone's number and the rest
 pub same-parts : (i j : ℕ) (t u : TreeAndClique) → sameEntry (placed i t) (placed j u) ≡ (eqb i j && sameEntry (placed 0 t) (placed 0 u))
 same-parts i j None None = rw (and-yes (eqb i j))
-same-parts i j None (In l d) = rw (false-right (eqb i j))
-same-parts i j (In k c) None = rw (false-right (eqb i j))
+same-parts i j None (In l d) = rw (and-false (eqb i j))
+same-parts i j (In k c) None = rw (and-false (eqb i j))
 same-parts i j (In k c) (In l d) = refl

@@ -1,10 +1,11 @@
 -- The cone map's entries: what a struct stands for among layout's, how words read as entries, and when two maps are the same.
 use Prim.Native.Nat.{ℕ, _+_, _*_}
-use mathlib.Core.Bool.{Bool, true, false, cond, _&&_}
-use mathlib.Core.List.{List, [], _∷_}
+use mathlib.Core.Bool.{Bool, false, cond, _&&_}
+use mathlib.Core.List.{List}
 use lib.ListN.{getD}
 use lib.Dec.{eqb}
 use Rattle.layout.specs.Compact.{MapEntry, wholeCone, blockOf, noPatternNumber}
+use Rattle.layout.specs.Lists.{sameBy}
 use Rattle.cone_map.specs.declared.ConeMapEntry.{ConeMapEntry}
 use Rattle.cone_map.specs.declared.TreeAndClique.{TreeAndClique}
 use Rattle.cone_map.specs.declared.TreeAndClique.the-variants.{None, In}
@@ -47,7 +48,4 @@ sameEntry (blockOf i k c) (wholeCone j) = false
 sameEntry (blockOf i k c) (blockOf j l d) = eqb i j && (eqb k l && eqb c d)
 
 abbrev pub sameMap : List MapEntry → List MapEntry → Bool
-sameMap [] [] = true
-sameMap [] (y ∷ ys) = false
-sameMap (x ∷ xs) [] = false
-sameMap (x ∷ xs) (y ∷ ys) = sameEntry x y && sameMap xs ys
+sameMap es fs = sameBy sameEntry es fs

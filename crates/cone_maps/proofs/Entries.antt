@@ -3,13 +3,12 @@ use Prim.Native.Nat.{ℕ, zero, suc, _<_, _≤_}
 use native.Mathlib.Omega.{arith}
 use mathlib.Core.Path.{_≡_, refl, sym, ap, ap₂, _∙_}
 use mathlib.Core.Bool.{Bool, true, false, cond, not, _&&_}
-use mathlib.Core.List.{List, [], _∷_, _++_, map}
+use mathlib.Core.List.{List, [], _∷_, _++_, map, map-append}
 use lib.ListN.{length, getD, take, drop, set, length-drop, length-take, length-map, drop-of-length-le}
 use lib.Seq.{drop-cons, take-suc, take-all, length-take-le}
 use Rattle.layout.specs.Lists.{written}
 use Rattle.layout.specs.Compact.{MapEntry, coneMap}
 use Rattle.layout.specs.Answers.{output}
-use Rattle.layout.proofs.Keeps.{map-append}
 use Rattle.layout.proofs.Starts.{length-written}
 use Rattle.layout.proofs.Buffers.{set-written}
 use Rattle.parts.specs.Ahead.{ahead}

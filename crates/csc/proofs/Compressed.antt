@@ -3,7 +3,7 @@ use Prim.Native.Nat.{ℕ, zero, suc, _+_, _-_, _≤_, _<_}
 use native.Mathlib.Nat.{le-refl, le-of-eq}
 use native.Mathlib.Omega.{arith}
 use mathlib.Core.Path.{_≡_, refl, sym, ap, ap₂, _∙_}
-use mathlib.Core.List.{List, [], _∷_, _++_, map, map-map}
+use mathlib.Core.List.{List, [], _∷_, _++_, map, map-map, append-nil, map-append}
 use lib.ListN.{length, getD, take, drop}
 use lib.Seq.{take-suc, take-all, take-add}
 use lib.Ieee.{Float, nan}
@@ -12,7 +12,6 @@ use Rattle.layout.specs.Problem.{Csc}
 use Rattle.layout.specs.Compact.{Entry, column, csc}
 use Rattle.layout.proofs.Joins.{map-same, upFrom-last}
 use Rattle.layout.proofs.Starts.{part-at, join-append}
-use Rattle.layout.proofs.Keeps.{append-nil, map-append}
 use Rattle.layout.proofs.Columns.{RightStarts, column-length, columns-sum}
 
 -- ---- columns put one after the other

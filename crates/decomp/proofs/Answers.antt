@@ -1,18 +1,15 @@
--- A call's number by its route, what an output holds, and how many α an accepted problem has.
+-- A call's number by its route, and how many α an accepted problem has.
 use Prim.Native.Nat.{ℕ, zero, suc, _≤_, _<_}
 use native.Mathlib.Omega.{arith}
-use mathlib.Core.Path.{_≡_, refl, sym, _∙_}
+use mathlib.Core.Path.{_≡_, refl}
 use mathlib.Core.List.{List, [], _∷_, map}
 use lib.ListN.{length}
 use Rattle.layout.specs.Lists.{sum}
 use Rattle.layout.specs.Problem.{Problem, Route}
 use Rattle.layout.specs.Cones.{Cone, Kind, zeroCone, nonnegative, secondOrder, exponential, power, genPower, psdTriangle, noKind, kindOf, nvars, alphas, records, rowCount, alphaCount}
-use Rattle.layout.specs.Checks.{refusal}
-use Rattle.layout.specs.Answers.{output, onRoute, routeOf, problemRefusal}
+use Rattle.layout.specs.Checks.{Checked}
+use Rattle.layout.specs.Answers.{onRoute, routeOf}
 use Rattle.layout.proofs.Tests.{and-iff, eqb-iff}
-use Rattle.checks.specs.Order.{Checked}
-use Rattle.checks.proofs.Order.{problem-then-route, both-zero}
-use Rattle.checks.proofs.Checked.{problem-checked}
 
 -- ---- a route's number
 
@@ -26,17 +23,7 @@ on-route zero f h = refl
 on-route (suc zero) f h = refl
 on-route (suc (suc k)) f h = absurd (omega arith)
 
--- ---- outputs
-
-module _ {A : Type 0} where
-  pub kept : (r : ℕ) (new old : List A) → (r ≡ 0 → ⊥) → old ≡ output r new old
-  kept zero new old h = absurd (h refl)
-  kept (suc r) new old h = refl
-
 -- ---- an accepted problem
-
-pub accepted-checked : (route : Route) (p : Problem) → refusal route p ≡ 0 → Checked p
-accepted-checked route p ok = problem-checked p (both-zero (problemRefusal p) _ (sym (problem-then-route route p) ∙ ok) .0)
 
 alpha-le : (k : Kind) (a c : ℕ) → alphas k a ≤ nvars k a c
 alpha-le zeroCone a c = omega arith

@@ -8,13 +8,12 @@ use lib.ListN.{length, getD}
 use lib.Dec.{T, leb, lit<}
 use Rattle.layout.specs.Lists.{written}
 use Rattle.layout.specs.Problem.{Problem, Route, standard, compact}
-use Rattle.layout.specs.Blocks.{blockRowCount, overlapCount}
+use Rattle.layout.specs.Blocks.{blockRowCount, overlapCount, coneCount}
 use Rattle.layout.specs.Checks.{layout, refusal}
 use Rattle.layout.specs.Compact.{compactCones, coneMap, mapWords}
 use Rattle.layout.specs.Standard.{standardCones}
 use Rattle.layout.specs.Answers.{Augmented, augmented, orElse, onRoute, routeOf, roomy, sizes, cutRefusal}
 use Rattle.layout.proofs.Tests.{and-iff, leb-iff}
-use Rattle.layout.proofs.Sizes.{coneCount}
 use Rattle.chordal_info.specs.Sizes.{routeSizes}
 use Rattle.chordal_info.proofs.Sizes.{route-sizes}
 

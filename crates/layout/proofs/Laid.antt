@@ -11,24 +11,13 @@ use Rattle.layout.specs.Triangle.{triangle}
 use Rattle.layout.specs.Problem.{Problem, Route}
 use Rattle.layout.specs.Cones.{Cone, records, rowCount, kindOf, nvars}
 use Rattle.layout.specs.Patterns.{Pattern, noPattern, patterns}
-use Rattle.layout.specs.Blocks.{Part, whole, cut, parts, partsFrom, Row, kept, patternRows, blockRows, rowsFrom, compactRows, blockRowCount}
-use Rattle.layout.specs.Checks.{Sound, noCone, namesItsCone, refusal, layout, RightPattern}
+use Rattle.layout.specs.Blocks.{Part, whole, cut, parts, partsFrom, Row, kept, patternRows, blockRows, rowsFrom, compactRows, blockRowCount, coneRows}
+use Rattle.layout.specs.Checks.{Sound, noCone, namesItsCone, refusal, layout, RightPattern, Laid}
 use Rattle.layout.proofs.Tests.{and-iff, eqb-iff}
 use Rattle.layout.proofs.Members.{EveryAt, every-cons, all-at, length-upFrom}
 use Rattle.layout.proofs.Rows.{rows-count}
 use Rattle.layout.proofs.Accepted.{sound-patterns, accepted-sound}
 use Rattle.layout.proofs.Moves.{RightRows, nil-rows, kept-rows, append-rows, pattern-rows}
-
--- the original rows of a part
-abbrev pub coneRows : Part → ℕ
-coneRows (whole i c row) = rowCount c
-coneRows (cut i row k p) = triangle (p .vertexCount)
-
--- each part starts where the part before it ends, and its pattern, if it has one, is right
-abbrev pub Laid : ℕ → List Part → Type 0
-Laid row [] = Unit {0}
-Laid row (whole i c r ∷ ps) = (r ≡ row) × Laid (row + rowCount c) ps
-Laid row (cut i r k p ∷ ps) = (r ≡ row) × RightPattern p × Laid (row + triangle (p .vertexCount)) ps
 
 -- ---- the rows of parts that are laid
 

@@ -1,42 +1,33 @@
 -- The sizes of the cut's outputs in closed form, for a problem that the route accepts.
-use Prim.Native.Nat.{ℕ, zero, suc, _+_, _*_}
+use Prim.Native.Nat.{ℕ, suc, _+_, _*_}
 use native.Mathlib.Nat.{le-refl}
 use native.Mathlib.Omega.{arith}
 use mathlib.Core.Path.{_≡_, refl, sym, ap, ap₂, _∙_}
 use mathlib.Core.List.{List, [], _∷_, _++_, map, map-append, map-map, reverse}
-use lib.ListN.{length, replicate, length-append, length-map, length-replicate}
-use lib.Dec.{T, lit<}
+use lib.ListN.{length, replicate, length-append, length-map, length-replicate, length-reverse}
 use Rattle.layout.specs.Lists.{below, upFrom, sum, join}
 use Rattle.layout.specs.Triangle.{triangle}
 use Rattle.layout.specs.Problem.{Problem, zero64, Route, standard, compact}
 use Rattle.layout.specs.Cones.{rowCount}
 use Rattle.layout.specs.Patterns.{Pattern, Clique, cliqueAt, cliqueCount, blockSize, noClique}
-use Rattle.layout.specs.Blocks.{Row, Part, whole, cut, block, blockRows, pairRow, compactRows, standardRows, blockRowCount, overlapCount}
-use Rattle.layout.specs.Checks.{layout, refusal, checks, startsRight, RightPattern}
-use Rattle.layout.specs.Compact.{Entry, column, csc, augmentedColumn, overlapColumns, compactA, rowValue, psdWords, compactPart, MapEntry, wholeCone, blockOf, mapPart, mapWords, compactB, compactP, coneMap}
+use Rattle.layout.specs.Blocks.{Row, Part, whole, cut, block, blockRows, pairRow, compactRows, standardRows, blockRowCount, overlapCount, partCones, coneCount}
+use Rattle.layout.specs.Checks.{layout, refusal, RightPattern, Laid}
+use Rattle.layout.specs.Compact.{Entry, column, augmentedColumn, overlapColumns, compactA, rowValue, psdWords, compactPart, MapEntry, wholeCone, blockOf, mapPart, mapWords, compactB, compactP, coneMap, compactColumns}
 use Rattle.layout.specs.Standard.{blockColumns, standardA, standardP, standardPart, standardCones}
 use Rattle.layout.specs.Answers.{sizes}
-use Rattle.layout.proofs.Tests.{and-iff, eqb-iff}
-use Rattle.layout.proofs.Members.{length-upFrom, has-below}
-use Rattle.layout.proofs.Joins.{map-same, map-drop, length-join, reverse-below}
+use Rattle.layout.proofs.Members.{length-upFrom, has-below, length-below}
+use Rattle.layout.proofs.Joins.{map-same, map-drop, length-join}
 use Rattle.layout.proofs.Starts.{sum-append, length-starts}
-use Rattle.layout.proofs.Accepted.{passed}
+use Rattle.layout.proofs.Accepted.{accepted-checked}
 use Rattle.layout.proofs.Rows.{block-length}
-use Rattle.layout.proofs.Laid.{Laid, accepted-laid, accepted-count}
-use Rattle.layout.proofs.Columns.{RightStarts, starts-right, columns-sum}
+use Rattle.layout.proofs.Laid.{accepted-laid, accepted-count}
+use Rattle.layout.proofs.Columns.{columns-sum, entry-count, even, right-A, right-P}
 use Rattle.layout.proofs.Links.{Link, links}
 use Rattle.layout.proofs.RowSums.{linkColumn, overlap-columns}
 use Rattle.layout.proofs.Cut.{link-count, all-columns-count}
 use Rattle.layout.proofs.Augmented.{columns-keep}
 
--- ---- cones: a cut cone gives one for each clique
-
-abbrev pub partCones : Part → ℕ
-partCones (whole i c row) = 1
-partCones (cut i row k p) = cliqueCount p
-
-abbrev pub coneCount : List Part → ℕ
-coneCount ps = sum (map partCones ps)
+-- ---- cones
 
 parts-length : {A : Type 0} (f : Part → List A) (w : ℕ) → ((x : Part) → length (f x) ≡ w * partCones x)
     → (ps : List Part) → length (join f ps) ≡ w * coneCount ps
@@ -48,8 +39,7 @@ words-length f [] = refl
 words-length f (c ∷ cs) = omega (arith, words-length f cs)
 
 down-count : (k : ℕ) → length (reverse (below k)) ≡ k
-down-count zero = refl
-down-count (suc k) = ap length (reverse-below k) ∙ ap suc (down-count k)
+down-count k = length-reverse (below k) ∙ length-below k
 
 compact-part : (x : Part) → length (compactPart x) ≡ 3 * partCones x
 compact-part (whole i c row) = refl
@@ -72,13 +62,6 @@ entries-length (wholeCone i ∷ es) = omega (arith, entries-length es)
 entries-length (blockOf i k c ∷ es) = omega (arith, entries-length es)
 
 -- ---- entries
-
-entry-count : (cs : List (List Entry)) → length (csc cs .values) ≡ sum (map length cs)
-entry-count cs = length-map (join (λ c. c) cs) (λ (e : Entry). e .value) ∙ length-join (λ (c : List Entry). c) cs
-
--- there are as many rows as values
-even : (cs : List (List Entry)) → length (csc cs .rows) ≡ length (csc cs .values)
-even cs = length-map (join (λ c. c) cs) (λ (e : Entry). e .row) ∙ sym (length-map (join (λ c. c) cs) (λ (e : Entry). e .value))
 
 -- the columns of number below n, and others after them
 two-parts : (f : ℕ → List Entry) (n : ℕ) (ds : List (List Entry))
@@ -127,26 +110,11 @@ standard-count row (cut i r k p ∷ ps) h =
       standard-count (row + triangle (p .vertexCount)) ps (h .2),
     )
 
--- ---- what checks 2 and 4 say of the lengths
-
 module _ (route : Route) (p : Problem) (ok : refusal route p ≡ 0) where
-  two : T (startsRight (p .n) (p .A)) × T (startsRight (p .n) (p .P))
-  two = and-iff (startsRight (p .n) (p .A)) (startsRight (p .n) (p .P)) .0 (passed 0 1 (checks route p) ok (lit< tt))
-
-  starts-A : RightStarts (p .n) (p .A)
-  starts-A = starts-right (p .n) (p .A) (two .0)
-
-  starts-P : RightStarts (p .n) (p .P)
-  starts-P = starts-right (p .n) (p .P) (two .1)
-
-  length-q : length (p .q) ≡ p .n
-  length-q = (simp (and-iff, eqb-iff) at (passed 0 3 (checks route p) ok (lit< tt))) .0 .1
-
-  length-b : length (p .b) ≡ p .m
-  length-b = (simp (and-iff, eqb-iff) at (passed 0 3 (checks route p) ok (lit< tt))) .1
-
   entries-A : sum (map (λ c. length (column (p .A) c)) (below (p .n))) ≡ length (p .A .values)
-  entries-A = columns-sum (p .n) (p .A) starts-A (p .n) (le-refl (p .n)) ∙ starts-A .last ∙ starts-A .even
+  entries-A =
+      let right = right-A route p ok in
+      columns-sum (p .n) (p .A) right (p .n) (le-refl (p .n)) ∙ right .last ∙ right .even
 
 extended : {A : Type 0} (xs : List A) (n k : ℕ) (a : A) → length xs ≡ n → length (xs ++ replicate k a) ≡ n + k
 extended xs n k a e = length-append xs (replicate k a) ∙ ap₂ _+_ e (length-replicate k a)
@@ -163,17 +131,17 @@ module _ (p : Problem) (ok : refusal compact p ≡ 0) where
   abbrev moving : ℕ → List Entry
   moving c = augmentedColumn (column (p .A) c) 0 R
 
-  compact-columns : length (map length (map moving (below (p .n)) ++ overlapColumns 0 R)) ≡ p .n + k
+  compact-columns : length (map length (compactColumns p)) ≡ p .n + k
   compact-columns =
-      length-map (map moving (below (p .n)) ++ overlapColumns 0 R) length ∙ all-columns-count p ok
+      length-map (compactColumns p) length ∙ all-columns-count p ok
       ∙ ap (λ (j : ℕ). p .n + j) (link-count p ok)
 
   compact-starts : length (compactA p .starts) ≡ suc (p .n + k)
-  compact-starts = length-starts 0 (map length (map moving (below (p .n)) ++ overlapColumns 0 R)) ∙ ap suc compact-columns
+  compact-starts = length-starts 0 (map length (compactColumns p)) ∙ ap suc compact-columns
 
   compact-entries : length (compactA p .values) ≡ length (p .A .values) + 2 * k
   compact-entries =
-      entry-count (map moving (below (p .n)) ++ overlapColumns 0 R) ∙ two-parts moving (p .n) (overlapColumns 0 R)
+      entry-count (compactColumns p) ∙ two-parts moving (p .n) (overlapColumns 0 R)
       ∙ ap₂ _+_
       (ap sum (map-same (λ c. length (moving c)) (λ c. length (column (p .A) c)) (below (p .n))
       (λ c h. columns-keep p ok c (has-below c (p .n) .0 h)))
@@ -182,13 +150,13 @@ module _ (p : Problem) (ok : refusal compact p ≡ 0) where
       ∙ ap (λ (j : ℕ). 2 * j) (link-count p ok))
 
   compact-rows : length (compactA p .rows) ≡ length (p .A .values) + 2 * k
-  compact-rows = even (map moving (below (p .n)) ++ overlapColumns 0 R) ∙ compact-entries
+  compact-rows = even (compactColumns p) ∙ compact-entries
 
   compact-b : length (compactB p) ≡ blockRowCount (layout p)
   compact-b = length-map R (rowValue (p .b)) ∙ accepted-count compact p ok
 
   compact-p : length (compactP p .starts) ≡ suc (p .n + k)
-  compact-p = omega (arith, extended (p .P .starts) (suc (p .n)) k (length (p .P .values)) (starts-P compact p ok .count))
+  compact-p = omega (arith, extended (p .P .starts) (suc (p .n)) k (length (p .P .values)) (right-P compact p ok .count))
 
   compact-map : length (mapWords (coneMap (layout p))) ≡ 3 * coneCount (layout p)
   compact-map = omega (arith, parts-length mapPart 1 map-part (layout p), entries-length (coneMap (layout p)))
@@ -202,9 +170,9 @@ pub compact-sizes : (p : Problem) → refusal compact p ≡ 0
     ∷ suc (p .n + added) ∷ moved ∷ moved ∷ blockRowCount (layout p)
     ∷ (3 * coneCount (layout p)) ∷ length (p .alphas) ∷ (3 * coneCount (layout p)) ∷ []
 compact-sizes p ok =
-    let q-length = extended (p .q) (p .n) (overlapCount (layout p)) zero64 (length-q compact p ok) in
+    let q-length = extended (p .q) (p .n) (overlapCount (layout p)) zero64 (accepted-checked compact p ok .lengthQ) in
     λ i.
-    compact-p p ok i ∷ (starts-P compact p ok .even) i ∷ length (p .P .values) ∷ q-length i
+    compact-p p ok i ∷ (right-P compact p ok .even) i ∷ length (p .P .values) ∷ q-length i
     ∷ compact-starts p ok i ∷ compact-rows p ok i ∷ compact-entries p ok i ∷ compact-b p ok i
     ∷ parts-length compactPart 3 compact-part (layout p) i ∷ length (p .alphas) ∷ compact-map p ok i ∷ []
 
@@ -237,7 +205,7 @@ module _ (p : Problem) (ok : refusal standard p ≡ 0) where
   standard-rows = even (map (column (p .A)) (below (p .n)) ++ blockColumns (p .m) (standardRows (layout p))) ∙ standard-entries
 
   standard-p : length (standardP p .starts) ≡ suc (p .n + rows)
-  standard-p = omega (arith, extended (p .P .starts) (suc (p .n)) rows (length (p .P .values)) (starts-P standard p ok .count))
+  standard-p = omega (arith, extended (p .P .starts) (suc (p .n)) rows (length (p .P .values)) (right-P standard p ok .count))
 
   standard-cones : length (standardCones p) ≡ 3 * suc (coneCount (layout p))
   standard-cones = omega (arith, parts-length standardPart 3 standard-part (layout p))
@@ -251,9 +219,9 @@ pub standard-sizes : (p : Problem) → refusal standard p ≡ 0
     ∷ suc (p .n + added) ∷ beside ∷ beside ∷ (p .m + added)
     ∷ (3 * suc (coneCount (layout p))) ∷ length (p .alphas) ∷ 0 ∷ []
 standard-sizes p ok =
-    let q-length = extended (p .q) (p .n) (blockRowCount (layout p)) zero64 (length-q standard p ok) in
-    let b-length = extended (p .b) (p .m) (blockRowCount (layout p)) zero64 (length-b standard p ok) in
+    let q-length = extended (p .q) (p .n) (blockRowCount (layout p)) zero64 (accepted-checked standard p ok .lengthQ) in
+    let b-length = extended (p .b) (p .m) (blockRowCount (layout p)) zero64 (accepted-checked standard p ok .lengthB) in
     λ i.
-    standard-p p ok i ∷ (starts-P standard p ok .even) i ∷ length (p .P .values) ∷ q-length i
+    standard-p p ok i ∷ (right-P standard p ok .even) i ∷ length (p .P .values) ∷ q-length i
     ∷ standard-starts p ok i ∷ standard-rows p ok i ∷ standard-entries p ok i ∷ b-length i
     ∷ standard-cones p ok i ∷ length (p .alphas) ∷ 0 ∷ []

@@ -139,10 +139,11 @@ abbrev pub mapRight : Route → List Part → List ℕ → Bool
 mapRight standard ps ws = true
 mapRight compact ps ws = sameNumbers ws (mapWords (coneMap ps))
 
--- checks 1 and 12 of a joining: bounds, and a solution and a cone map that fit
+-- check 1 of a joining
 abbrev pub joinBounded : ℕ → ℕ → List ℕ → Bool
 joinBounded n m cones = leb n 65536 && leb m 65536 && conesBounded cones
 
+-- check 12 of a joining, beside `mapRight`
 abbrev pub solutionFits : Route → ℕ → ℕ → List Part → Solution → Bool
 solutionFits route n m ps sol =
     eqb (length (sol .x)) (n + addedCount route ps) && eqb (length (sol .s)) (slackCount route m ps)

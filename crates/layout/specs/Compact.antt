@@ -17,6 +17,9 @@ pub record Entry : Type 0 where
   pub row : ℕ
   pub value : Float
 
+abbrev pub rowsOf : List Entry → List ℕ
+rowsOf es = map (λ (e : Entry). e .row) es
+
 abbrev pub entriesFrom : ℕ → ℕ → Csc → List Entry
 entriesFrom a k M = map (λ t. record { row = getD (M .rows) t 0; value = getD (M .values) t nan }) (upFrom a k)
 
@@ -28,7 +31,7 @@ column M c = entriesFrom (getD (M .starts) c 0) (getD (M .starts) (suc c) 0 - ge
 abbrev pub csc : List (List Entry) → Csc
 csc cs = record {
   starts = startsFrom 0 (map length cs);
-  rows = map (λ (e : Entry). e .row) (join (λ c. c) cs);
+  rows = rowsOf (join (λ c. c) cs);
   values = map (λ (e : Entry). e .value) (join (λ c. c) cs);
 }
 
@@ -56,10 +59,14 @@ abbrev pub overlapColumns : ℕ → List Row → List (List Entry)
 overlapColumns r [] = []
 overlapColumns r (x ∷ xs) = overlapColumn r x ++ overlapColumns (suc r) xs
 
-abbrev pub compactA : Problem → Csc
-compactA p =
+-- A's columns, then the overlaps'
+abbrev pub compactColumns : Problem → List (List Entry)
+compactColumns p =
     let rows = compactRows (layout p) in
-    csc (map (λ c. augmentedColumn (column (p .A) c) 0 rows) (below (p .n)) ++ overlapColumns 0 rows)
+    map (λ c. augmentedColumn (column (p .A) c) 0 rows) (below (p .n)) ++ overlapColumns 0 rows
+
+abbrev pub compactA : Problem → Csc
+compactA p = csc (compactColumns p)
 
 -- b's value on a row: a zero of either sign becomes +0.0
 abbrev pub rowValue : List Float → Row → Float

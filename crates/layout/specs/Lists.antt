@@ -1,8 +1,8 @@
 -- Lists, as the layout's definitions use them. A slice's contents are such a list. Definitions only.
-use Prim.Native.Nat.{ℕ, zero, suc, _+_, _-_}
+use Prim.Native.Nat.{ℕ, zero, suc, _+_, _-_, _<_}
 use mathlib.Core.Bool.{Bool, true, false, not, _&&_, _||_, cond}
 use mathlib.Core.List.{List, [], _∷_, _++_}
-use lib.ListN.{length, take, drop}
+use lib.ListN.{length, getD, take, drop}
 use lib.Dec.{eqb, ltb}
 
 -- a, a + 1, .., k numbers in all
@@ -26,23 +26,27 @@ abbrev pub distinct : List ℕ → Bool
 distinct [] = true
 distinct (x ∷ xs) = not (has x xs) && distinct xs
 
+-- each number is below n
+abbrev pub Below : ℕ → List ℕ → Type 0
+Below n xs = (i : ℕ) → i < length xs → getD xs i 0 < n
+
 -- each number is above the one before it
 abbrev pub rises : List ℕ → Bool
 rises [] = true
 rises (x ∷ []) = true
 rises (x ∷ y ∷ ys) = ltb x y && rises (y ∷ ys)
 
--- the same numbers in the same order
-abbrev pub sameNumbers : List ℕ → List ℕ → Bool
-sameNumbers [] [] = true
-sameNumbers [] (y ∷ ys) = false
-sameNumbers (x ∷ xs) [] = false
-sameNumbers (x ∷ xs) (y ∷ ys) = eqb x y && sameNumbers xs ys
-
 module _ {A : Type 0} where
   abbrev pub all : (A → Bool) → List A → Bool
   all p [] = true
   all p (x ∷ xs) = p x && all p xs
+
+  -- as long, and alike place by place
+  abbrev pub sameBy : (A → A → Bool) → List A → List A → Bool
+  sameBy alike [] [] = true
+  sameBy alike [] (y ∷ ys) = false
+  sameBy alike (x ∷ xs) [] = false
+  sameBy alike (x ∷ xs) (y ∷ ys) = alike x y && sameBy alike xs ys
 
   abbrev pub keep : (A → Bool) → List A → List A
   keep p [] = []
@@ -56,6 +60,10 @@ module _ {A : Type 0} where
   abbrev pub written : List A → List A → List A
   written xs old = xs ++ drop (length xs) old
 
+-- the same numbers in the same order
+abbrev pub sameNumbers : List ℕ → List ℕ → Bool
+sameNumbers xs ys = sameBy eqb xs ys
+
 module _ {A B : Type 0} where
   abbrev pub join : (A → List B) → List A → List B
   join f [] = []
@@ -68,7 +76,7 @@ module _ {A B S : Type 0} where
   walk f (x ∷ xs) [] w = w
   walk f (x ∷ xs) (v ∷ vs) w = walk f xs vs (f x v w)
 
--- 0, then the running total of the lengths
+-- a, then the running totals from a
 abbrev pub startsFrom : ℕ → List ℕ → List ℕ
 startsFrom a [] = a ∷ []
 startsFrom a (k ∷ ks) = a ∷ startsFrom (a + k) ks

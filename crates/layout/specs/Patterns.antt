@@ -75,7 +75,7 @@ readPattern ws = andThen (readHead ws) λ h rest. andThen (readCliques (h .cliqu
 abbrev pub readPatterns : ℕ → List ℕ → Read (List Pattern)
 readPatterns k ws = readMany readPattern k ws
 
--- the patterns of words that neither end early nor late, and none of others
+-- what was read where the words end with it, and none otherwise
 abbrev pub wholly : {A : Type 0} → A → Read A → A
 wholly none (read a []) = a
 wholly none (read a (w ∷ ws)) = none
@@ -86,6 +86,7 @@ endsRight (read a []) = true
 endsRight (read a (w ∷ ws)) = false
 endsRight short = false
 
+-- the patterns of words that neither end early nor late, and none of others
 abbrev pub patterns : ℕ → List ℕ → List Pattern
 patterns count ws = wholly [] (readPatterns count ws)
 

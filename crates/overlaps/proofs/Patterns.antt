@@ -5,7 +5,7 @@ use native.Mathlib.Omega.{arith}
 use mathlib.Core.Path.{_≡_, refl, ap, ap₂, sym, subst, _∙_}
 use mathlib.Core.Logic.{inl, inr}
 use mathlib.Core.Bool.{Bool, true, false, cond}
-use mathlib.Core.List.{List, [], _∷_, map, map-map, reverse}
+use mathlib.Core.List.{List, map, map-map, reverse}
 use lib.ListN.{length, getD, drop, length-map}
 use lib.Dec.{T}
 use Rattle.layout.specs.Lists.{has, below, join, sum, upFrom}
@@ -16,7 +16,7 @@ use Rattle.layout.specs.Checks.{RightPattern}
 use Rattle.layout.specs.CliqueTree.{parentOf}
 use Rattle.layout.proofs.Tests.{and-iff, cond-failed}
 use Rattle.layout.proofs.Members.{has-below, has-upFrom, has-getD}
-use Rattle.layout.proofs.Joins.{map-same, map-drop, sum-drop}
+use Rattle.layout.proofs.Joins.{map-same, map-drop, sum-drop, join-same}
 use Rattle.layout.proofs.Tree.{in-iff, parent-later, last-separator, snode-apart}
 use Rattle.layout.proofs.Originals.{original-injective, has-originals, has-sorted}
 use Rattle.layout.proofs.Cliques.{cliqueVertices, clique-vertices, pair-in-parent}
@@ -33,16 +33,10 @@ use Rattle.overlaps.proofs.Codes.{codes-last, codes-tied}
 pairs-same : (f g : Pair → ℕ) (vs : List ℕ) → ((v w : ℕ) → T (has v vs) → T (has w vs) → f (pair v w) ≡ g (pair v w)) → map f (pairs vs) ≡ map g (pairs vs)
 pairs-same f g vs h =
     map-join f (columnPairs vs) (below (length vs))
-    ∙ sym (join-as (λ j. map f (columnPairs vs j)) (below (length vs)))
-    ∙ ap (join (λ r. r)) (map-same (λ j. map f (columnPairs vs j)) (λ j. map g (columnPairs vs j)) (below (length vs))
-    (λ j k. column j (has-below j (length vs) .0 k)))
-    ∙ join-as (λ j. map g (columnPairs vs j)) (below (length vs))
+    ∙ join-same (λ j. map f (columnPairs vs j)) (λ j. map g (columnPairs vs j)) (below (length vs))
+    (λ j k. column j (has-below j (length vs) .0 k))
     ∙ sym (map-join g (columnPairs vs) (below (length vs)))
   where
-    join-as : (f : ℕ → List ℕ) (xs : List ℕ) → join (λ r. r) (map f xs) ≡ join f xs
-    join-as f [] = refl
-    join-as f (x ∷ xs) = rw (join-as f xs)
-
     column : (j : ℕ) → j < length vs → map f (columnPairs vs j) ≡ map g (columnPairs vs j)
     column j l =
         let at : ℕ → Pair = λ i. pair (getD vs i 0) (getD vs j 0) in

@@ -8,15 +8,14 @@ use lib.ListN.{length}
 use lib.Dec.{leb→le}
 use Rattle.layout.specs.Lists.{all, sum}
 use Rattle.layout.specs.Patterns.{Pattern, Clique, blockSize, cliqueCount}
-use Rattle.layout.specs.Blocks.{Part, blockRows}
+use Rattle.layout.specs.Blocks.{Part, blockRows, overlapRows}
 use Rattle.layout.specs.Checks.{RightPattern}
 use Rattle.layout.proofs.Tests.{passes}
-use Rattle.supernode_tree.specs.Sizes.{overlapRows}
-use Rattle.supernode_tree.specs.Sizes.{atMost}
-use Rattle.supernode_tree.proofs.Sizes.{rowsOf, overlapsOf, triangle-small, blocks-small, all-cons}
+use Rattle.supernode_tree.specs.Sizes.{atMost, dimOf, overlapsOf}
+use Rattle.supernode_tree.proofs.Sizes.{triangle-small, blocks-small, all-cons}
 
 blocks-few : (cs : List Clique) → all (atMost 256) cs ≡ true
-    → (sum (map rowsOf cs) ≤ length cs * 32896) × (sum (map overlapsOf cs) ≤ length cs * 32896)
+    → (sum (map dimOf cs) ≤ length cs * 32896) × (sum (map overlapsOf cs) ≤ length cs * 32896)
 blocks-few [] h = omega arith
 blocks-few (q ∷ cs) h =
     let (here, later) = all-cons (atMost 256) q cs (q ∷ cs) refl h in

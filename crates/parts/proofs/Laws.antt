@@ -15,10 +15,10 @@ use Rattle.layout.specs.Triangle.{triangle}
 use Rattle.layout.specs.Cones.{Cone, records, rowCount, isPsd}
 use Rattle.layout.specs.Patterns.{Read, read, short, andThen, Pattern, Head, noPattern, readMembers, readCliques, readPattern, readPatterns, patterns}
 use Rattle.layout.specs.Blocks.{whole, cut, isCut, parts, partsFrom}
-use Rattle.layout.specs.Checks.{Sound, RightPattern, noCone, namesItsCone, sizesBounded}
+use Rattle.layout.specs.Checks.{Sound, RightPattern, noCone, namesItsCone, sizesBounded, Laid}
 use Rattle.layout.proofs.Tests.{and-iff, or-iff, not-iff, leb-iff, ltb-iff, eqb-iff, passed, differ}
 use Rattle.layout.proofs.Members.{all-at}
-use Rattle.layout.proofs.Laid.{Laid, names-fits, sound-laid}
+use Rattle.layout.proofs.Laid.{names-fits, sound-laid}
 use Rattle.supernode_tree.specs.Reads.{patternAt, valueOr, rest, whole as isWhole}
 use Rattle.supernode_tree.proofs.Many.{whole-read, ends-whole, ends-value, first-whole, many-whole, many-value}
 use Rattle.parts.specs.declared.Place.{Place}

@@ -10,8 +10,7 @@ use Rattle.layout.specs.Triangle.{triangle}
 use Rattle.layout.specs.Cones.{records, reads, rowCount}
 use Rattle.layout.specs.Patterns.{Pattern, readPattern, readPatterns}
 use Rattle.layout.specs.Blocks.{Part, whole, cut, partsFrom}
-use Rattle.layout.specs.Checks.{RightPattern, noCone, namesItsCone, conesBounded}
-use Rattle.layout.proofs.Laid.{Laid}
+use Rattle.layout.specs.Checks.{RightPattern, noCone, namesItsCone, conesBounded, Laid}
 use Rattle.supernode_tree.specs.Reads.{patternAt, valueOr, whole as isWhole}
 use Rattle.parts.specs.declared.Place.{Place}
 use Rattle.parts.specs.declared.Met.{Met}

@@ -1,10 +1,9 @@
 // The cones of a problem in order, each whole or cut by its pattern: one walk that every other stands on.
 ghost use mathlib.Core.Path.{_≡_};
 ghost use Rattle.layout.specs.Cones.{records};
-ghost use Rattle.layout.specs.Blocks.{parts, blockRowCount, overlapCount};
+ghost use Rattle.layout.specs.Blocks.{parts, blockRowCount, overlapCount, coneCount};
 ghost use Rattle.layout.specs.Patterns.{patterns, cliqueCount};
 ghost use Rattle.layout.specs.Checks.{Sound, RightPattern};
-ghost use Rattle.layout.proofs.Sizes.{coneCount};
 ghost use Rattle.supernode_tree.specs.Reads.{patternAt};
 ghost use Rattle.parts.specs.Ahead.{ahead, Stands, meets, Knows};
 

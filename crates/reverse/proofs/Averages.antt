@@ -3,7 +3,7 @@ use Prim.Native.Nat.{ℕ, zero, suc, _+_, _≤_, _<_}
 use native.Mathlib.Omega.{arith}
 use mathlib.Core.Path.{_≡_, refl, sym, ap, ap₂, subst, _∙_}
 use mathlib.Core.Bool.{Bool, true, false}
-use mathlib.Core.List.{List, [], _∷_, _++_, map, map-map}
+use mathlib.Core.List.{List, [], _∷_, _++_, map, map-map, map-append}
 use lib.ListN.{length, getD, drop, length-map, length-drop, List·getD-append}
 use lib.Seq.{take-all, getD-append-add}
 use lib.Dec.{T, eqb, eqb→eq, eqb-refl}
@@ -13,15 +13,14 @@ use Rattle.layout.specs.Lists.{has, sum, upFrom, below}
 use Rattle.layout.specs.Triangle.{triangle}
 use Rattle.layout.specs.Cones.{rowCount}
 use Rattle.layout.specs.Patterns.{cliqueCount}
-use Rattle.layout.specs.Blocks.{Part, whole, cut, standardRows, partRows, blockRowCount}
+use Rattle.layout.specs.Blocks.{Part, whole, cut, standardRows, partRows, blockRowCount, coneRows}
 use Rattle.layout.specs.Reverse.{addAt, columnCount, averaged}
 use Rattle.layout.proofs.Members.{getD-map, getD-below, length-upFrom, has-below}
-use Rattle.layout.proofs.Keeps.{map-append}
-use Rattle.layout.proofs.Joins.{map-same}
+use Rattle.layout.proofs.Joins.{map-same, upFrom-shift}
 use Rattle.layout.proofs.Counting.{count-append, count-map, count-same, count-nowhere, count-once}
 use Rattle.layout.proofs.Starts.{part-at}
 use Rattle.layout.proofs.Walks.{walk-same}
-use Rattle.layout.proofs.Laid.{Laid, coneRows}
+use Rattle.layout.specs.Checks.{Laid}
 use Rattle.reverse_standard.specs.Averages.{shared}
 use Rattle.reverse_blocks.specs.Joins.{zAt, joinZ, ownRows}
 use Rattle.reverse_cones.specs.Parts.{sPart, zPart, sCut, valuesFrom}
@@ -29,11 +28,6 @@ use Rattle.reverse.proofs.Stretch.{rows-shifted, rows-inside}
 use Rattle.reverse.proofs.Parts.{zeros, laid-first, laid-rest, standardPart, standard-more, s-size, length-s-cut}
 
 -- ---- numbers from a on
-
-up-shifted : (a b n : ℕ) → upFrom (a + b) n ≡ map (λ o. a + o) (upFrom b n)
-up-shifted a b zero = refl
-up-shifted a b (suc n) =
-    ap {B = List ℕ} (λ r. (a + b) ∷ r) (ap (λ (k : ℕ). upFrom k n) (omega arith) ∙ up-shifted a (suc b) n)
 
 up-split : (a n k : ℕ) → upFrom a (n + k) ≡ upFrom a n ++ upFrom (a + n) k
 up-split a zero k =
@@ -47,7 +41,7 @@ up-split a (suc n) k =
 
 below-split : (n k : ℕ) → below (n + k) ≡ below n ++ map (λ o. n + o) (below k)
 below-split n k =
-    up-split 0 n k ∙ ap (λ (r : List ℕ). below n ++ r) (ap (λ (b : ℕ). upFrom b k) (omega arith) ∙ up-shifted n 0 k)
+    up-split 0 n k ∙ ap (λ (r : List ℕ). below n ++ r) (ap (λ (b : ℕ). upFrom b k) (omega arith) ∙ upFrom-shift n 0 k)
 
 -- ---- the columns on a part's rows
 
@@ -58,7 +52,7 @@ ownPart (cut i row k p) = ownRows true p
 
 part-shifted : (row : ℕ) (x : Part) → Laid row (x ∷ []) → standardPart x ≡ map (λ o. row + o) (ownPart x)
 unfolding ownPart
-part-shifted row (whole i c r) h = ap (λ (a : ℕ). upFrom a (rowCount c)) (omega (arith, h .0)) ∙ up-shifted row 0 (rowCount c)
+part-shifted row (whole i c r) h = ap (λ (a : ℕ). upFrom a (rowCount c)) (omega (arith, h .0)) ∙ upFrom-shift row 0 (rowCount c)
 part-shifted row (cut i r k p) h =
     ap (λ (a : ℕ). standardPart (cut i a k p)) (h .0) ∙ rows-shifted p row (below (cliqueCount p))
 

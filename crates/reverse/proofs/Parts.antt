@@ -12,12 +12,12 @@ use Rattle.layout.specs.Triangle.{triangle}
 use Rattle.layout.specs.Problem.{zero64}
 use Rattle.layout.specs.Cones.{rowCount}
 use Rattle.layout.specs.Patterns.{Pattern, cliqueCount}
-use Rattle.layout.specs.Blocks.{Part, whole, cut, Row, kept, originalRow, patternRows, rowsFrom, standardRows, partRows, blockRowCount}
+use Rattle.layout.specs.Blocks.{Part, whole, cut, Row, kept, originalRow, patternRows, rowsFrom, standardRows, partRows, blockRowCount, coneRows}
 use Rattle.layout.specs.Reverse.{addAt, putAt, addRow, putRow, addRows, putRows, addColumns, averaged}
 use Rattle.layout.proofs.Members.{length-upFrom}
 use Rattle.layout.proofs.Walks.{walk-append, walk-as, length-walk}
 use Rattle.layout.proofs.Rows.{rows-count}
-use Rattle.layout.proofs.Laid.{Laid, coneRows}
+use Rattle.layout.specs.Checks.{Laid}
 use Rattle.blocks.specs.Codes.{standardPatternRows}
 use Rattle.blocks.proofs.Patterns.{original-rows, standard-rows-count}
 use Rattle.reverse_blocks.specs.Joins.{joinZ, ownRows}

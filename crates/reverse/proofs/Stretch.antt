@@ -4,7 +4,7 @@ use native.Mathlib.Nat.{le-of-suc-le-suc, not-suc-le-zero}
 use native.Mathlib.Omega.{arith}
 use mathlib.Core.Path.{_≡_, refl, sym, ap, ap₂, _∙_}
 use mathlib.Core.Bool.{Bool, true, false, cond}
-use mathlib.Core.List.{List, [], _∷_, _++_, map, append-assoc}
+use mathlib.Core.List.{List, [], _∷_, _++_, map, append-assoc, map-append}
 use lib.ListN.{length, getD, set, take, drop, replicate, length-append, length-map, length-set, List·getD-append}
 use lib.Seq.{getD-append-add, getD-append-seam, set-append-seam, set-append-left}
 use lib.Dec.{T}
@@ -15,7 +15,6 @@ use Rattle.layout.specs.Patterns.{Pattern, cliqueAt, members}
 use Rattle.layout.specs.Blocks.{Pair, pair, owned, overlap, pairRow, block, rowOf, inSeparator, parentRow}
 use Rattle.layout.specs.Reverse.{addAt, addRow}
 use Rattle.layout.proofs.Members.{has-getD, has-join, has-map}
-use Rattle.layout.proofs.Keeps.{map-append}
 use Rattle.layout.proofs.Walks.{walk-append, walk-as}
 use Rattle.layout.proofs.Triangles.{triangle-column, pairIndex-le}
 use Rattle.layout.proofs.Originals.{sorted-rises, sorted-bounded}

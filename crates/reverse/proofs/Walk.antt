@@ -3,20 +3,19 @@ use Prim.Native.Nat.{ℕ, _+_, _-_, _≤_}
 use native.Mathlib.Omega.{arith}
 use mathlib.Core.Path.{_≡_, refl, sym, ap, ap₂, _∙_}
 use mathlib.Core.Bool.{true, false}
-use mathlib.Core.List.{List, [], _∷_, _++_, map, append-assoc}
+use mathlib.Core.List.{List, [], _∷_, _++_, map, append-assoc, append-nil}
 use lib.ListN.{length, getD, take, drop, replicate, length-append, length-drop, take-append-drop}
 use lib.Seq.{length-take-le, take-at, take-append-add, drop-append-add, drop-drop}
 use lib.Ieee.{Float, nan}
 use Rattle.layout.specs.Lists.{sum, below, written}
 use Rattle.layout.specs.Problem.{zero64}
-use Rattle.layout.specs.Blocks.{Part, partRows, compactRows, standardRows, blockRowCount}
+use Rattle.layout.specs.Blocks.{Part, partRows, compactRows, standardRows, blockRowCount, coneRows}
 use Rattle.layout.specs.Checks.{Sound}
 use Rattle.layout.specs.Answers.{joinedParts}
 use Rattle.layout.specs.Reverse.{addRows, putRows, addColumns, columnCount, averaged}
-use Rattle.layout.proofs.Keeps.{append-nil}
 use Rattle.layout.proofs.Joins.{map-same}
 use Rattle.layout.proofs.Starts.{length-written}
-use Rattle.layout.proofs.Laid.{coneRows, sound-laid, sound-total}
+use Rattle.layout.proofs.Laid.{sound-laid, sound-total}
 use Rattle.reverse_standard.specs.Averages.{shared}
 use Rattle.reverse_cones.specs.Parts.{sPart, zPart, valuesFrom, writtenAt}
 use Rattle.reverse.proofs.Parts.{zeros, s-standard, s-compact, z-compact}

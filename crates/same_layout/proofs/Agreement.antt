@@ -1,42 +1,17 @@
--- Two lists of numbers compared one by one, and the order of a same layout's refusals.
-use Prim.Native.Nat.{ℕ, zero, suc, _+_, _≤_, _<_}
-use native.Mathlib.Numerals.{add-one}
-use mathlib.Core.Path.{_≡_, refl, ap}
-use mathlib.Core.Bool.{true, false}
-use mathlib.Core.List.{List, [], _∷_}
-use lib.ListN.{length, drop, getD, drop-of-length-le}
-use lib.Dec.{eqb}
-use lib.Seq.{drop-cons}
-use borrow.Author.Tests.{eq-eqb, ne-eqb, le-leb, lt-leb}
-use Rattle.layout.specs.Lists.{sameNumbers, written}
+-- The order of a same layout's refusals.
+use Prim.Native.Nat.{ℕ, _≤_, _<_}
+use mathlib.Core.Path.{_≡_, refl, sym, _∙_}
+use mathlib.Core.List.{List}
+use borrow.Author.Tests.{le-leb, lt-leb}
+use Rattle.layout.specs.Lists.{written}
 use Rattle.layout.specs.Problem.{Problem}
 use Rattle.layout.specs.Answers.{output, orElse, roomRefusal, problemRefusal, sameLayoutRefusal}
-use Rattle.layout.proofs.Tests.{false-right}
+use Rattle.layout.proofs.Buffers.{output-kept}
 use Rattle.checks.proofs.Order.{first-given}
-
--- lists of other lengths
-pub other-length : (xs ys : List ℕ) → (length xs ≡ length ys → ⊥) → sameNumbers xs ys ≡ false
-other-length [] [] h = absurd (h refl)
-other-length [] (y ∷ ys) h = refl
-other-length (x ∷ xs) [] h = refl
-other-length (x ∷ xs) (y ∷ ys) h = rw (other-length xs ys (λ e. h (ap suc e))) (false-right (eqb x y))
-
--- two numbers that agree, two that do not, and the end
-pub same-step : (xs ys : List ℕ) (i : ℕ) → i < length xs → i < length ys → getD xs i 0 ≡ getD ys i 0
-    → sameNumbers (drop i xs) (drop i ys) ≡ sameNumbers (drop (i + 1) xs) (drop (i + 1) ys)
-same-step xs ys i h l e = rw (add-one, drop-cons xs i 0, drop-cons ys i 0, eq-eqb (getD xs i 0) (getD ys i 0) e)
-
-pub same-miss : (xs ys : List ℕ) (i : ℕ) → i < length xs → i < length ys → (getD xs i 0 ≡ getD ys i 0 → ⊥)
-    → sameNumbers (drop i xs) (drop i ys) ≡ false
-same-miss xs ys i h l n = rw (drop-cons xs i 0, drop-cons ys i 0, ne-eqb (getD xs i 0) (getD ys i 0) n)
-
-pub same-done : (xs ys : List ℕ) (i : ℕ) → length xs ≤ i → length ys ≤ i → sameNumbers (drop i xs) (drop i ys) ≡ true
-same-done xs ys i h l = rw (drop-of-length-le xs h, drop-of-length-le ys l)
 
 -- the answer at each place: refused, and the output kept, or done, and the output written
 kept : (x k : ℕ) (new old : List ℕ) → (k ≡ 0 → ⊥) → x ≡ k → (x ≡ k) × (output x new old ≡ old)
-kept x zero new old h e = absurd (h refl)
-kept x (suc k) new old h e = (e, rw e)
+kept x k new old h e = (e, sym (output-kept x new old (λ z. h (sym e ∙ z))))
 
 pub same-order : (p q : Problem) (room : ℕ) (new old : List ℕ) →
     let x = sameLayoutRefusal p q room in

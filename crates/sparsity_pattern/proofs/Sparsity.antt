@@ -1,24 +1,12 @@
 -- Check 5 as walks over the patterns.
 use Prim.Native.Nat.{ℕ, suc}
 use native.Mathlib.Omega.{arith}
-use mathlib.Core.Bool.{Bool, true, false, _&&_}
+use mathlib.Core.Bool.{Bool, true, _&&_}
 use mathlib.Core.Path.{_≡_, refl, ap, _∙_}
 use mathlib.Core.List.{List, [], _∷_}
 use lib.Dec.{leb, ltb}
 use borrow.Author.Tests.{le-leb}
-use Rattle.layout.specs.Lists.{all, rises}
-
--- ---- tests of each
-
-pub all-both : {A : Type 0} (f g : A → Bool) (xs : List A) → all (λ x. f x && g x) xs ≡ (all f xs && all g xs)
-all-both f g [] = refl
-all-both f g (x ∷ xs) = rw (all-both f g xs) (go (f x) (g x) (all f xs) (all g xs))
-  where
-    go : (a b c d : Bool) → ((a && b) && (c && d)) ≡ ((a && c) && (b && d))
-    go true true c d = refl
-    go true false true d = refl
-    go true false false d = refl
-    go false b c d = refl
+use Rattle.layout.specs.Lists.{rises}
 
 -- ---- rising numbers, none of them below the least
 

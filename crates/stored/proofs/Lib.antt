@@ -1,4 +1,3 @@
-pub mod Same
 pub mod Lists
 pub mod Floats
 pub mod Parts

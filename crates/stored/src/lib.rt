@@ -11,7 +11,8 @@ ghost use lib.ListN.{length, take, getD};
 ghost use lib.Dec.{eqb};
 ghost use lib.Ieee.{binary64, ofBits};
 ghost use Rattle.stored.specs.Lists.{listAt, wordsBefore, valuesBefore};
-ghost use Rattle.stored.specs.Same.{sameBy, alikeValues};
+ghost use Rattle.layout.specs.Lists.{sameBy};
+ghost use Rattle.stored.specs.Same.{alikeValues};
 
 // The value of a hexadecimal digit; 0 for any other byte.
 fn digit(b: u8) -> u64

@@ -17,13 +17,6 @@ use Rattle.layout.specs.Checks.{RightPattern}
 use Rattle.layout.proofs.Cliques.{clique-distinct, clique-vertices}
 use Rattle.supernode_tree.specs.Sizes.{atMost}
 
--- a block's rows, and the overlaps among them
-abbrev pub rowsOf : Clique → ℕ
-rowsOf c = triangle (blockSize c)
-
-abbrev pub overlapsOf : Clique → ℕ
-overlapsOf c = triangle (length (c .separator))
-
 pub triangle-small : (k : ℕ) → k ≤ 256 → triangle k ≤ 32896
 triangle-small k l = triangle-mono k 256 l
 

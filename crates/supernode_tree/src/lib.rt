@@ -7,12 +7,12 @@ ghost use lib.ListN.{length, drop, getD};
 ghost use Rattle.layout.specs.Lists.{all, sum};
 ghost use Rattle.layout.specs.Triangle.{triangle};
 ghost use Rattle.layout.specs.Patterns.{noClique, members as cliqueMembers, blockSize, readClique, readCliques, readHead, readPattern, readPatterns, endsRight};
-ghost use Rattle.layout.specs.Blocks.{blockRows};
+ghost use Rattle.layout.specs.Blocks.{blockRows, overlapRows};
 ghost use Rattle.layout.specs.Checks.{RightPattern};
 ghost use Rattle.supernode_tree.specs.Reads.{patternAt, rest, whole, Whole, cliquesFrom, MembersOf, cliqueRead, CliqueInside, patternRead, PatternInside, endRead, ended};
 ghost use Rattle.supernode_tree.specs.declared.CliqueRead.the-variants.{Clique as Found};
 ghost use Rattle.supernode_tree.specs.Offsets.{OffsetsEvery, OffsetsOf};
-ghost use Rattle.supernode_tree.specs.Sizes.{atMost, overlapRows};
+ghost use Rattle.supernode_tree.specs.Sizes.{atMost};
 
 // A clique of a pattern's words, by offsets into them.
 pub struct Clique {

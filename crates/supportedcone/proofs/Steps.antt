@@ -3,11 +3,10 @@ use Prim.Native.Nat.{ℕ, _+_, _≤_, _<_}
 use native.Mathlib.Numerals.{add-one}
 use native.Mathlib.Omega.{arith}
 use mathlib.Core.Path.{_≡_, refl, sym, ap, _∙_}
-use mathlib.Core.List.{List, [], _∷_, map}
+use mathlib.Core.List.{List, [], _∷_, map, map-append}
 use lib.ListN.{length, getD, take, drop, set, take-append-drop}
 use lib.Seq.{take-suc, take-all}
 use Rattle.layout.specs.Lists.{sum, written}
-use Rattle.layout.proofs.Keeps.{map-append}
 use Rattle.layout.proofs.Starts.{sum-append}
 
 module _ {A : Type 0} (f : A → ℕ) where

@@ -14,7 +14,7 @@ use Rattle.layout.specs.Standard.{standardPart}
 use Rattle.codes.specs.Codes.{cutCode}
 use Rattle.blocks.specs.Codes.{standardPatternRows}
 use Rattle.layout.proofs.Starts.{length-written}
-use Rattle.blocks.proofs.Writing.{written-next}
+use Rattle.layout.proofs.Buffers.{written-next}
 use Rattle.tables.specs.Tables.{wholeCodes, cutCodes, partCodes, codesFrom}
 use Rattle.tables.proofs.Laws.{part-done}
 use Rattle.tables.specs.declared.Table.{Table}

@@ -2,22 +2,21 @@
 use Prim.Native.Nat.{ℕ, zero, suc, _+_, _*_, _≤_}
 use native.Mathlib.Omega.{arith}
 use mathlib.Core.Path.{_≡_, refl, sym, ap, ap₂, _∙_}
-use mathlib.Core.List.{List, [], _∷_, _++_, map}
+use mathlib.Core.List.{List, [], _∷_, _++_, map, map-append}
 use lib.ListN.{length, length-append, length-map}
 use Rattle.layout.specs.Lists.{upFrom, below, join}
 use Rattle.layout.specs.Triangle.{triangle}
 use Rattle.layout.specs.Cones.{rowCount}
 use Rattle.layout.specs.Patterns.{Pattern, cliqueCount}
-use Rattle.layout.specs.Blocks.{Part, whole, cut, kept, block, pairRow, patternRows, rowsFrom, standardRows, blockRows, blockRowCount}
-use Rattle.layout.specs.Checks.{RightPattern}
+use Rattle.layout.specs.Blocks.{Part, whole, cut, kept, block, pairRow, patternRows, rowsFrom, standardRows, blockRows, blockRowCount, partCones, coneCount}
+use Rattle.layout.specs.Checks.{RightPattern, Laid}
 use Rattle.layout.specs.Compact.{entryWords, compactPart, mapPart, coneMap, mapWords}
 use Rattle.layout.specs.Standard.{standardPart}
 use Rattle.layout.proofs.Members.{length-upFrom}
 use Rattle.layout.proofs.Starts.{join-append}
-use Rattle.layout.proofs.Keeps.{map-append}
 use Rattle.layout.proofs.Rows.{rows-count}
-use Rattle.layout.proofs.Laid.{Laid, length-rows}
-use Rattle.layout.proofs.Sizes.{partCones, coneCount, standard-count}
+use Rattle.layout.proofs.Laid.{length-rows}
+use Rattle.layout.proofs.Sizes.{standard-count}
 use Rattle.codes.specs.Codes.{cutCode}
 use Rattle.tables.specs.Tables.{tableOf, tableLength, wholeCodes, cutCodes, partCodes, codesFrom, Few}
 use Rattle.tables.proofs.Cones.{standard-words, compact-words, map-words}

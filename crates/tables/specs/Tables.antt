@@ -6,10 +6,9 @@ use lib.ListN.{length}
 use Rattle.layout.specs.Lists.{join, upFrom}
 use Rattle.layout.specs.Cones.{Cone, rowCount}
 use Rattle.layout.specs.Patterns.{Pattern}
-use Rattle.layout.specs.Blocks.{Part, whole, cut, patternRows, compactRows, standardRows, blockRowCount}
+use Rattle.layout.specs.Blocks.{Part, whole, cut, patternRows, compactRows, standardRows, blockRowCount, coneCount}
 use Rattle.layout.specs.Compact.{compactPart, coneMap, mapPart, mapWords}
 use Rattle.layout.specs.Standard.{standardPart}
-use Rattle.layout.proofs.Sizes.{coneCount}
 use Rattle.codes.specs.Codes.{cutCode}
 use Rattle.blocks.specs.Codes.{standardPatternRows}
 use Rattle.tables.specs.declared.Table.{Table}

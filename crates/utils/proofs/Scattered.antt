@@ -11,7 +11,7 @@ use lib.ListN.{length, getD, drop, set, length-set, length-map, drop-of-length-l
 use lib.Seq.{drop-cons, getD-set-same, getD-set-other, ext-getD}
 use lib.Dec.{T, eqb}
 use borrow.Author.Tests.{eqb-true, eqb-false, le-leb, lt-leb}
-use Rattle.layout.specs.Lists.{has, distinct, below, written}
+use Rattle.layout.specs.Lists.{has, distinct, below, written, Below}
 use Rattle.layout.specs.Patterns.{placeOf}
 use Rattle.layout.specs.Checks.{isPermutation}
 use Rattle.layout.specs.Answers.{inverse, inverseRefusal}
@@ -19,7 +19,7 @@ use Rattle.layout.proofs.Tests.{lt-or-le}
 use Rattle.layout.proofs.Members.{has-cons, has-at, has-getD, has-below, length-below, getD-below, getD-map}
 use Rattle.layout.proofs.Distinct.{distinct-cons, distinct-length, permutation-distinct, permutation-has}
 use Rattle.layout.proofs.Starts.{length-written, written-front, written-rest}
-use Rattle.utils.specs.Scattered.{scattered, Below}
+use Rattle.utils.specs.Scattered.{scattered}
 
 -- ---- places
 

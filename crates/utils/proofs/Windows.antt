@@ -2,12 +2,11 @@
 use Prim.Native.Nat.{ℕ, zero, suc, _+_, _-_, _≤_, _<_}
 use native.Mathlib.Numerals.{add-one}
 use native.Mathlib.Omega.{arith}
-use native.Mathlib.Nat.{not-suc-le-zero, le-of-suc-le-suc}
 use mathlib.Core.Bool.{Bool, true, false, cond, _||_}
 use mathlib.Core.Logic.{_⊎_, inl, inr, ⊎-elim}
 use mathlib.Core.Path.{_≡_, refl, sym, ap, subst, _∙_}
-use mathlib.Core.List.{List, [], _∷_, _++_, append-assoc}
-use lib.ListN.{length, getD, take, drop, set, replicate, length-set, drop-of-length-le}
+use mathlib.Core.List.{List, [], _∷_, _++_, append-assoc, append-nil}
+use lib.ListN.{length, getD, take, drop, set, replicate, length-set}
 use lib.Seq.{take-suc, getD-set-same, getD-set-other, split-at}
 use lib.Dec.{T, eqb, ltb, ltb→lt, lt→ltb}
 use borrow.Author.Tests.{le-leb, lt-leb, lt-ltb, le-ltb, eq-eqb, ne-eqb, eqb-true, eqb-false}
@@ -16,7 +15,7 @@ use Rattle.layout.proofs.Tests.{and-iff, tested, lt-or-le, passed, failed, pass
 use Rattle.layout.proofs.Members.{has-keep, has-cons, all-has}
 use Rattle.layout.proofs.Rising.{keep-none}
 use Rattle.layout.proofs.Distinct.{distinct-cons, distinct-append, distinct-keep}
-use Rattle.layout.proofs.Keeps.{append-nil, keep-append}
+use Rattle.layout.proofs.Keeps.{keep-append}
 use Rattle.utils.specs.Windows.{within, Marked}
 
 pub keep-all : (p : ℕ → Bool) (xs : List ℕ) → T (all p xs) → keep p xs ≡ xs
@@ -161,23 +160,6 @@ pub windows-all : (n high : ℕ) (ws : List ℕ) → all (λ x. ltb x n) ws ≡ 
 windows-all n high ws a l d =
     passed (distinct ws) (rw (keep-all (λ x. ltb x high) ws (all-has (λ x. ltb x high) ws .1 (λ x h.
     lt→ltb x high (omega (arith, ltb→lt x n (all-has (λ x. ltb x n) ws .0 (passes _ a) x h)))))) at d)
-
--- ---- a list filled from the front
-
-module _ {A : Type 0} where
-  fill-suc : (n : ℕ) (v : A) (d : List A) → n < length d → set (replicate n v ++ drop n d) n v ≡ replicate (suc n) v ++ drop (suc n) d
-  fill-suc n v [] l = absurd (not-suc-le-zero l)
-  fill-suc zero v (x ∷ d) l = refl
-  fill-suc (suc n) v (x ∷ d) l = ap (λ (t : List A). v ∷ t) (fill-suc n v d (le-of-suc-le-suc l))
-
-  pub fill-more : (n : ℕ) (v : A) (d : List A) → n < length d → set (replicate n v ++ drop n d) n v ≡ replicate (n + 1) v ++ drop (n + 1) d
-  fill-more n v d l = rw add-one (fill-suc n v d l)
-
-  pub fill-done : (n : ℕ) (v : A) (d : List A) → n ≡ length d → replicate n v ++ drop n d ≡ replicate (length d) v
-  fill-done n v d e = rw e (go (length d) v d (omega arith))
-    where
-      go : (m : ℕ) (v : A) (d : List A) → length d ≤ m → replicate m v ++ drop m d ≡ replicate m v
-      go m v d h = rw (drop-of-length-le d h) (append-nil (replicate m v))
 
 pub window-none : (ws : List ℕ) → T (distinct (keep (λ x. ltb x 0) ws))
 window-none ws = subst (λ (l : List ℕ). T (distinct l)) (sym (keep-none (λ x. ltb x 0) ws (λ x h l. omega (arith, ltb→lt x 0 l)))) tt

@@ -1,10 +1,7 @@
 -- Consecutive numbers written where a list says.
-use Prim.Native.Nat.{ℕ, suc, _<_}
+use Prim.Native.Nat.{ℕ, suc}
 use mathlib.Core.List.{List, [], _∷_}
-use lib.ListN.{length, getD, set}
-
-abbrev pub Below : ℕ → List ℕ → Type 0
-Below n xs = (i : ℕ) → i < length xs → getD xs i 0 < n
+use lib.ListN.{set}
 
 -- k at the first place that xs names, k + 1 at the next, and so on: a later number covers an earlier one
 abbrev pub scattered : ℕ → List ℕ → List ℕ → List ℕ

@@ -4,11 +4,11 @@ ghost use Prim.Native.Nat.{_≤_, _<_};
 ghost use mathlib.Core.Bool.{true, false};
 ghost use lib.ListN.{length, replicate};
 ghost use lib.Dec.{ltb};
-ghost use Rattle.layout.specs.Lists.{all, distinct, keep};
+ghost use Rattle.layout.specs.Lists.{all, distinct, keep, Below};
 ghost use Rattle.layout.specs.Checks.{isPermutation};
 ghost use Rattle.layout.specs.Answers.{output, inverse as inverseOf, inverseRefusal};
 ghost use Rattle.utils.specs.Windows.{within, MarksMore};
-ghost use Rattle.utils.specs.Scattered.{scattered, Below};
+ghost use Rattle.utils.specs.Scattered.{scattered};
 
 // ---- each number below the length once
 

@@ -1,23 +1,23 @@
 -- Numbers that are once in others, by marks that are taken away, a window at a time.
 use Prim.Native.Nat.{ℕ, _+_, _≤_, _<_}
 use native.Mathlib.Omega.{arith}
-use mathlib.Core.Bool.{Bool, true, false, not, _&&_, or-true}
+use mathlib.Core.Bool.{Bool, true, false, not, _&&_, or-true, or-false}
 use mathlib.Core.Logic.{_⊎_, inl, inr, ⊎-elim}
 use mathlib.Core.Path.{_≡_, refl, sym, ap, _∙_}
-use mathlib.Core.List.{List, [], _∷_, _++_}
+use mathlib.Core.List.{List, [], _∷_, _++_, append-nil}
 use lib.ListN.{length, getD, set, length-set}
 use lib.Seq.{getD-set-same, getD-set-other}
 use lib.Dec.{T, eqb, ltb, lt→ltb, ltb→lt}
 use borrow.Author.Tests.{eq-eqb, ne-eqb, eqb-true, eqb-false}
 use Rattle.layout.specs.Lists.{has, all, keep, distinct}
-use Rattle.layout.proofs.Tests.{or-false, and-iff, lt-or-le, passed, failed, passes, fails, differ, and-false, and-right}
+use Rattle.layout.proofs.Tests.{and-iff, lt-or-le, passed, failed, passes, fails, differ, and-false, and-right}
 use Rattle.layout.proofs.Members.{has-cons, has-append, has-keep, all-has}
 use Rattle.layout.proofs.Distinct.{distinct-keep}
-use Rattle.layout.proofs.Keeps.{append-nil, keep-append}
+use Rattle.layout.proofs.Keeps.{keep-append}
 use Rattle.utils.specs.Windows.{within, Marked}
 use Rattle.utils.proofs.Windows.{has-more, new-more, old-more, within-in, window-none, window-more, keep-all}
 use Rattle.vertex_set.specs.OnceIn.{onceIn}
-use Rattle.vertex_set.proofs.Walks.{all-append}
+use Rattle.layout.proofs.Walks.{all-append}
 
 -- ---- marks that are left
 

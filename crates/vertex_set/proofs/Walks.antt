@@ -1,13 +1,13 @@
 -- Walks over the members of a list.
 use Prim.Native.Nat.{ℕ, _+_, _≤_, _<_}
 use native.Mathlib.Numerals.{add-one}
-use mathlib.Core.Bool.{Bool, true, false, _&&_}
-use mathlib.Core.Path.{_≡_, refl, sym, ap, _∙_}
-use mathlib.Core.List.{List, [], _∷_, _++_}
+use mathlib.Core.Bool.{true, false}
+use mathlib.Core.Path.{_≡_, sym, ap, _∙_}
+use mathlib.Core.List.{List, _∷_}
 use lib.ListN.{length, getD, drop, drop-of-length-le}
 use lib.Seq.{drop-cons}
 use borrow.Author.Tests.{eq-eqb, ne-eqb}
-use Rattle.layout.specs.Lists.{has, distinct, all}
+use Rattle.layout.specs.Lists.{has, distinct}
 
 pub has-step : (x : ℕ) (b : List ℕ) (k : ℕ) → k < length b → (x ≡ getD b k 0 → ⊥) → has x (drop k b) ≡ has x (drop (k + 1) b)
 has-step x b k h n = rw (add-one, drop-cons b k 0, ne-eqb x (getD b k 0) n)
@@ -26,11 +26,3 @@ distinct-not a k h e = ap distinct (drop-cons a k 0 h ∙ ap (λ (n : ℕ). getD
 
 pub distinct-done : (a : List ℕ) (k : ℕ) → length a ≤ k → distinct (drop k a) ≡ true
 distinct-done a k h = rw (drop-of-length-le a h)
-
-pub all-append : {A : Type 0} (p : A → Bool) (xs ys : List A) → all p (xs ++ ys) ≡ (all p xs && all p ys)
-all-append p [] ys = refl
-all-append p (x ∷ xs) ys = rw (all-append p xs ys) (go (p x))
-  where
-    go : (b : Bool) → (b && (all p xs && all p ys)) ≡ ((b && all p xs) && all p ys)
-    go true = refl
-    go false = refl

@@ -6,11 +6,10 @@ use lib.ListN.{length}
 use borrow.Author.Tests.{eqb-true}
 use Rattle.layout.specs.Lists.{sum}
 use Rattle.layout.specs.Patterns.{Pattern}
-use Rattle.layout.specs.Blocks.{blockRows}
+use Rattle.layout.specs.Blocks.{blockRows, overlapRows}
 use Rattle.layout.proofs.Tests.{differ}
 use Rattle.utils.proofs.Windows.{marked-none}
 use Rattle.supernode_tree.specs.Reads.{headOf, patternAt}
-use Rattle.supernode_tree.specs.Sizes.{overlapRows}
 use Rattle.supernode_tree.proofs.Words.{head-found}
 use Rattle.supernode_tree.proofs.Cliques.{pattern-head}
 use Rattle.supernode_tree.proofs.Patterns.{patternsFrom, patterns-start}

@@ -4,12 +4,13 @@ use mathlib.Core.Path.{_≡_, refl, sym, ap, _∙_}
 use mathlib.Core.List.{List, map}
 use lib.ListN.{length, drop}
 use borrow.Author.Tests.{not-false}
+use Rattle.supernode_tree.specs.Sizes.{dimOf, overlapsOf}
 use Rattle.layout.specs.Lists.{all, sum}
 use Rattle.layout.specs.Triangle.{triangle}
 use Rattle.layout.specs.Patterns.{Clique, readCliques}
 use Rattle.supernode_tree.specs.Reads.{Whole, rest, cliquesFrom, cliqueOf}
 use Rattle.supernode_tree.proofs.Cliques.{first-whole, whole-next, rest-next, rest-none, from-next, from-none, separator-part, separator-size, block-size, clique-goes}
-use Rattle.supernode_tree.proofs.Sizes.{rowsOf, overlapsOf, triangle-small, sum-cons, sum-none}
+use Rattle.supernode_tree.proofs.Sizes.{triangle-small, sum-cons, sum-none}
 use Rattle.clique_tree.specs.Trees.{separatorOk, separatorsOk}
 use native.Mathlib.Omega.{arith}
 use borrow.Author.Needs.{needs}
@@ -25,7 +26,7 @@ Inv-loop words first count offsets n marks₀ dim₀ overlaps₀ at₀ left₀ m
     let cs = cliquesFrom words first count in
     let ds = cliquesFrom words at left in
     Whole words at left × (separatorsOk cs ≡ all (right cs) ds) × (length marks ≡ length marks₀)
-    × (dim + sum (map rowsOf ds) ≡ sum (map rowsOf cs)) × (overlaps + sum (map overlapsOf ds) ≡ sum (map overlapsOf cs))
+    × (dim + sum (map dimOf ds) ≡ sum (map dimOf cs)) × (overlaps + sum (map overlapsOf ds) ≡ sum (map overlapsOf cs))
     × (dim + left * 32896 ≤ count * 32896) × (overlaps + left * 32896 ≤ count * 32896)
     × (rest (readCliques count (drop first words)) ≡ rest (readCliques left (drop at words))) × (at ≤ length words)
 
@@ -120,7 +121,7 @@ loop-again c =
       sym (whole-next ws at left _ e more q refl) ∙ l .loop .inv .0,
       clique-goes ws at left _ e more q refl (l .loop .inv .0) (right cs) _ (right cs (cliqueOf ws q)) (l .loop .inv .1) refl ok,
       omega arith,
-      sum-cons rowsOf (cliqueOf ws q) others _ (l .loop .dim) (d .result) _ first (d .ensures ∙ ap triangle (c .before .before .before .before .before .before .before .before .before .get-nblk .ensures ∙ sym (block-size ws at q inside))) (l .loop .inv .3),
+      sum-cons dimOf (cliqueOf ws q) others _ (l .loop .dim) (d .result) _ first (d .ensures ∙ ap triangle (c .before .before .before .before .before .before .before .before .before .get-nblk .ensures ∙ sym (block-size ws at q inside))) (l .loop .inv .3),
       sum-cons overlapsOf (cliqueOf ws q) others _ (l .loop .overlaps) (o .result) _ first (o .ensures ∙ ap triangle (sym (separator-size ws at q inside))) (l .loop .inv .4),
       omega (arith, d .ensures, triangle-small _ (c .before .before .before .before .before .before .before .before .if1 .left)),
       omega (arith, o .ensures, triangle-small (q .«separator_count») (omega (arith, c .before .before .before .before .before .before .before .before .before .get-nblk .ensures, c .before .before .before .before .before .before .before .before .if1 .left))),
@@ -145,7 +146,7 @@ returns-3 c =
         after = l .loop .inv .7 ∙ rest-none ws at left (c .loop-test .left);
         inside = l .loop .inv .8;
         right = l .loop .inv .1 ∙ ap (all (right cs)) none;
-        dim = sum-none rowsOf (cliquesFrom ws at left) (l .loop .dim) _ none (l .loop .inv .3);
+        dim = sum-none dimOf (cliquesFrom ws at left) (l .loop .dim) _ none (l .loop .inv .3);
         overlaps = sum-none overlapsOf (cliquesFrom ws at left) (l .loop .overlaps) _ none (l .loop .inv .4);
       },
       (omega arith, omega arith),

@@ -10,8 +10,9 @@ use Rattle.layout.specs.Problem.{Problem, problem, standard, zero64}
 use Rattle.layout.specs.Blocks.{blockRowCount}
 use Rattle.layout.specs.Checks.{layout}
 use Rattle.layout.specs.Compact.{extendedP}
-use Rattle.layout.proofs.Accepted.{accepted-sound}
-use Rattle.augment.proofs.Laws.{starts-P, rooms-P, right-A, length-b, few-entries, few-rows, starts-A, rows-A, values-A}
+use Rattle.layout.proofs.Accepted.{accepted-sound, accepted-checked}
+use Rattle.layout.proofs.Columns.{right-A}
+use Rattle.augment.proofs.Laws.{rooms-P, few-rows, starts-A, rows-A, values-A}
 use Rattle.augment.proofs.decomp_augment_standard.Statement.{statement}
 use Rattle.augment.proofs.decomp_augment_standard.Tie as tie
 
@@ -32,19 +33,19 @@ rooms-A s =
       omega (arith, right-A standard (cutOf s) (s .pre .0) .count, r .0),
       omega (arith, right-A standard (cutOf s) (s .pre .0) .even, r .1),
       r .2,
-      omega (arith, length-b standard (cutOf s) (s .pre .0), r .3),
+      omega (arith, accepted-checked standard (cutOf s) (s .pre .0) .lengthB, r .3),
     )
 
 few : (s : tie.Start) → s .args .m + s .args .k ≤ 262144
 few s = omega (arith, few-rows (cutOf s) (s .pre .0), s .pre .1 .0)
 
 write-p-requires : tie.Need-write-p-requires
-write-p-requires c κs = let s = c .before .before .before .before .before .before .before .before .before .before .before .before .before .before .before .before .before .before .before .before .before .before .before .before .before in (starts-P standard (cutOf s) (s .pre .0), rooms-P standard (cutOf s) (s .pre .0) (s .args .k) _ _ _ _ (s .pre .1 .1 .0))
+write-p-requires c κs = let s = c .before .before .before .before .before .before .before .before .before .before .before .before .before .before .before .before .before .before .before .before .before .before .before .before .before in (accepted-checked standard (cutOf s) (s .pre .0) .startsP, rooms-P standard (cutOf s) (s .pre .0) (s .args .k) _ _ _ _ (s .pre .1 .1 .0))
 
 write-standard-a-requires : tie.Need-write-standard-a-requires
 write-standard-a-requires c κs =
     let s = c .before .before .before .before .before .before .before .before .before .before .before .before .before .before .before .before .before .before .before .before .before .before .before .before .before .before .before .before .before .before .before .before .before .before .before .before .before .before in
-    (accepted-sound standard (cutOf s) (s .pre .0), ((s .pre .1 .0, few s, few-entries standard (cutOf s) (s .pre .0)), rooms-A s))
+    (accepted-sound standard (cutOf s) (s .pre .0), ((s .pre .1 .0, few s, accepted-checked standard (cutOf s) (s .pre .0) .fewEntriesA), rooms-A s))
 
 write-standard-cones-requires : tie.Need-write-standard-cones-requires
 write-standard-cones-requires c κs =

@@ -2,12 +2,14 @@ use native.Mathlib.Omega.{arith}
 use borrow.Author.Needs.{needs}
 use Rattle.layout.specs.Blocks.{standardRows}
 use Rattle.layout.specs.Answers.{joinedParts}
-use Rattle.csc.proofs.Writing.{written-after}
+use Rattle.layout.proofs.Buffers.{written-after}
 use Rattle.augment_standard.specs.Beside.{hRows}
 use Rattle.augment_standard.proofs.Columns.{length-hRows}
 use Rattle.augment.proofs.Laws.{rows-count}
 use Rattle.augment.proofs.standard_a_rows.Statement.{statement}
 use Rattle.augment.proofs.standard_a_rows.Tie as tie
+use lib.ListN.{length}
+use mathlib.Core.Path.{refl}
 
 copy-numbers-requires : tie.Need-copy-numbers-requires
 copy-numbers-requires c κs = search needs
@@ -37,7 +39,7 @@ returns c =
     let s = g .before .before .before .before .before .before in
     let a = s .args in
     let os = standardRows (joinedParts (a .cones .now) (a .count) (a .words .now)) in
-    written-after (a .a-rows .now) (hRows (a .m) os) (a .out .now) (omega (arith, length-hRows (a .m) os, rows-count (s .pre .0), s .pre .1)) (g .copy-numbers .ensures) (f .h-rows .ensures)
+    written-after (a .a-rows .now) (hRows (a .m) os) (a .out .now) (length (a .a-rows .now)) refl (omega (arith, length-hRows (a .m) os, rows-count (s .pre .0), s .pre .1)) (g .copy-numbers .ensures) (f .h-rows .ensures)
 
 pub standard-a-rows-spec : {M : Type 1} → statement M
 standard-a-rows-spec =

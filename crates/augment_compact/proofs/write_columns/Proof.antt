@@ -11,8 +11,8 @@ use Rattle.layout.specs.Problem.{Csc}
 use Rattle.layout.specs.Compact.{Entry, column, csc}
 use Rattle.layout.proofs.Columns.{RightStarts, starts-right}
 use Rattle.layout.proofs.Starts.{length-written}
+use Rattle.columns.proofs.Parts.{written-on}
 use Rattle.csc.specs.Matrix.{matrix}
-use Rattle.columns.proofs.Parts.{written-next}
 use Rattle.columns.specs.Column.{entries, codedColumn}
 use Rattle.augment_compact.proofs.Columns.{columns-more, column-part, column-placing, columns-start, columns-room}
 use Rattle.augment_compact.specs.Cut.{codedColumns}
@@ -123,11 +123,11 @@ loop-again c =
       f .move-column .ensures .1 .1 .1 ∙ l .loop .inv .2,
       f .move-column .ensures .0
           ∙ rw (l .loop .inv .1) (rw this
-          (written-next (csc (codedColumns k (M s) codes) .rows) (map r (codedColumn codes (column (M s) k))) (a .rows-out .now) (getD (a .starts .now) k 0) (sym (columns-start (a .n) (M s) codes (a .place .now) (right s) (s .pre .0 .1) (s .pre .1 .0 .0) r k (l .loop .inv .0))) (l .loop .inv .3)
+          (written-on (csc (codedColumns k (M s) codes) .rows) (map r (codedColumn codes (column (M s) k))) (a .rows-out .now) (getD (a .starts .now) k 0) (sym (columns-start (a .n) (M s) codes (a .place .now) (right s) (s .pre .0 .1) (s .pre .1 .0 .0) r k (l .loop .inv .0))) (l .loop .inv .3)
           ∙ ap (λ (xs : List ℕ). written xs (a .rows-out .now)) (sym (columns-more r k (M s) codes)))),
       f .move-column .ensures .1 .0
           ∙ rw (l .loop .inv .1) (rw this
-          (written-next (csc (codedColumns k (M s) codes) .values) (map v (codedColumn codes (column (M s) k))) (a .values-out .now) (getD (a .starts .now) k 0) (sym (columns-start (a .n) (M s) codes (a .place .now) (right s) (s .pre .0 .1) (s .pre .1 .0 .0) v k (l .loop .inv .0))) (l .loop .inv .4)
+          (written-on (csc (codedColumns k (M s) codes) .values) (map v (codedColumn codes (column (M s) k))) (a .values-out .now) (getD (a .starts .now) k 0) (sym (columns-start (a .n) (M s) codes (a .place .now) (right s) (s .pre .0 .1) (s .pre .1 .0 .0) v k (l .loop .inv .0))) (l .loop .inv .4)
           ∙ ap (λ (xs : List Float). written xs (a .values-out .now)) (sym (columns-more v k (M s) codes)))),
     )
 

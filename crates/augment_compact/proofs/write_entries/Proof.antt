@@ -11,11 +11,10 @@ use Rattle.layout.specs.Problem.{Csc, one64, minusOne64}
 use Rattle.layout.specs.Compact.{Entry, csc}
 use Rattle.layout.proofs.Columns.{RightStarts, starts-right}
 use Rattle.layout.proofs.Starts.{length-written}
-use Rattle.layout.proofs.Buffers.{length-tail}
+use Rattle.layout.proofs.Buffers.{length-tail, written-after}
 use Rattle.csc.specs.Matrix.{matrix}
 use Rattle.augment_standard.specs.Beside.{pairValues}
 use Rattle.augment_standard.proofs.Columns.{length-pairs}
-use Rattle.columns.proofs.Parts.{written-tail}
 use Rattle.augment_compact.proofs.Columns.{columns-start}
 use Rattle.augment_compact.specs.Cut.{codedColumns, tiedRows}
 use Rattle.augment_compact.proofs.write_entries.Statement.{statement}
@@ -112,7 +111,7 @@ rows-end : (c : tie.After-slice-known12) → let s = c .before .before .before .
 rows-end c =
     let w = c .before .before .before .before .before .before .before .before .before .before .before .before .before .before .before .before .before in
     let s = c .before .before .before .before .before .before .before .before .before .before .before .before .before .before .before .before .before .before .before .before .before .before .before .before .before .before .before .before .before .before .before .before .before .before .before .before in
-    written-tail (moved s .rows) (tiedRows 0 (s .args .codes .now)) (s .args .rows-out .now) (length (s .args .rows .now)) (sym (rows-count s))
+    written-after (moved s .rows) (tiedRows 0 (s .args .codes .now)) (s .args .rows-out .now) (length (s .args .rows .now)) (sym (rows-count s))
     (omega (arith, rows-count s, s .pre .1 .1 .0)) (w .write-columns .ensures .0)
     (rw (w .write-columns .ensures .1 .1 .0) at (c .before .before .before .before .before .before .write-overlap-rows .ensures))
 
@@ -125,7 +124,7 @@ unfolding ofBits neg
 values-end c =
     let w = c .before .before .before .before .before .before .before .before .before .before .before .before .before .before .before .before .before in
     let s = c .before .before .before .before .before .before .before .before .before .before .before .before .before .before .before .before .before .before .before .before .before .before .before .before .before .before .before .before .before .before .before .before .before .before .before .before in
-    written-tail (moved s .values) (pairValues minusOne64 one64 (s .args .k)) (s .args .values-out .now) (length (s .args .values .now)) (sym (values-count s))
+    written-after (moved s .values) (pairValues minusOne64 one64 (s .args .k)) (s .args .values-out .now) (length (s .args .values .now)) (sym (values-count s))
     (omega (arith, values-count s, length-pairs minusOne64 one64 (s .args .k), s .pre .1 .1 .1)) (w .write-columns .ensures .1 .0)
     (c .before .before .write-pairs .ensures)
 

@@ -1,15 +1,14 @@
 use Prim.Native.Nat.{_≤_, _<_, _-_, _+_}
 use native.Mathlib.Omega.{arith}
-use mathlib.Core.List.{[], _∷_, _++_}
+use mathlib.Core.List.{[], _∷_, _++_, append-nil}
 use mathlib.Core.Path.{_≡_, ap, sym, _∙_}
 use mathlib.Core.Logic.{⊎-elim}
 use lib.ListN.{length, getD, take, length-set, length-append}
 use lib.Seq.{take-all}
 use borrow.Author.Tests.{lt-ltb, le-ltb}
 use borrow.Author.Needs.{needs}
-use Rattle.layout.proofs.Keeps.{append-nil}
 use Rattle.layout.specs.Lists.{written}
-use Rattle.csc.proofs.Writing.{two-more}
+use Rattle.layout.proofs.Buffers.{two-more}
 use Rattle.augment_compact.proofs.Steps.{tied-more, tied-le}
 use Rattle.augment_compact.specs.Cut.{tie, tiedRows}
 use Rattle.augment_compact.proofs.write_overlap_rows.Statement.{statement}

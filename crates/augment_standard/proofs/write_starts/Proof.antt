@@ -1,10 +1,12 @@
 use native.Mathlib.Omega.{arith}
 use borrow.Author.Needs.{needs}
-use Rattle.csc.proofs.Writing.{written-after}
+use Rattle.layout.proofs.Buffers.{written-after}
 use Rattle.augment_standard.specs.Beside.{hStarts}
 use Rattle.augment_standard.proofs.Columns.{length-hStarts}
 use Rattle.augment_standard.proofs.write_starts.Statement.{statement}
 use Rattle.augment_standard.proofs.write_starts.Tie as tie
+use lib.ListN.{length}
+use mathlib.Core.Path.{refl}
 
 copy-numbers-requires : tie.Need-copy-numbers-requires
 copy-numbers-requires c κs = search needs
@@ -32,7 +34,7 @@ returns c =
     let f = c .before .before in
     let g = f .before .before .before .before in
     let a = g .before .before .before .before .args in
-    written-after (a .starts .now) (hStarts (a .entries) (a .k)) (a .out .now) (omega (arith, length-hStarts (a .entries) (a .k))) (g .copy-numbers .ensures) (f .write-h-starts .ensures)
+    written-after (a .starts .now) (hStarts (a .entries) (a .k)) (a .out .now) (length (a .starts .now)) refl (omega (arith, length-hStarts (a .entries) (a .k))) (g .copy-numbers .ensures) (f .write-h-starts .ensures)
 
 pub write-starts-spec : {M : Type 1} → statement M
 write-starts-spec =

@@ -2,11 +2,13 @@ use native.Mathlib.Omega.{arith}
 use borrow.Author.Needs.{needs}
 use lib.Ieee.{ofBits, neg}
 use Rattle.layout.specs.Problem.{one64, minusOne64}
-use Rattle.csc.proofs.Writing.{written-after}
 use Rattle.augment_standard.specs.Beside.{pairValues}
 use Rattle.augment_standard.proofs.Columns.{length-pairs}
+use Rattle.layout.proofs.Buffers.{written-after}
 use Rattle.augment_standard.proofs.write_values.Statement.{statement}
 use Rattle.augment_standard.proofs.write_values.Tie as tie
+use lib.ListN.{length}
+use mathlib.Core.Path.{refl}
 
 copy-values-requires : tie.Need-copy-values-requires
 copy-values-requires c κs = search needs
@@ -35,7 +37,7 @@ returns c =
     let f = c .before .before in
     let g = f .before .before .before .before in
     let a = g .before .before .before .before .args in
-    written-after (a .values .now) (pairValues one64 minusOne64 (a .k)) (a .out .now) (omega (arith, length-pairs one64 minusOne64 (a .k))) (g .copy-values .ensures) (f .write-pairs .ensures)
+    written-after (a .values .now) (pairValues one64 minusOne64 (a .k)) (a .out .now) (length (a .values .now)) refl (omega (arith, length-pairs one64 minusOne64 (a .k))) (g .copy-values .ensures) (f .write-pairs .ensures)
 
 pub write-values-spec : {M : Type 1} → statement M
 write-values-spec =

@@ -5,14 +5,14 @@ use mathlib.Core.List.{List}
 use borrow.Author.Tests.{not-true, not-false}
 use lib.ListN.{length, getD, replicate}
 use lib.Dec.{ltb, ltb→lt}
-use Rattle.layout.specs.Lists.{has, all}
+use Rattle.layout.specs.Lists.{has, all, Below}
 use Rattle.layout.specs.Cones.{records}
 use Rattle.layout.specs.Patterns.{patterns}
 use Rattle.layout.specs.Blocks.{parts}
 use Rattle.layout.specs.Checks.{coveredRows, valuesOn}
 use Rattle.layout.proofs.Members.{all-at}
 use Rattle.layout.proofs.Tests.{and-true, and-false}
-use Rattle.chordal_info.specs.Covered.{Below, rowsMarked, valuesMarked}
+use Rattle.chordal_info.specs.Covered.{rowsMarked, valuesMarked}
 use Rattle.blocks.specs.Vertices.{marked}
 use Rattle.chordal_info.proofs.Marks.{cleared-rows, cleared-values}
 use native.Mathlib.Omega.{arith}

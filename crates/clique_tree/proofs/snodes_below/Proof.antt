@@ -1,7 +1,7 @@
 use Rattle.clique_tree.specs.Trees.{snodesOf}
 use Rattle.supernode_tree.proofs.Cliques.{first-whole, whole-next, from-next, from-none, snode-part}
-use Rattle.vertex_set.proofs.Walks.{all-append}
 use Rattle.layout.proofs.Tests.{and-cases}
+use Rattle.layout.proofs.Walks.{all-append}
 use Rattle.supernode_tree.specs.Reads.{Whole, cliquesFrom, cliqueOf}
 use Rattle.layout.specs.Patterns.{Clique}
 use Rattle.layout.specs.Lists.{all, join}

@@ -1,5 +1,4 @@
 use Rattle.clique_tree.specs.Trees.{snodesOf}
-use Rattle.layout.proofs.Keeps.{append-nil}
 use Rattle.layout.proofs.Tests.{passes, passed}
 use Rattle.supernode_tree.proofs.Cliques.{first-whole, whole-next, from-next, from-none, snode-part}
 use Rattle.clique_tree.proofs.Snodes.{repeats-front}
@@ -13,7 +12,7 @@ use lib.ListN.{length}
 use lib.Dec.{T}
 use Prim.Native.Nat.{ℕ, _-_}
 use mathlib.Core.Path.{_≡_, refl, sym, ap, _∙_}
-use mathlib.Core.List.{List, [], _++_, append-assoc}
+use mathlib.Core.List.{List, [], _++_, append-assoc, append-nil}
 use mathlib.Core.Bool.{Bool, true}
 use native.Mathlib.Omega.{arith}
 use borrow.Author.Needs.{needs}

@@ -9,8 +9,9 @@ use Rattle.layout.specs.Problem.{Problem, problem, compact, zero64}
 use Rattle.layout.specs.Blocks.{overlapCount}
 use Rattle.layout.specs.Checks.{layout}
 use Rattle.layout.specs.Compact.{extendedP}
-use Rattle.layout.proofs.Accepted.{accepted-sound}
-use Rattle.augment.proofs.Laws.{starts-P, rooms-P, right-A}
+use Rattle.layout.proofs.Accepted.{accepted-sound, accepted-checked}
+use Rattle.layout.proofs.Columns.{right-A}
+use Rattle.augment.proofs.Laws.{rooms-P}
 use Rattle.compact_cut.proofs.write_all_but_map.Statement.{statement}
 use Rattle.compact_cut.proofs.write_all_but_map.Tie as tie
 
@@ -22,7 +23,7 @@ cutOf s =
     (s .args .cones .now) (s .args .alphas .now) (s .args .count) (s .args .words .now)
 
 write-p-requires : tie.Need-write-p-requires
-write-p-requires c κs = let s = c .before .before .before .before .before .before .before .before .before .before .before .before .before .before .before .before .before .before .before .before .before .before .before .before .before in (starts-P compact (cutOf s) (s .pre .0), rooms-P compact (cutOf s) (s .pre .0) (s .args .k) _ _ _ _ (s .pre .1 .1 .0))
+write-p-requires c κs = let s = c .before .before .before .before .before .before .before .before .before .before .before .before .before .before .before .before .before .before .before .before .before .before .before .before .before in (accepted-checked compact (cutOf s) (s .pre .0) .startsP, rooms-P compact (cutOf s) (s .pre .0) (s .args .k) _ _ _ _ (s .pre .1 .1 .0))
 
 write-compact-a-requires : tie.Need-write-compact-a-requires
 write-compact-a-requires c κs =

@@ -4,7 +4,7 @@ use mathlib.Core.Path.{_≡_}
 use borrow.Author.Needs.{needs}
 use lib.ListN.{length, replicate, length-set}
 use Rattle.layout.specs.Lists.{written}
-use Rattle.csc.proofs.Writing.{fill-more}
+use Rattle.layout.proofs.Buffers.{fill-more}
 use Rattle.csc.proofs.fill_values.Statement.{statement}
 use Rattle.csc.proofs.fill_values.Tie as tie
 

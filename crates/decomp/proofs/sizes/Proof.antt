@@ -8,12 +8,13 @@ use Rattle.layout.specs.Problem.{Problem, problem}
 use Rattle.layout.specs.Blocks.{blockRowCount, overlapCount}
 use Rattle.layout.specs.Checks.{layout, refusal}
 use Rattle.layout.specs.Answers.{orElse, roomRefusal, routeOf, onRoute, sizesRefusal}
-use Rattle.layout.proofs.Accepted.{accepted-sound}
+use Rattle.layout.proofs.Accepted.{accepted-sound, accepted-checked}
 use Rattle.checks.proofs.Order.{first-given}
 use Rattle.chordal_info.specs.Sizes.{Fitting, routeSizes}
 use Rattle.chordal_info.proofs.Sizes.{route-sizes}
 use Rattle.chordal_info.proofs.Counts.{accepted-fitting}
-use Rattle.decomp.proofs.Answers.{no-route, on-route, kept, accepted-checked, few-alphas}
+use Rattle.layout.proofs.Buffers.{output-kept}
+use Rattle.decomp.proofs.Answers.{no-route, on-route, few-alphas}
 use native.Mathlib.Omega.{arith}
 use borrow.Author.Needs.{needs}
 use Rattle.decomp.proofs.sizes.Statement.{statement}
@@ -49,7 +50,7 @@ returns-2 c =
     let s = start (k .before) in
     let e = k .refuse .ensures in (
       e ∙ sym (numbered (k .before) ∙ first-given (refusal (routeOf (s .args .route)) (given s)) (roomRefusal 11 (length (s .args .out .now))) (λ z. c .if2 .taken (e ∙ z))),
-      kept (k .refuse .result) _ (s .args .out .now) (c .if2 .taken),
+      output-kept (k .refuse .result) _ (s .args .out .now) (c .if2 .taken),
     )
 
 accepted : (c : tie.Else2) → let s = start (c .before .before) in refusal (routeOf (s .args .route)) (given s) ≡ 0

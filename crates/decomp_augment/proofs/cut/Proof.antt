@@ -5,7 +5,7 @@ use lib.ListN.{length}
 use Rattle.layout.specs.Problem.{Problem, standard, compact, problem}
 use Rattle.layout.specs.Answers.{onRoute, routeOf, cutRefusal}
 use Rattle.layout.proofs.Accepted.{accepted-sound}
-use Rattle.decomp.proofs.Answers.{kept}
+use Rattle.layout.proofs.Buffers.{output-kept}
 use Rattle.decomp_augment.proofs.Rooms.{Taken, taken, standard-rooms, compact-rooms, by-route}
 use native.Mathlib.Omega.{arith}
 use borrow.Author.Needs.{needs}
@@ -41,26 +41,26 @@ returns c =
     let r = k .refuse-cut .result in (
       k .refuse-cut .ensures,
       (
-        kept r _ (a .p-starts-out .now) (c .if1 .taken),
+        output-kept r _ (a .p-starts-out .now) (c .if1 .taken),
         (
-          kept r _ (a .p-rows-out .now) (c .if1 .taken),
+          output-kept r _ (a .p-rows-out .now) (c .if1 .taken),
           (
-            kept r _ (a .p-values-out .now) (c .if1 .taken),
+            output-kept r _ (a .p-values-out .now) (c .if1 .taken),
             (
-              kept r _ (a .q-out .now) (c .if1 .taken),
+              output-kept r _ (a .q-out .now) (c .if1 .taken),
               (
-                kept r _ (a .a-starts-out .now) (c .if1 .taken),
+                output-kept r _ (a .a-starts-out .now) (c .if1 .taken),
                 (
-                  kept r _ (a .a-rows-out .now) (c .if1 .taken),
+                  output-kept r _ (a .a-rows-out .now) (c .if1 .taken),
                   (
-                    kept r _ (a .a-values-out .now) (c .if1 .taken),
+                    output-kept r _ (a .a-values-out .now) (c .if1 .taken),
                     (
-                      kept r _ (a .b-out .now) (c .if1 .taken),
+                      output-kept r _ (a .b-out .now) (c .if1 .taken),
                       (
-                        kept r _ (a .cones-out .now) (c .if1 .taken),
+                        output-kept r _ (a .cones-out .now) (c .if1 .taken),
                         (
-                          kept r _ (a .alphas-out .now) (c .if1 .taken),
-                          kept r _ (a .map-out .now) (c .if1 .taken),
+                          output-kept r _ (a .alphas-out .now) (c .if1 .taken),
+                          output-kept r _ (a .map-out .now) (c .if1 .taken),
                         ),
                       ),
                     ),

@@ -6,7 +6,7 @@ use lib.ListN.{length}
 use Rattle.layout.specs.Problem.{Problem, problem, compact}
 use Rattle.layout.specs.Answers.{cutRefusal}
 use Rattle.layout.proofs.Accepted.{accepted-sound}
-use Rattle.decomp.proofs.Answers.{kept}
+use Rattle.layout.proofs.Buffers.{output-kept}
 use Rattle.decomp_augment.proofs.Rooms.{Taken, taken, compact-rooms}
 use Rattle.decomp_augment_entries.proofs.Rooms.{same-refusal}
 use Rattle.decomp_augment_entries.proofs.cut_but_map.Statement.{statement}
@@ -49,7 +49,7 @@ returns c =
     let k = c .before in
     let a = start k .args in
     let r = k .refuse-cut .result in
-    (number k, kept r _ (a .p-starts-out .now) (c .if1 .taken), kept r _ (a .p-rows-out .now) (c .if1 .taken), kept r _ (a .p-values-out .now) (c .if1 .taken), kept r _ (a .q-out .now) (c .if1 .taken), kept r _ (a .a-starts-out .now) (c .if1 .taken), kept r _ (a .a-rows-out .now) (c .if1 .taken), kept r _ (a .a-values-out .now) (c .if1 .taken), kept r _ (a .b-out .now) (c .if1 .taken), kept r _ (a .cones-out .now) (c .if1 .taken), kept r _ (a .alphas-out .now) (c .if1 .taken))
+    (number k, output-kept r _ (a .p-starts-out .now) (c .if1 .taken), output-kept r _ (a .p-rows-out .now) (c .if1 .taken), output-kept r _ (a .p-values-out .now) (c .if1 .taken), output-kept r _ (a .q-out .now) (c .if1 .taken), output-kept r _ (a .a-starts-out .now) (c .if1 .taken), output-kept r _ (a .a-rows-out .now) (c .if1 .taken), output-kept r _ (a .a-values-out .now) (c .if1 .taken), output-kept r _ (a .b-out .now) (c .if1 .taken), output-kept r _ (a .cones-out .now) (c .if1 .taken), output-kept r _ (a .alphas-out .now) (c .if1 .taken))
 
 -- nothing is refused
 accepted : (c : tie.Else1) → let s = start (c .before) in Taken compact (given s) (rooms s ++ (s .args .map-room * 3 ∷ []))

@@ -6,7 +6,8 @@ use lib.Ieee.{Float}
 use Rattle.layout.specs.Lists.{written}
 use Rattle.layout.specs.Problem.{Route, solution}
 use Rattle.layout.specs.Answers.{output, routeOf, onRoute, joinRefusal}
-use Rattle.decomp.proofs.Answers.{no-route, on-route, kept}
+use Rattle.layout.proofs.Buffers.{output-kept}
+use Rattle.decomp.proofs.Answers.{no-route, on-route}
 use Rattle.decomp_reverse.proofs.Order.{Accepted, join-accepted, joined-parts, joined-scalars}
 use borrow.Author.Needs.{needs}
 use Rattle.decomp_reverse.proofs.join.Statement.{statement}
@@ -35,7 +36,7 @@ returns-2 : tie.Need-returns-2
 returns-2 c =
     let k = c .before in
     let a = start (k .before) .args in
-    let keeps : (old new : List Float) → old ≡ output (k .refuse-join .result) new old = λ old new. kept (k .refuse-join .result) new old (c .if2 .taken) in
+    let keeps : (old new : List Float) → old ≡ output (k .refuse-join .result) new old = λ old new. output-kept (k .refuse-join .result) new old (c .if2 .taken) in
     (k .refuse-join .ensures ∙ sym (numbered (k .before)), (keeps _ _, (keeps _ _, (keeps _ _, keeps _ _))))
 
 -- nothing was refused

@@ -1,6 +1,6 @@
 use mathlib.Core.Path.{refl}
 use mathlib.Core.List.{[]}
-use Rattle.csc.proofs.Writing.{two-more}
+use Rattle.layout.proofs.Buffers.{two-more}
 use native.Mathlib.Omega.{arith}
 use borrow.Author.Needs.{needs}
 use Rattle.decomp_reverse.proofs.write_scalars.Statement.{statement}

@@ -6,7 +6,7 @@ use Rattle.layout.specs.Lists.{written}
 use Rattle.layout.specs.Problem.{compact, solution}
 use Rattle.layout.specs.Compact.{coneMap, mapWords}
 use Rattle.layout.specs.Answers.{output, joinedParts}
-use Rattle.decomp.proofs.Answers.{kept}
+use Rattle.layout.proofs.Buffers.{output-kept}
 use Rattle.decomp_reverse.proofs.Order.{Accepted, join-accepted, joined-parts, joined-scalars}
 use Rattle.decomp_reverse_entries.specs.Refusals.{refusalAs}
 use Rattle.decomp_reverse_entries.proofs.Order.{as-joined}
@@ -23,7 +23,7 @@ refuse-as-requires c κs = search needs
 returns : tie.Need-returns
 returns c =
     let k = c .before in
-    let keeps : (old new : List Float) → old ≡ output (k .refuse-as .result) new old = λ old new. kept (k .refuse-as .result) new old (c .if1 .taken) in
+    let keeps : (old new : List Float) → old ≡ output (k .refuse-as .result) new old = λ old new. output-kept (k .refuse-as .result) new old (c .if1 .taken) in
     (k .refuse-as .ensures, keeps _ _, keeps _ _, keeps _ _, keeps _ _)
 
 -- nothing was refused

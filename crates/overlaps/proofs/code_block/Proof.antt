@@ -7,7 +7,7 @@ use Rattle.layout.specs.Triangle.{triangle}
 use Rattle.layout.proofs.Triangles.{triangle-suc, triangle-mono}
 use Rattle.layout.proofs.Starts.{length-written}
 use Rattle.blocks.specs.Columns.{columnPairs}
-use Rattle.blocks.proofs.Writing.{written-next}
+use Rattle.layout.proofs.Buffers.{written-next}
 use Rattle.blocks.proofs.Columns.{columnsBelow, columns-more, length-more, length-column}
 use Rattle.overlaps.specs.Places.{placeCode}
 use native.Mathlib.Omega.{arith}

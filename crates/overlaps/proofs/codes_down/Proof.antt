@@ -5,7 +5,7 @@ use lib.ListN.{length, take, drop, length-append, length-take, length-drop, drop
 use Rattle.layout.specs.Lists.{written, join, below}
 use Rattle.layout.proofs.Members.{length-upFrom}
 use Rattle.layout.proofs.Starts.{length-written}
-use Rattle.blocks.proofs.Writing.{written-next}
+use Rattle.layout.proofs.Buffers.{written-next}
 use Rattle.overlaps.specs.Tables.{codesHere}
 use Rattle.overlaps.proofs.Codes.{numbers-more, numbers-room}
 use native.Mathlib.Omega.{arith}

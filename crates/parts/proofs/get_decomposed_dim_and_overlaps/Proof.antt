@@ -5,9 +5,8 @@ use lib.ListN.{length, getD}
 use mathlib.Core.Path.{subst}
 use Rattle.layout.specs.Cones.{records}
 use Rattle.layout.specs.Patterns.{Pattern, patterns}
-use Rattle.layout.specs.Blocks.{Part, whole, cut, parts, partRows, partOverlaps, blockRowCount, overlapCount}
+use Rattle.layout.specs.Blocks.{Part, whole, cut, parts, partRows, partOverlaps, blockRowCount, overlapCount, partCones, coneCount}
 use Rattle.layout.specs.Checks.{noCone}
-use Rattle.layout.proofs.Sizes.{partCones, coneCount}
 use Rattle.supernode_tree.specs.Reads.{patternAt}
 use Rattle.parts.specs.Ahead.{ahead, Stands, meets, Knows}
 use Rattle.parts.specs.declared.Met.the-variants.{Whole, Cut}

@@ -10,10 +10,10 @@ use Rattle.layout.specs.Lists.{sum, part}
 use Rattle.layout.specs.Triangle.{triangle}
 use Rattle.layout.specs.Cones.{records}
 use Rattle.layout.specs.Patterns.{Pattern}
-use Rattle.layout.specs.Blocks.{Part, whole, cut, partRows, blockRows, blockRowCount}
+use Rattle.layout.specs.Blocks.{Part, whole, cut, partRows, blockRows, blockRowCount, coneRows}
 use Rattle.layout.specs.Checks.{noCone, namesItsCone}
 use Rattle.layout.specs.Answers.{joinedParts}
-use Rattle.layout.proofs.Laid.{coneRows, sound-total}
+use Rattle.layout.proofs.Laid.{sound-total}
 use Rattle.supernode_tree.specs.Reads.{patternAt}
 use Rattle.parts.specs.Ahead.{patternsAhead, ahead, Stands, meets, Knows}
 use Rattle.parts.specs.declared.Met.the-variants.{Whole, Cut}

@@ -10,7 +10,7 @@ use Rattle.layout.specs.Blocks.{blockRows}
 use Rattle.layout.specs.Reverse.{addColumns}
 use Rattle.layout.proofs.Triangles.{triangle-mono}
 use Rattle.supernode_tree.specs.Reads.{patternAt}
-use Rattle.csc.proofs.Writing.{filled}
+use Rattle.layout.proofs.Buffers.{filled}
 use Rattle.reverse_blocks.specs.Joins.{Countable, joinZ, ownRows}
 use Rattle.reverse_cones.specs.Parts.{zAveraged, CountsRows, Cleared}
 use Rattle.reverse_cones.proofs.Laws.{rows-kept, countable, averaged-by}

@@ -1,14 +1,11 @@
 use mathlib.Core.Path.{ap, sym, _∙_}
 use mathlib.Core.Bool.{Bool}
-use mathlib.Core.List.{List, _++_}
-use lib.ListN.{length, drop-of-length-le}
-use lib.Ieee.{Float}
-use Rattle.layout.proofs.Keeps.{append-nil}
 use Rattle.reverse_cones.specs.Parts.{wholeValues}
 use native.Mathlib.Omega.{arith}
 use borrow.Author.Needs.{needs}
 use Rattle.reverse_cones.proofs.whole_values.Statement.{statement}
 use Rattle.reverse_cones.proofs.whole_values.Tie as tie
+use Rattle.layout.proofs.Buffers.{written-whole}
 
 sum-rows-requires : tie.Need-sum-rows-requires
 sum-rows-requires c κs = search needs
@@ -31,7 +28,7 @@ returns-2 c =
     let s = e .before .before .before in
     let vs = s .args .values .now in
     c .before .before .copy-values .ensures
-    ∙ ap (λ (r : List Float). vs ++ r) (drop-of-length-le (s .args .out .now) {i = length vs} (omega (arith, s .pre))) ∙ append-nil vs
+    ∙ written-whole vs (s .args .out .now) (omega (arith, s .pre))
     ∙ ap (λ (b : Bool). wholeValues b vs) (sym (e .if1 .left))
 
 pub whole-values-spec : {M : Type 1} → statement M

@@ -1,13 +1,12 @@
 use Prim.Native.Nat.{_≤_, _-_}
 use mathlib.Core.Path.{_≡_, ap, sym, _∙_}
-use mathlib.Core.List.{List, map, _++_}
-use lib.ListN.{length, take, set, length-set, length-map, drop-of-length-le}
-use lib.Ieee.{Float, nan, add, binary64, ofBits}
+use mathlib.Core.List.{map}
+use lib.ListN.{length, take, set, length-set, length-map}
+use lib.Ieee.{nan, add, binary64, ofBits}
 use Rattle.layout.specs.Lists.{written}
 use Rattle.layout.specs.Problem.{zero64}
 use Rattle.layout.proofs.Members.{getD-map}
-use Rattle.layout.proofs.Keeps.{append-nil}
-use Rattle.layout.proofs.Buffers.{copy-more, copy-done}
+use Rattle.layout.proofs.Buffers.{copy-more, copy-done, written-whole}
 use native.Mathlib.Omega.{arith}
 use borrow.Author.Needs.{needs}
 use Rattle.reverse_standard.proofs.sum_rows.Statement.{statement}
@@ -66,7 +65,7 @@ returns c =
     let vs = map (add binary64 zero64) (a .values .now) in
     let size = length-map (a .values .now) (add binary64 zero64) in
     l .loop .inv .2 ∙ copy-done vs (a .out .now) (l .loop .i) (omega (arith, size))
-    ∙ ap (λ (r : List Float). vs ++ r) (drop-of-length-le (a .out .now) {i = length vs} (omega (arith, size, l .before .pre))) ∙ append-nil vs
+    ∙ written-whole vs (a .out .now) (omega (arith, size, l .before .pre))
 
 pub sum-rows-spec : {M : Type 1} → statement M
 sum-rows-spec =

@@ -5,7 +5,8 @@ use lib.ListN.{length, getD, set, length-set}
 use lib.Ieee.{Float, nan}
 use Rattle.layout.specs.Lists.{below, written}
 use Rattle.reverse_standard.specs.Averages.{averagedBy, shared}
-use Rattle.reverse_standard.proofs.Laws.{mapped-next, mapped-more, mapped-done}
+use Rattle.layout.proofs.Buffers.{mapped-more, mapped-done}
+use Rattle.reverse_standard.proofs.Laws.{mapped-next}
 use native.Mathlib.Omega.{arith}
 use borrow.Author.Needs.{needs}
 use Rattle.reverse_standard.proofs.take_averages.Statement.{statement}

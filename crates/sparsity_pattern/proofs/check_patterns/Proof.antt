@@ -6,7 +6,7 @@ use Rattle.layout.specs.Cones.{records}
 use Rattle.layout.specs.Patterns.{patterns, readPatterns, endsRight}
 use Rattle.layout.specs.Checks.{patternsRead, namesItsCone, originsRise, orderingsRight, isPermutation}
 use Rattle.supernode_tree.proofs.Tests.{four-tests}
-use Rattle.sparsity_pattern.proofs.Sparsity.{all-both}
+use Rattle.layout.proofs.Walks.{all-both}
 use borrow.Author.Needs.{needs}
 use Rattle.sparsity_pattern.proofs.check_patterns.Statement.{statement}
 use Rattle.sparsity_pattern.proofs.check_patterns.Tie as tie

@@ -7,7 +7,7 @@ use lib.Ieee.{Float, neg, ofBits}
 use borrow.Author.Needs.{needs}
 use Rattle.layout.specs.Lists.{below, written}
 use Rattle.stored.specs.Lists.{valueBefore}
-use Rattle.stored.proofs.Lists.{filled-more, filled-all}
+use Rattle.layout.proofs.Buffers.{mapped-more, mapped-done}
 use Rattle.stored.proofs.prefill_values.Statement.{statement}
 use Rattle.stored.proofs.prefill_values.Tie as tie
 
@@ -44,14 +44,14 @@ loop-again c =
     let l = c .before .before in (
       omega arith,
       simp length-set (l .loop .inv .1),
-      ap (λ (o : List Float). set o (l .loop .k) (valueBefore (l .loop .k))) (l .loop .inv .2) ∙ filled-more valueBefore (l .before .args .out .now) (l .loop .k) (omega arith),
+      ap (λ (o : List Float). set o (l .loop .k) (valueBefore (l .loop .k))) (l .loop .inv .2) ∙ mapped-more valueBefore (l .before .args .out .now) (l .loop .k) (omega arith),
     )
 
 same-length : tie.Need-same-length Inv-loop μ-loop
 same-length c = c .before .loop .inv .1
 
 returns : tie.Need-returns Inv-loop μ-loop
-returns c = c .before .loop .inv .2 ∙ filled-all valueBefore (c .before .before .args .out .now) (c .before .loop .k) (omega arith)
+returns c = c .before .loop .inv .2 ∙ mapped-done valueBefore (c .before .before .args .out .now) (c .before .loop .k) (omega arith)
 
 pub prefill-values-spec : {M : Type 1} → statement M
 prefill-values-spec =

@@ -6,7 +6,7 @@ use lib.ListN.{length, set, length-set}
 use borrow.Author.Needs.{needs}
 use Rattle.layout.specs.Lists.{below, written}
 use Rattle.stored.specs.Lists.{wordBefore}
-use Rattle.stored.proofs.Lists.{filled-more, filled-all}
+use Rattle.layout.proofs.Buffers.{mapped-more, mapped-done}
 use Rattle.stored.proofs.prefill_words.Statement.{statement}
 use Rattle.stored.proofs.prefill_words.Tie as tie
 
@@ -42,14 +42,14 @@ loop-again c =
     let l = c .before in (
       omega arith,
       simp length-set (l .loop .inv .1),
-      ap (λ (o : List ℕ). set o (l .loop .k) (wordBefore (l .loop .k))) (l .loop .inv .2) ∙ filled-more wordBefore (l .before .args .out .now) (l .loop .k) (omega arith),
+      ap (λ (o : List ℕ). set o (l .loop .k) (wordBefore (l .loop .k))) (l .loop .inv .2) ∙ mapped-more wordBefore (l .before .args .out .now) (l .loop .k) (omega arith),
     )
 
 same-length : tie.Need-same-length Inv-loop μ-loop
 same-length c = c .before .loop .inv .1
 
 returns : tie.Need-returns Inv-loop μ-loop
-returns c = c .before .loop .inv .2 ∙ filled-all wordBefore (c .before .before .args .out .now) (c .before .loop .k) (omega arith)
+returns c = c .before .loop .inv .2 ∙ mapped-done wordBefore (c .before .before .args .out .now) (c .before .loop .k) (omega arith)
 
 pub prefill-words-spec : {M : Type 1} → statement M
 prefill-words-spec =

@@ -5,8 +5,9 @@ use lib.ListN.{length, drop}
 use lib.Ieee.{nan}
 use borrow.Author.Tests.{not-true, not-false}
 use borrow.Author.Needs.{needs}
-use Rattle.stored.specs.Same.{sameBy, alikeValues}
-use Rattle.stored.proofs.Same.{same-lengths, same-step, same-miss, same-done}
+use Rattle.layout.specs.Lists.{sameBy}
+use Rattle.stored.specs.Same.{alikeValues}
+use Rattle.layout.proofs.Walks.{same-lengths, same-step, same-miss, same-done}
 use Rattle.stored.proofs.same_values.Statement.{statement}
 use Rattle.stored.proofs.same_values.Tie as tie
 

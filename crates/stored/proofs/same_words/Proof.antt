@@ -5,8 +5,8 @@ use lib.ListN.{length, drop}
 use lib.Dec.{eqb}
 use borrow.Author.Tests.{eq-eqb, ne-eqb}
 use borrow.Author.Needs.{needs}
-use Rattle.stored.specs.Same.{sameBy}
-use Rattle.stored.proofs.Same.{same-lengths, same-step, same-miss, same-done}
+use Rattle.layout.specs.Lists.{sameBy}
+use Rattle.layout.proofs.Walks.{same-lengths, same-step, same-miss, same-done}
 use Rattle.stored.proofs.same_words.Statement.{statement}
 use Rattle.stored.proofs.same_words.Tie as tie
 

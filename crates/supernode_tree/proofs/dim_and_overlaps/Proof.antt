@@ -10,8 +10,8 @@ use Rattle.layout.specs.Patterns.{blockSize}
 use Rattle.layout.proofs.Tests.{passes}
 use Rattle.supernode_tree.specs.Reads.{Whole, cliquesFrom, cliqueOf}
 use Rattle.supernode_tree.proofs.Cliques.{first-whole, whole-next, from-next, from-none, separator-size, block-size}
-use Rattle.supernode_tree.specs.Sizes.{atMost}
-use Rattle.supernode_tree.proofs.Sizes.{rowsOf, overlapsOf, triangle-small, all-cons, sum-cons, sum-none}
+use Rattle.supernode_tree.specs.Sizes.{atMost, dimOf, overlapsOf}
+use Rattle.supernode_tree.proofs.Sizes.{triangle-small, all-cons, sum-cons, sum-none}
 use native.Mathlib.Omega.{arith}
 use borrow.Author.Needs.{needs}
 use Rattle.supernode_tree.proofs.dim_and_overlaps.Statement.{statement}
@@ -20,7 +20,7 @@ use Rattle.supernode_tree.proofs.dim_and_overlaps.Tie as tie
 abbrev Inv-loop : tie.InvT-loop
 Inv-loop words first count dim₀ overlaps₀ at₀ left₀ dim overlaps at left =
     Whole words at left × (all (atMost 256) (cliquesFrom words at left) ≡ true)
-    × (dim + sum (map rowsOf (cliquesFrom words at left)) ≡ sum (map rowsOf (cliquesFrom words first count)))
+    × (dim + sum (map dimOf (cliquesFrom words at left)) ≡ sum (map dimOf (cliquesFrom words first count)))
     × (overlaps + sum (map overlapsOf (cliquesFrom words at left)) ≡ sum (map overlapsOf (cliquesFrom words first count)))
     × (dim + left * 32896 ≤ count * 32896) × (overlaps + left * 32896 ≤ count * 32896)
 
@@ -106,7 +106,7 @@ loop-again c =
     let cs = cliquesFrom ws (l .loop .at) (l .loop .left) in (
       next-whole k,
       all-cons (atMost 256) (cliqueOf ws q) others cs (first-of k) (l .loop .inv .1) .1,
-      sum-cons rowsOf (cliqueOf ws q) others cs (l .loop .dim) (t .triangular-number .result) _ (first-of k) (t .triangular-number .ensures ∙ ap triangle (t .before .get-nblk .ensures ∙ sym (sizes k .0))) (l .loop .inv .2),
+      sum-cons dimOf (cliqueOf ws q) others cs (l .loop .dim) (t .triangular-number .result) _ (first-of k) (t .triangular-number .ensures ∙ ap triangle (t .before .get-nblk .ensures ∙ sym (sizes k .0))) (l .loop .inv .2),
       sum-cons overlapsOf (cliqueOf ws q) others cs (l .loop .overlaps) (c .triangular-number2 .result) _ (first-of k) (c .triangular-number2 .ensures ∙ ap triangle (sym (sizes k .1))) (l .loop .inv .3),
       omega (arith, block-rows t),
       omega (arith, separator-rows c),
@@ -117,7 +117,7 @@ returns c =
     let l = c .before in
     let ws = l .before .before .args .words .now in
     let e = from-none ws (l .loop .at) (l .loop .left) (c .loop-test .left) in (
-      sum-none rowsOf (cliquesFrom ws (l .loop .at) (l .loop .left)) (l .loop .dim) _ e (l .loop .inv .2),
+      sum-none dimOf (cliquesFrom ws (l .loop .at) (l .loop .left)) (l .loop .dim) _ e (l .loop .inv .2),
       sum-none overlapsOf (cliquesFrom ws (l .loop .at) (l .loop .left)) (l .loop .overlaps) _ e (l .loop .inv .3),
     )
 

@@ -2,9 +2,8 @@ use mathlib.Core.Path.{_≡_, sym, ap, _∙_}
 use lib.ListN.{drop}
 use Rattle.layout.specs.Lists.{all}
 use Rattle.layout.specs.Patterns.{Pattern, read, readHead, withCliques}
-use Rattle.layout.specs.Blocks.{blockRows}
+use Rattle.layout.specs.Blocks.{blockRows, overlapRows}
 use Rattle.supernode_tree.specs.Reads.{patternAt, patternRead, headOf, Whole, cliquesFrom}
-use Rattle.supernode_tree.specs.Sizes.{overlapRows}
 use Rattle.supernode_tree.proofs.Words.{head-found}
 use Rattle.supernode_tree.proofs.Cliques.{no-head, right-whole, pattern-whole}
 use Rattle.supernode_tree.specs.Sizes.{atMost}

@@ -1,8 +1,8 @@
-use Rattle.utils.proofs.Windows.{fill-more, fill-done}
-use lib.ListN.{length, drop, replicate, length-set}
+use Rattle.layout.proofs.Buffers.{fill-more, filled}
+use Rattle.layout.specs.Lists.{written}
+use lib.ListN.{length, replicate, length-set}
 use Prim.Native.Nat.{_-_, _≤_}
 use mathlib.Core.Path.{_≡_, _∙_}
-use mathlib.Core.List.{_++_}
 use mathlib.Core.Bool.{false}
 use native.Mathlib.Omega.{arith}
 use borrow.Author.Needs.{needs}
@@ -10,7 +10,7 @@ use Rattle.utils.proofs.clear.Statement.{statement}
 use Rattle.utils.proofs.clear.Tie as tie
 
 abbrev Inv-loop : tie.InvT-loop
-Inv-loop marks₀ i₀ marks i = (i ≤ length marks₀) × (length marks ≡ length marks₀) × (marks ≡ replicate i false ++ drop i marks₀)
+Inv-loop marks₀ i₀ marks i = (i ≤ length marks₀) × (length marks ≡ length marks₀) × (marks ≡ written (replicate i false) marks₀)
 
 abbrev μ-loop : tie.MeasureT-loop
 μ-loop marks₀ i₀ marks i = length marks₀ - i
@@ -31,7 +31,7 @@ loop-again : tie.Need-loop-again Inv-loop μ-loop
 loop-again c =
     let l = c .before in
     let old = l .before .args .marks .now in
-    (omega arith, simp length-set (l .loop .inv .1), rw (l .loop .inv .2) (fill-more (l .loop .i) false old (omega arith)))
+    (omega arith, simp length-set (l .loop .inv .1), rw (l .loop .inv .2) (fill-more old (l .loop .i) false (omega arith)))
 
 same-length : tie.Need-same-length Inv-loop μ-loop
 same-length c = c .before .loop .inv .1
@@ -39,7 +39,7 @@ same-length c = c .before .loop .inv .1
 returns : tie.Need-returns Inv-loop μ-loop
 returns c =
     let l = c .before in
-    l .loop .inv .2 ∙ fill-done (l .loop .i) false (l .before .args .marks .now) (omega arith)
+    l .loop .inv .2 ∙ filled (l .before .args .marks .now) (l .loop .i) false (omega arith)
 
 pub clear-spec : {M : Type 1} → statement M
 clear-spec =
