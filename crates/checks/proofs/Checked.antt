@@ -1,18 +1,18 @@
 -- What a problem that checks 1 to 7 let pass says, and what a joining's inputs say.
 use Prim.Native.Nat.{ℕ, _≤_, _<_}
 use mathlib.Core.Path.{_≡_}
-use mathlib.Core.Bool.{_&&_, true}
+use mathlib.Core.Bool.{Bool, _&&_, true}
 use mathlib.Core.List.{List, [], _∷_}
 use lib.ListN.{take, getD}
 use lib.Dec.{T, leb, lit<}
 use Rattle.layout.specs.Problem.{Problem, standard}
 use Rattle.layout.specs.Lists.{all}
 use Rattle.layout.specs.Patterns.{patterns}
-use Rattle.layout.specs.Checks.{Sound, conesBounded, patternsRead, treeRight, cliquesRight, checks, Checked}
+use Rattle.layout.specs.Checks.{Sound, conesBounded, conesRead, patternsRead, treeRight, cliquesRight, checks, Checked}
 use Rattle.layout.specs.Answers.{problemRefusal}
 use Rattle.layout.proofs.Tests.{and-iff, leb-iff}
 use Rattle.layout.proofs.Accepted.{passed, checks-say}
-use Rattle.checks.specs.Order.{joinedTests, joinedRefusal}
+use Rattle.checks.specs.Order.{patternsRefusal, joinedTests, joinedRefusal}
 
 -- what checks 1 and 4 to 7 say where none of them refuses
 pub patterns-sound : (m : ℕ) (cones : List ℕ) (count : ℕ) (words : List ℕ) → m ≤ 65536 → T (conesBounded cones) → T (conesRead m cones)

@@ -10,11 +10,11 @@ use borrow.Author.Tests.{eqb-false}
 use Rattle.layout.specs.Lists.{all, sum}
 use Rattle.layout.specs.Cones.{Cone, records, rowCount}
 use Rattle.layout.specs.Patterns.{Pattern, patterns}
-use Rattle.layout.specs.Blocks.{Part, whole, cut, partsFrom, blockRows, blockRowCount, overlapCount, overlapRows}
+use Rattle.layout.specs.Blocks.{Part, whole, cut, partsFrom, blockRows, blockRowCount, coneRows, overlapCount, overlapRows}
 use Rattle.layout.specs.Checks.{Sound, namesItsCone}
 use Rattle.layout.specs.Answers.{joinedParts}
 use Rattle.layout.proofs.Tests.{and-iff, leb-iff, ltb-iff}
-use Rattle.layout.proofs.Laid.{coneRows, sound-total}
+use Rattle.layout.proofs.Laid.{sound-total}
 use Rattle.sparsity_pattern.proofs.Sparsity.{risesFrom, rises-start}
 use Rattle.accepted.specs.Accepted.{cutRows}
 
