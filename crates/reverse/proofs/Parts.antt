@@ -7,7 +7,7 @@ use mathlib.Core.List.{List, [], _∷_, _++_, map, reverse, append-assoc, map-id
 use lib.ListN.{length, getD, take, drop, replicate, length-set, length-append, length-drop, length-map, length-replicate, replicate-append-replicate}
 use lib.Seq.{length-take-le}
 use lib.Ieee.{Float, nan, add, binary64}
-use Rattle.layout.specs.Lists.{has, sum, upFrom, below, walk}
+use Rattle.layout.specs.Lists.{sum, upFrom, below, walk}
 use Rattle.layout.specs.Triangle.{triangle}
 use Rattle.layout.specs.Problem.{zero64}
 use Rattle.layout.specs.Cones.{rowCount}

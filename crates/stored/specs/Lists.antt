@@ -1,5 +1,5 @@
 -- Lists that lie one after the other in a buffer, and what an output holds before a call.
-use Prim.Native.Nat.{ℕ, _+_, _-_, _%_}
+use Prim.Native.Nat.{ℕ, _+_, _%_}
 use mathlib.Core.Bool.{true, cond, _&&_}
 use mathlib.Core.List.{List, [], map}
 use lib.ListN.{length, getD}
