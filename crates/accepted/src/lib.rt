@@ -108,9 +108,7 @@ fn separator_holds(
     requires { ⌜ 0 < length (now marks) ⌝ }
     ensures { λ r. ⌜ (r ≡ true → separatorOk (cliquesFrom (now (words .entry)) first count) (q .parent) (take (q .next - q .separator) (drop (q .separator) (now (words .entry)))) ≡ true) ⌝ }
 {
-    let a = q.separator;
-    let e = q.next;
-    if a == e {
+    if q.separator == q.next {
         return true;
     }
     if count <= q.parent {
@@ -118,9 +116,7 @@ fn separator_holds(
     }
     let at = offsets[q.parent as usize];
     let m = Clique::here(words, at);
-    let b = m.snode;
-    let f = m.next;
-    vertex_set::once_in(&words[a..e], &words[b..f], n, marks)
+    clique_tree::separator_right(words, q.separator, q.next, m.snode, m.next, n, marks)
 }
 
 // Each separator, with the offset of each clique, and the rows of the blocks, which are few where none is larger than a cone.

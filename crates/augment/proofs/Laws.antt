@@ -1,5 +1,5 @@
 -- What a caller of the writers cites: the tables of the cut by the parts' own lists, and what the checks say of the lengths.
-use Prim.Native.Nat.{ℕ, suc, _+_, _-_, _*_, _≤_}
+use Prim.Native.Nat.{ℕ, suc, _+_, _-_, _*_, _≤_, _<_}
 use native.Mathlib.Omega.{arith}
 use mathlib.Core.Path.{_≡_, refl, sym, ap, _∙_}
 use mathlib.Core.List.{List, [], _∷_, _++_, append-nil}
@@ -13,12 +13,14 @@ use Rattle.layout.specs.Checks.{Sound, layout, refusal, checks}
 use Rattle.layout.specs.Standard.{standardA}
 use Rattle.layout.specs.Answers.{joinedParts}
 use Rattle.layout.proofs.Tests.{leb-iff}
-use Rattle.layout.proofs.Accepted.{passed, accepted-sound, accepted-checked}
+use Rattle.layout.proofs.Accepted.{passed, accepted-checked}
 use Rattle.layout.proofs.Laid.{sound-laid}
 use Rattle.layout.proofs.Columns.{right-P}
 use Rattle.layout.proofs.Sizes.{standard-count}
 use Rattle.tables.proofs.Laws.{three-more}
 use Rattle.augment_standard.specs.Beside.{hRows, besideStarts, besideRows, besideValues, besideH}
+use Rattle.augment_standard.specs.Constraints.{Accepted}
+use Rattle.augment_standard.proofs.Constraints.{whole, sound, few-entries, starts-right, same-b, even-A}
 use Rattle.augment_standard.proofs.Columns.{length-hRows}
 use Rattle.augment_standard.proofs.Beside.{beside-standard}
 use Rattle.layout.proofs.Buffers.{written-after}
@@ -75,32 +77,43 @@ module _ {m : ℕ} {cones : List ℕ} {count : ℕ} {words : List ℕ} (h : Soun
 -- ---- a problem that a route accepts
 
 module _ (route : Route) (p : Problem) (ok : refusal route p ≡ 0) where
-  -- what `write_p` asks, by the sizes of its outputs
-  pub rooms-P : (k starts rows values costs : ℕ)
-      → (suc (p .n + k) ≤ starts) × (length (p .P .values) ≤ rows) × (length (p .P .values) ≤ values) × (p .n + k ≤ costs)
-      → (length (p .P .starts) + k ≤ starts) × (length (p .P .rows) ≤ rows) × (length (p .P .values) ≤ values) × (length (p .q) + k ≤ costs)
-  rooms-P k starts rows values costs r =
-      (omega (arith, right-P route p ok .count, r .0), omega (arith, right-P route p ok .even, r .1), r .2, omega (arith, accepted-checked route p ok .lengthQ, r .3))
+  -- what `write_objective` asks, by the sizes of its outputs
+  pub rooms-P : (k starts rows values costs alphas : ℕ)
+      → (suc (p .n + k) ≤ starts) × (length (p .P .values) ≤ rows) × (length (p .P .values) ≤ values) × (p .n + k ≤ costs) × (length (p .alphas) ≤ alphas)
+      → (length (p .P .starts) + k ≤ starts) × (length (p .P .rows) ≤ rows) × (length (p .P .values) ≤ values) × (length (p .q) + k ≤ costs) × (length (p .alphas) ≤ alphas)
+  rooms-P k starts rows values costs alphas r =
+      (omega (arith, right-P route p ok .count, r .0), omega (arith, right-P route p ok .even, r .1), r .2, omega (arith, accepted-checked route p ok .lengthQ, r .3), r .4)
 
--- ---- a problem that the standard route accepts
+-- ---- constraints that the standard route accepts
 
-module _ (p : Problem) (ok : refusal standard p ≡ 0) where
-  pub few-rows : p .m + blockRowCount (layout p) ≤ 262144
-  few-rows = leb-iff (p .m + blockRowCount (layout p)) 262144 .0 (passed 0 9 (checks standard p) ok (lit< tt))
-
+module _ {p : Problem} (h : Accepted standard p) where
   -- A beside H is the standard cut's A
   beside : besideH (p .A) (p .m) (standardRows (layout p)) ≡ standardA p
-  beside = beside-standard p (accepted-checked standard p ok .startsA)
+  beside = beside-standard p (starts-right h)
 
+  pub rows-A : besideRows (p .A .rows) (p .m) (standardRows (layout p)) ≡ standardA p .rows
+  rows-A = ap (λ (M : Csc). M .rows) beside
+
+  -- with as many columns as the blocks have rows
   module _ (k : ℕ) (e : k ≡ blockRowCount (layout p)) where
+    pub few-rows : p .m + k ≤ 262144
+    few-rows = omega (arith, e, leb-iff (p .m + blockRowCount (layout p)) 262144 .0 (passed 0 9 (checks standard (whole h)) (h .accepted) (lit< tt)))
+
+    pub few-ends : length (p .A .values) + 2 * k < 4294967296
+    few-ends = omega (arith, few-entries h, few-rows)
+
+    -- room for the rows of A and H, and for b with zeros
+    pub room-rows : (room : ℕ) → length (p .A .values) + 2 * k ≤ room → length (p .A .rows) + 2 * k ≤ room
+    room-rows room r = omega (arith, even-A h, r)
+
+    pub room-b : (room : ℕ) → p .m + k ≤ room → length (p .b) + k ≤ room
+    room-b room r = omega (arith, same-b h, r)
+
     columns : k ≡ length (standardRows (layout p))
-    columns = e ∙ sym (rows-count (accepted-sound standard p ok))
+    columns = e ∙ sym (rows-count (sound h))
 
     pub starts-A : besideStarts (p .A .starts) (length (p .A .values)) k ≡ standardA p .starts
     starts-A = ap (besideStarts (p .A .starts) (length (p .A .values))) columns ∙ ap (λ (M : Csc). M .starts) beside
 
     pub values-A : besideValues (p .A .values) k ≡ standardA p .values
     values-A = ap (besideValues (p .A .values)) columns ∙ ap (λ (M : Csc). M .values) beside
-
-  pub rows-A : besideRows (p .A .rows) (p .m) (standardRows (layout p)) ≡ standardA p .rows
-  rows-A = ap (λ (M : Csc). M .rows) beside

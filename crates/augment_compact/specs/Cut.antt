@@ -1,11 +1,12 @@
 -- The compact cut's A from the codes of the augmented rows. Definitions only.
-use Prim.Native.Nat.{ℕ, suc, _-_}
+use Prim.Native.Nat.{ℕ, suc, _+_, _-_, _≤_}
+use mathlib.Core.Path.{_≡_}
 use mathlib.Core.Bool.{cond}
 use mathlib.Core.List.{List, [], _∷_, _++_, map}
 use lib.ListN.{length}
 use lib.Dec.{ltb}
 use lib.Ieee.{Float}
-use Rattle.layout.specs.Lists.{below}
+use Rattle.layout.specs.Lists.{below, written}
 use Rattle.layout.specs.Problem.{Csc, one64, minusOne64}
 use Rattle.layout.specs.Compact.{Entry, column, csc}
 use Rattle.augment_standard.specs.Beside.{pairValues, besideStarts}
@@ -29,6 +30,11 @@ cutRows n A codes = csc (codedColumns n A codes) .rows ++ tiedRows 0 codes
 
 abbrev pub cutValues : ℕ → Csc → List ℕ → ℕ → List Float
 cutValues n A codes k = csc (codedColumns n A codes) .values ++ pairValues minusOne64 one64 k
+
+-- `after` is `before` with ys written behind the `count` elements that were written to its front
+abbrev pub Behind : {A : Type 0} → ℕ → List A → List A → List A → Type 0
+Behind {A} count ys before after =
+    (xs old : List A) → count ≡ length xs → length xs + length ys ≤ length old → before ≡ written xs old → after ≡ written (xs ++ ys) old
 
 abbrev pub cutA : ℕ → Csc → List ℕ → ℕ → Csc
 cutA n A codes k = record {

@@ -5,11 +5,13 @@ ghost use Prim.Native.Nat.{_+_, _-_, _*_, _≤_, _<_};
 ghost use lib.ListN.{length};
 ghost use lib.Dec.{T};
 ghost use Rattle.layout.specs.Lists.{written};
+ghost use Rattle.layout.specs.Problem.{one64, minusOne64};
 ghost use Rattle.layout.specs.Checks.{startsRight};
 ghost use Rattle.layout.specs.Compact.{csc};
 ghost use Rattle.codes.specs.Codes.{RowsInside};
 ghost use Rattle.csc.specs.Matrix.{matrix};
-ghost use Rattle.augment_compact.specs.Cut.{codedColumns, tiedRows, cutRows, cutValues};
+ghost use Rattle.augment_standard.specs.Beside.{pairValues};
+ghost use Rattle.augment_compact.specs.Cut.{codedColumns, tiedRows, cutRows, cutValues, Behind};
 ghost use Rattle.augment_compact.specs.Places.{placed, ColumnsRise};
 ghost use Rattle.columns.specs.Marks.{Placing, Clear};
 
@@ -86,6 +88,22 @@ pub fn write_overlap_rows(out: &mut [u32], codes: &[u32])
     }
 }
 
+// Writes the k overlaps' columns behind the rows and the values of A's, which have `count` entries: -1 and 1 in each.
+fn write_overlaps(
+    rows_out: &mut [u32],
+    values_out: &mut [f64],
+    codes: &[u32],
+    count: usize,
+    k: usize,
+)
+    requires { ⌜ (count + length (tiedRows 0 (now codes)) ≤ length (now «rows_out»)) × (count + 2 * k ≤ length (now «values_out»)) × (length (now codes) ≤ 262144) ⌝ }
+    ensures { λ _. ⌜ Behind count (tiedRows 0 (now (codes .entry))) (now («rows_out» .entry)) (now («rows_out» .exit)) ⌝ }
+    ensures { λ _. ⌜ Behind count (pairValues minusOne64 one64 k) (now («values_out» .entry)) (now («values_out» .exit)) ⌝ }
+{
+    write_overlap_rows(&mut rows_out[count..], codes);
+    augment_standard::write_pairs(&mut values_out[count..], k, -1.0, 1.0);
+}
+
 // Writes the rows and the values of the compact cut's A: A's columns moved, and the k overlaps' columns, -1 and 1 in each. place and chunks are scratch; the
 // codes and the flags are as before then.
 pub fn write_entries(
@@ -121,6 +139,5 @@ pub fn write_entries(
         rows,
         values,
     );
-    write_overlap_rows(&mut rows_out[rows.len()..], &*codes);
-    augment_standard::write_pairs(&mut values_out[values.len()..], k, -1.0, 1.0);
+    write_overlaps(rows_out, values_out, &*codes, values.len(), k);
 }

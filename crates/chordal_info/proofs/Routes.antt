@@ -9,7 +9,7 @@ use Rattle.layout.specs.Problem.{Problem, Route, standard, compact}
 use Rattle.layout.specs.Blocks.{Part}
 use Rattle.layout.specs.Checks.{layout, check8, check9, check10, firstFailing}
 use Rattle.layout.specs.Answers.{routeOf}
-use Rattle.chordal_info.specs.Covered.{entriesRight}
+use Rattle.covered_rows.specs.Covered.{entriesRight}
 use Rattle.chordal_info.specs.Sizes.{rowsFit}
 use Rattle.chordal_info.specs.Routes.{entriesCheck, joinRouteChecks, joinCountChecks, Counted}
 use Rattle.chordal_info.proofs.Sizes.{rows-fit}

@@ -1,21 +1,19 @@
 -- Check 10 and the sizes from counts, for a route's number and for a problem that the route accepts.
 use Prim.Native.Nat.{ℕ, zero, suc, _+_, _≤_, _<_}
-use native.Mathlib.Numerals.{add-one}
 use native.Mathlib.Omega.{arith}
-use mathlib.Core.Path.{_≡_, refl, ap, _∙_}
+use mathlib.Core.Path.{_≡_, refl, ap}
 use mathlib.Core.Bool.{false}
-use mathlib.Core.List.{List, [], _∷_}
-use lib.ListN.{length, set}
+use mathlib.Core.List.{List}
+use lib.ListN.{length}
 use lib.Dec.{T, leb}
 use borrow.Author.Tests.{lt-leb}
-use Rattle.layout.specs.Lists.{written}
 use Rattle.layout.specs.Problem.{Problem, Route, standard, compact}
 use Rattle.layout.specs.Blocks.{Part, blockRowCount, overlapCount, coneCount}
 use Rattle.layout.specs.Checks.{layout, check10, refusal}
 use Rattle.layout.specs.Answers.{routeOf, sizes}
 use Rattle.layout.proofs.Tests.{and-iff, leb-iff}
 use Rattle.layout.proofs.Sizes.{compact-sizes, standard-sizes}
-use Rattle.chordal_info.specs.Sizes.{rowsFit, outputLengths, routeSizes}
+use Rattle.chordal_info.specs.Sizes.{rowsFit, routeSizes}
 
 -- ---- a route's number
 
@@ -38,29 +36,6 @@ pub route-sizes : (route : Route) (p : Problem) → refusal route p ≡ 0
     (blockRowCount ps) (overlapCount ps) (coneCount ps)
 route-sizes standard p ok = standard-sizes p ok
 route-sizes compact p ok = compact-sizes p ok
-
--- ---- eleven numbers written one after the other
-
-eleven-written : (out : List ℕ) (v0 v1 v2 v3 v4 v5 v6 v7 v8 v9 v10 : ℕ) → 11 ≤ length out
-    → set (set (set (set (set (set (set (set (set (set (set out 0 v0) 1 v1) 2 v2) 3 v3) 4 v4) 5 v5) 6 v6) 7 v7) 8 v8) 9 v9) 10 v10
-    ≡ written (v0 ∷ v1 ∷ v2 ∷ v3 ∷ v4 ∷ v5 ∷ v6 ∷ v7 ∷ v8 ∷ v9 ∷ v10 ∷ []) out
-eleven-written (x0 ∷ x1 ∷ x2 ∷ x3 ∷ x4 ∷ x5 ∷ x6 ∷ x7 ∷ x8 ∷ x9 ∷ x10 ∷ out) v0 v1 v2 v3 v4 v5 v6 v7 v8 v9 v10 h = refl
-eleven-written (x0 ∷ x1 ∷ x2 ∷ x3 ∷ x4 ∷ x5 ∷ x6 ∷ x7 ∷ x8 ∷ x9 ∷ []) v0 v1 v2 v3 v4 v5 v6 v7 v8 v9 v10 h = absurd (omega arith)
-eleven-written (x0 ∷ x1 ∷ x2 ∷ x3 ∷ x4 ∷ x5 ∷ x6 ∷ x7 ∷ x8 ∷ []) v0 v1 v2 v3 v4 v5 v6 v7 v8 v9 v10 h = absurd (omega arith)
-eleven-written (x0 ∷ x1 ∷ x2 ∷ x3 ∷ x4 ∷ x5 ∷ x6 ∷ x7 ∷ []) v0 v1 v2 v3 v4 v5 v6 v7 v8 v9 v10 h = absurd (omega arith)
-eleven-written (x0 ∷ x1 ∷ x2 ∷ x3 ∷ x4 ∷ x5 ∷ x6 ∷ []) v0 v1 v2 v3 v4 v5 v6 v7 v8 v9 v10 h = absurd (omega arith)
-eleven-written (x0 ∷ x1 ∷ x2 ∷ x3 ∷ x4 ∷ x5 ∷ []) v0 v1 v2 v3 v4 v5 v6 v7 v8 v9 v10 h = absurd (omega arith)
-eleven-written (x0 ∷ x1 ∷ x2 ∷ x3 ∷ x4 ∷ []) v0 v1 v2 v3 v4 v5 v6 v7 v8 v9 v10 h = absurd (omega arith)
-eleven-written (x0 ∷ x1 ∷ x2 ∷ x3 ∷ []) v0 v1 v2 v3 v4 v5 v6 v7 v8 v9 v10 h = absurd (omega arith)
-eleven-written (x0 ∷ x1 ∷ x2 ∷ []) v0 v1 v2 v3 v4 v5 v6 v7 v8 v9 v10 h = absurd (omega arith)
-eleven-written (x0 ∷ x1 ∷ []) v0 v1 v2 v3 v4 v5 v6 v7 v8 v9 v10 h = absurd (omega arith)
-eleven-written (x0 ∷ []) v0 v1 v2 v3 v4 v5 v6 v7 v8 v9 v10 h = absurd (omega arith)
-eleven-written [] v0 v1 v2 v3 v4 v5 v6 v7 v8 v9 v10 h = absurd (omega arith)
-
-pub lengths-written : (out : List ℕ) (columns p a b cones α map : ℕ) → 11 ≤ length out
-    → set (set (set (set (set (set (set (set (set (set (set out 0 (columns + 1)) 1 p) 2 p) 3 columns) 4 (columns + 1)) 5 a) 6 a) 7 b) 8 cones) 9 α) 10 map
-    ≡ written (outputLengths columns p a b cones α map) out
-lengths-written out columns p a b cones α map h = eleven-written out (columns + 1) p p columns (columns + 1) a a b cones α map h ∙ rw (add-one columns)
 
 -- ---- what the bounds say
 

@@ -7,7 +7,7 @@ use lib.Ieee.{Float}
 use Rattle.layout.specs.Problem.{Route, standard, compact}
 use Rattle.layout.specs.Blocks.{Part, blockRowCount, overlapCount}
 use Rattle.layout.specs.Checks.{check8, check10}
-use Rattle.chordal_info.specs.Covered.{entriesRight}
+use Rattle.covered_rows.specs.Covered.{entriesRight}
 use Rattle.chordal_info.specs.Sizes.{rowsFit}
 
 abbrev pub entriesCheck : Route → ℕ → List ℕ → List Float → List Part → Bool

@@ -1,10 +1,12 @@
 -- Check 6 as a walk over a pattern's cliques.
 use Prim.Native.Nat.{ℕ, zero, suc, _+_}
 use native.Mathlib.Omega.{arith}
-use mathlib.Core.Bool.{Bool, false, not, _&&_}
+use mathlib.Core.Bool.{Bool, true, false, not, _&&_}
+use mathlib.Core.Logic.{inl, inr}
 use mathlib.Core.Path.{_≡_, refl, sym, ap, _∙_}
 use mathlib.Core.List.{List, [], _∷_}
-use lib.Dec.{eqb}
+use lib.Dec.{eqb, ltb}
+use borrow.Author.Tests.{lt-ltb, le-ltb, eq-eqb, ne-eqb}
 use lib.ListN.{length, drop, drop-of-length-le}
 use lib.Seq.{drop-cons}
 use Rattle.layout.specs.Lists.{all, upFrom}
@@ -13,7 +15,7 @@ use Rattle.layout.specs.Checks.{parentRight, treeRight}
 use Rattle.supernode_tree.proofs.Many.{many-length}
 use Rattle.supernode_tree.specs.Reads.{whole, valueOr, patternAt}
 use Rattle.clique_tree.specs.Trees.{cliqueOk, treeFrom}
-use Rattle.layout.proofs.Tests.{and-right}
+use Rattle.layout.proofs.Tests.{and-right, lt-or-le}
 
 -- of cliques that are read
 abbrev pub treeRead : ℕ → ℕ → Read (List Clique) → Bool
@@ -28,9 +30,6 @@ tree-from p c (suc j) e = rw (drop-cons (p .cliques) c noClique (omega arith), t
 pub tree-right : (p : Pattern) → treeRight p ≡ (not (eqb (length (p .cliques)) 0) && treeFrom (length (p .cliques)) 0 (p .cliques))
 tree-right p = rw (tree-from p 0 (length (p .cliques)) (omega arith))
 
-pub tree-short : (ws : List ℕ) (at : ℕ) → readHead (drop at ws) ≡ short → treeRight (patternAt ws at) ≡ false
-tree-short ws at e = rw e
-
 pub tree-start : (ws : List ℕ) (at : ℕ) (h : Head) (rest : List ℕ) → readHead (drop at ws) ≡ read h rest
     → treeRight (patternAt ws at) ≡ (not (eqb (h .cliqueCount) 0) && treeRead (h .cliqueCount) 0 (readCliques (h .cliqueCount) rest))
 tree-start ws at h rest e = rw e (go (readCliques (h .cliqueCount) rest) refl)
@@ -44,8 +43,12 @@ tree-start ws at h rest e = rw e (go (readCliques (h .cliqueCount) rest) refl)
         tree-right (withCliques h cs) ∙ ap (λ (k : ℕ). not (eqb k 0) && treeFrom k 0 cs) m
     go short q = sym (and-right (not (eqb (h .cliqueCount) 0)) false refl)
 
-pub tree-none : (k c j : ℕ) (ws : List ℕ) → readClique ws ≡ short → treeRead k c (readCliques (suc j) ws) ≡ false
-tree-none k c j ws e = rw e
+-- all cliques passed: there is one
+pub tree-done : (k : ℕ) (b : Bool) → b ≡ true → ltb 0 k ≡ (not (eqb k 0) && b)
+tree-done k b e = elim (lt-or-le 0 k) [
+  | inl h ↦ rw (e, lt-ltb 0 k h, ne-eqb k 0 (λ q. omega arith))
+  | inr h ↦ rw (le-ltb 0 k h, eq-eqb k 0 (omega arith))
+]
 
 pub tree-step : (k c j : ℕ) (ws rest : List ℕ) (q : Clique) → readClique ws ≡ read q rest
     → treeRead k c (readCliques (suc j) ws) ≡ (cliqueOk k c q && treeRead k (suc c) (readCliques j rest))

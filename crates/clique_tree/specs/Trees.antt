@@ -1,11 +1,12 @@
 -- Checks 6 and 7 for one clique.
 use Prim.Native.Nat.{ℕ, suc}
-use mathlib.Core.Bool.{Bool, true, cond, _&&_}
+use mathlib.Core.Bool.{Bool, true, cond, not, _&&_}
 use mathlib.Core.List.{List, [], _∷_}
 use lib.ListN.{length, getD}
 use lib.Dec.{eqb, ltb}
 use Rattle.layout.specs.Patterns.{Clique, noClique, members, noParent}
 use Rattle.layout.specs.Lists.{all, join}
+use Rattle.layout.specs.Checks.{isPermutation}
 use Rattle.vertex_set.specs.OnceIn.{onceIn}
 
 -- clique c of k, with its parent and the count of its separator
@@ -31,3 +32,7 @@ separatorsOk cs = all (λ c. separatorOk cs (c .parent) (c .separator)) cs
 -- the snodes' numbers, one after the other
 abbrev pub snodesOf : List Clique → List ℕ
 snodesOf cs = join (λ c. c .snode) cs
+
+-- none is empty, and together they hold each number below n once
+abbrev pub snodesOk : ℕ → List Clique → Bool
+snodesOk n cs = all (λ c. not (eqb (length (c .snode)) 0)) cs && eqb (length (snodesOf cs)) n && isPermutation (snodesOf cs)

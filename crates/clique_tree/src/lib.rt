@@ -6,17 +6,14 @@ ghost use lib.ListN.{length, take, drop};
 ghost use lib.Dec.{ltb, eqb};
 ghost use Rattle.layout.specs.Lists.{all, distinct, keep};
 ghost use Rattle.layout.specs.Checks.{isPermutation, treeRight, cliquesRight};
-ghost use Rattle.layout.specs.Patterns.{readPatterns, patterns, endsRight};
+ghost use Rattle.layout.specs.Patterns.{readPattern, readPatterns, patterns, endsRight};
 ghost use Rattle.utils.specs.Windows.{within};
-ghost use Rattle.supernode_tree.specs.Reads.{patternAt, Whole, cliquesFrom};
+ghost use Rattle.supernode_tree.specs.Reads.{patternAt, whole, Whole, cliquesFrom};
 ghost use Rattle.supernode_tree.specs.Offsets.{OffsetsEvery};
 ghost use Rattle.vertex_set.specs.OnceIn.{onceIn};
-ghost use Rattle.clique_tree.specs.Trees.{parentOk, snodesOf, separatorsOk};
+ghost use Rattle.clique_tree.specs.Trees.{parentOk, snodesOf, snodesOk, separatorsOk};
 use supernode_tree::Clique;
-use supernode_tree::CliqueRead;
-use supernode_tree::Members;
 use supernode_tree::Pattern;
-use supernode_tree::PatternRead;
 
 // ---- check 6
 
@@ -31,30 +28,24 @@ pub fn parent_right(q: Clique, c: u32, count: u32) -> bool
     c < q.parent && q.parent < count
 }
 
-// Check 6 of the pattern at an offset; words that end early are refused.
+// Check 6 of the pattern that stands at an offset.
 pub fn tree_right(words: &[u32], at: usize) -> bool
+    requires { ⌜ whole (readPattern (drop at (now words))) ≡ true ⌝ }
     ensures { λ r. ⌜ r ≡ treeRight (patternAt (now (words .entry)) at) ⌝ }
 {
-    let PatternRead::Pattern(p) = Pattern::read(words, at) else {
-        return false;
-    };
+    let p = Pattern::here(words, at);
     let count = p.clique_count;
-    if count == 0 {
-        return false;
-    }
     let mut next = p.cliques;
     let mut c = 0;
     while c < count {
-        let CliqueRead::Clique(q) = Clique::read(words, next) else {
-            return false;
-        };
+        let q = Clique::here(words, next);
         if !parent_right(q, c, count) {
             return false;
         }
         next = q.next;
         c += 1;
     }
-    true
+    0 < count
 }
 
 // Check 6.
@@ -182,17 +173,21 @@ fn snodes_permute_by(words: &[u32], first: usize, count: u32, n: usize, marks: &
 
 // ---- check 7: separators
 
-// A separator repeats no member, and its parent's clique, whose members stand at m, holds each.
-fn separator_right(words: &[u32], q: Clique, m: Members, n: usize, marks: &mut [bool]) -> bool
-    requires { ⌜ (q .separator ≤ q .next) × (q .next ≤ length (now words)) ⌝ }
-    requires { ⌜ (m .start ≤ m .end) × (m .end ≤ length (now words)) ⌝ }
+// A separator, which stands from a to e, repeats no member, and its parent's clique, from b to f, holds each.
+pub fn separator_right(
+    words: &[u32],
+    a: usize,
+    e: usize,
+    b: usize,
+    f: usize,
+    n: usize,
+    marks: &mut [bool],
+) -> bool
+    requires { ⌜ (a ≤ e) × (e ≤ length (now words)) ⌝ }
+    requires { ⌜ (b ≤ f) × (f ≤ length (now words)) ⌝ }
     requires { ⌜ 0 < length (now marks) ⌝ }
-    ensures { λ r. ⌜ r ≡ onceIn (take (m .end - m .start) (drop (m .start) (now (words .entry)))) (take (q .next - q .separator) (drop (q .separator) (now (words .entry)))) ⌝ }
+    ensures { λ r. ⌜ r ≡ onceIn (take (f - b) (drop b (now (words .entry)))) (take (e - a) (drop a (now (words .entry)))) ⌝ }
 {
-    let a = q.separator;
-    let e = q.next;
-    let b = m.start;
-    let f = m.end;
     vertex_set::once_in(&words[a..e], &words[b..f], n, marks)
 }
 
@@ -217,7 +212,7 @@ fn separators_by(
     while 0 < left {
         let q = Clique::here(words, at);
         let m = supernode_tree::members_by(words, first, count, step, offsets, q.parent);
-        if !separator_right(words, q, m, n, &mut *marks) {
+        if !separator_right(words, q.separator, q.next, m.start, m.end, n, &mut *marks) {
             return false;
         }
         at = q.next;
@@ -246,77 +241,88 @@ fn separators_right(
 
 // ---- check 7
 
-// The snodes hold each number below their count n once, and each separator is right.
-fn members_right_by(
-    words: &[u32],
-    first: usize,
-    count: u32,
-    n: usize,
-    marks: &mut [bool],
-    offsets: &mut [usize],
-) -> bool
+// No snode is empty, and together they hold each number below n once.
+fn snodes_right(words: &[u32], first: usize, count: u32, n: usize, marks: &mut [bool]) -> bool
     requires { ⌜ Whole (now words) first count ⌝ }
-    requires { ⌜ n ≡ length (snodesOf (cliquesFrom (now words) first count)) ⌝ }
-    requires { ⌜ (0 < length (now marks)) × (256 ≤ length (now offsets)) ⌝ }
-    ensures { λ r. ⌜ r ≡ (isPermutation (snodesOf (cliquesFrom (now (words .entry)) first count)) && separatorsOk (cliquesFrom (now (words .entry)) first count)) ⌝ }
+    requires { ⌜ 0 < length (now marks) ⌝ }
+    ensures { λ r. ⌜ r ≡ snodesOk n (cliquesFrom (now (words .entry)) first count) ⌝ }
 {
-    if !snodes_permute_by(words, first, count, n, &mut *marks) {
-        return false;
-    }
-    separators_right(words, first, count, n, marks, offsets)
-}
-
-// Check 7 of the pattern at an offset, with lent tables; words that end early are refused.
-fn cliques_right_by(words: &[u32], at: usize, marks: &mut [bool], offsets: &mut [usize]) -> bool
-    requires { ⌜ (0 < length (now marks)) × (256 ≤ length (now offsets)) ⌝ }
-    ensures { λ r. ⌜ r ≡ cliquesRight (patternAt (now (words .entry)) at) ⌝ }
-{
-    let PatternRead::Pattern(p) = Pattern::read(words, at) else {
-        return false;
-    };
-    let first = p.cliques;
-    let count = p.clique_count;
-    if !supernode_tree::cliques_whole(words, first, count) {
-        return false;
-    }
     if !snodes_filled(words, first, count) {
         return false;
     }
-    let n = snode_total(words, first, count);
-    if n != p.vertex_count {
+    if snode_total(words, first, count) != n {
         return false;
     }
-    members_right_by(words, first, count, n, marks, offsets)
+    snodes_permute_by(words, first, count, n, marks)
 }
 
-// The same; a pattern of at most 256 vertices has smaller tables to clear.
-pub fn cliques_right(words: &[u32], at: usize) -> bool
+// Check 7 of the pattern that stands at an offset, with lent tables.
+fn cliques_right_by(words: &[u32], at: usize, marks: &mut [bool], offsets: &mut [usize]) -> bool
+    requires { ⌜ whole (readPattern (drop at (now words))) ≡ true ⌝ }
+    requires { ⌜ (0 < length (now marks)) × (256 ≤ length (now offsets)) ⌝ }
     ensures { λ r. ⌜ r ≡ cliquesRight (patternAt (now (words .entry)) at) ⌝ }
 {
-    let PatternRead::Pattern(p) = Pattern::read(words, at) else {
+    let p = Pattern::here(words, at);
+    if !snodes_right(
+        words,
+        p.cliques,
+        p.clique_count,
+        p.vertex_count,
+        &mut *marks,
+    ) {
         return false;
-    };
-    if p.vertex_count <= 256 {
-        let mut few = [false; 256];
-        let mut near = [0usize; 256];
-        return cliques_right_by(words, at, &mut few, &mut near);
     }
+    separators_right(
+        words,
+        p.cliques,
+        p.clique_count,
+        p.vertex_count,
+        marks,
+        offsets,
+    )
+}
+
+// The same, in little stack: 256 vertices are one window.
+fn few_cliques_right(words: &[u32], at: usize) -> bool
+    requires { ⌜ whole (readPattern (drop at (now words))) ≡ true ⌝ }
+    ensures { λ r. ⌜ r ≡ cliquesRight (patternAt (now (words .entry)) at) ⌝ }
+{
+    let mut marks = [false; 256];
+    let mut offsets = [0usize; 256];
+    cliques_right_by(words, at, &mut marks, &mut offsets)
+}
+
+// The same, with tables for many vertices.
+fn many_cliques_right(words: &[u32], at: usize) -> bool
+    requires { ⌜ whole (readPattern (drop at (now words))) ≡ true ⌝ }
+    ensures { λ r. ⌜ r ≡ cliquesRight (patternAt (now (words .entry)) at) ⌝ }
+{
     let mut marks = [false; 65536];
     let mut offsets = [0usize; 4096];
     cliques_right_by(words, at, &mut marks, &mut offsets)
 }
 
-// Check 7, in little stack: check 5 leaves a pattern at most 256 vertices, those of its cone, and they are one window.
+// The same; a pattern of at most 256 vertices has smaller tables to clear.
+pub fn cliques_right(words: &[u32], at: usize) -> bool
+    requires { ⌜ whole (readPattern (drop at (now words))) ≡ true ⌝ }
+    ensures { λ r. ⌜ r ≡ cliquesRight (patternAt (now (words .entry)) at) ⌝ }
+{
+    let p = Pattern::here(words, at);
+    if p.vertex_count <= 256 {
+        return few_cliques_right(words, at);
+    }
+    many_cliques_right(words, at)
+}
+
+// Check 7. Check 5 leaves a pattern at most 256 vertices, those of its cone.
 pub fn all_cliques_right(count: u32, words: &[u32]) -> bool
     requires { ⌜ endsRight (readPatterns count (now words)) ≡ true ⌝ }
     ensures { λ r. ⌜ r ≡ all cliquesRight (patterns count (now (words .entry))) ⌝ }
 {
-    let mut marks = [false; 256];
-    let mut offsets = [0usize; 256];
     let mut at = 0;
     let mut left = count;
     while 0 < left {
-        if !cliques_right_by(words, at, &mut marks, &mut offsets) {
+        if !few_cliques_right(words, at) {
             return false;
         }
         at = supernode_tree::pattern_next(words, at);

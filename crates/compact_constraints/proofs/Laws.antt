@@ -1,5 +1,5 @@
 -- What the writers ask of constraints that the compact route accepts, and the cut's A and b as the writers state them.
-use Prim.Native.Nat.{ℕ, _+_, _-_, _*_, _/_, _≤_}
+use Prim.Native.Nat.{ℕ, _+_, _-_, _*_, _/_, _≤_, _<_}
 use native.Mathlib.Omega.{arith}
 use mathlib.Core.Path.{_≡_, sym, ap, subst, _∙_}
 use mathlib.Core.Bool.{Bool, false}
@@ -7,6 +7,8 @@ use mathlib.Core.List.{List, map}
 use lib.ListN.{length, take, replicate, length-replicate, replicate-append-replicate}
 use lib.Seq.{take-at, length-take-le}
 use lib.Dec.{T, leb, lit<}
+use mir.Syntax.{w64}
+use mir.Val.{Fits}
 use Rattle.layout.specs.Lists.{written}
 use Rattle.layout.specs.Problem.{Problem, Csc, compact}
 use Rattle.layout.specs.Blocks.{compactRows, blockRowCount, overlapCount}
@@ -16,7 +18,7 @@ use Rattle.layout.specs.Answers.{joinedParts}
 use Rattle.layout.proofs.Tests.{and-iff, leb-iff}
 use Rattle.layout.proofs.Starts.{length-written}
 use Rattle.layout.proofs.Buffers.{take-written}
-use Rattle.layout.proofs.Accepted.{passed, accepted-sound, accepted-checked}
+use Rattle.layout.proofs.Accepted.{passed}
 use Rattle.layout.proofs.Laid.{sound-laid}
 use Rattle.codes.specs.Codes.{cutCode, RowsInside}
 use Rattle.codes.proofs.Rows.{accepted-inside}
@@ -25,13 +27,13 @@ use Rattle.tables.proofs.Tables.{table-length}
 use Rattle.sparsevector.specs.Values.{codeValue}
 use Rattle.sparsevector.proofs.Rows.{compact-values}
 use Rattle.columns.specs.Marks.{Placing, Clear}
-use Rattle.layout.proofs.Columns.{right-A}
 use Rattle.augment_standard.specs.Beside.{besideStarts}
 use Rattle.augment_compact.specs.Cut.{tiedRows, cutRows, cutValues}
 use Rattle.augment_compact.specs.Places.{placed, ColumnsRise}
 use Rattle.augment_compact.proofs.Cut.{cut-compact, tied-count}
-use Rattle.augment_compact.proofs.Places.{few-rows, accepted-rise, accepted-placing}
-use Rattle.compact_constraints.specs.Constraints.{completed, Accepted}
+use Rattle.augment_compact.proofs.Places.{few-rows as few-codes, accepted-rise, accepted-placing}
+use Rattle.augment_standard.specs.Constraints.{Accepted}
+use Rattle.augment_standard.proofs.Constraints.{whole, sound, few-entries, starts-right, same-b, even-A}
 
 -- as many codes as augmented rows
 module _ {m : ℕ} {cones : List ℕ} {count : ℕ} {words : List ℕ} (h : Sound m cones count words) where
@@ -45,9 +47,16 @@ front xs old {new} {k} e room w = (
   omega (arith, ap length w, length-written xs old (omega arith)),
 )
 
+-- a table just cleared has room
+pub cleared : {k : ℕ} (size : ℕ) → k ≤ size → k ≤ length (replicate {A = ℕ} size 0)
+cleared size room = omega (arith, length-replicate {A = ℕ} size 0)
+
 -- flags just cleared are down, and as many are lent as n rows need
 pub few-flags : (n size : ℕ) → n ≤ 64 * size → (n + 63) / 64 ≤ size
 few-flags n size room = omega arith
+
+pub flags-fit : (n : ℕ) → n ≤ 262144 → Fits w64 (n + 63)
+flags-fit n few = omega arith
 
 pub flags-count : (n size : ℕ) → n ≤ 64 * size → (n + 63) / 64 ≡ length (take ((n + 63) / 64) (replicate size false))
 flags-count n size room =
@@ -65,60 +74,54 @@ flags-down n size room few =
       omega (arith, flags-count n size room),
     )
 
-module _ {p : Problem} (h : Accepted p) where
-  abbrev whole : Problem
-  whole = completed (h .P) (h .q) (h .alphas) p
-
+module _ {p : Problem} (h : Accepted compact p) where
   -- ---- counts
 
-  pub sound : Sound (p .m) (p .cones) (p .patternCount) (p .patternWords)
-  sound = accepted-sound compact whole (h .accepted)
-
-  pub few-augmented : blockRowCount (layout p) ≤ 262144
-  few-augmented = omega (arith, codes-count sound, few-rows whole (h .accepted))
+  pub few-rows : {rows : ℕ} → rows ≡ blockRowCount (layout p) → rows ≤ 262144
+  few-rows e = omega (arith, e, codes-count (sound h), few-codes (whole h) (h .accepted))
 
   -- the entries of the cut's A
-  pub few-cut-entries : length (p .A .values) + 2 * overlapCount (layout p) ≤ 524288
-  few-cut-entries =
-      let tenth = and-iff (leb (blockRowCount (layout p)) 262144) (leb (overlapCount (layout p)) 131072) .0 (passed 0 9 (checks compact whole) (h .accepted) (lit< tt)) in
-      omega (arith, accepted-checked compact whole (h .accepted) .fewEntriesA, leb-iff (overlapCount (layout p)) 131072 .0 (tenth .1))
+  pub few-ends : (k : ℕ) → k ≡ overlapCount (layout p) → length (p .A .values) + 2 * k < 4294967296
+  few-ends k e =
+      let tenth = and-iff (leb (blockRowCount (layout p)) 262144) (leb (overlapCount (layout p)) 131072) .0 (passed 0 9 (checks compact (whole h)) (h .accepted) (lit< tt)) in
+      omega (arith, e, few-entries h, leb-iff (overlapCount (layout p)) 131072 .0 (tenth .1))
 
   -- ---- what the writers ask of A, b and the codes
 
   pub rows-inside : RowsInside (length (p .b)) (map cutCode (compactRows (layout p)))
-  rows-inside = accepted-inside whole (h .accepted) (length (p .b)) (omega (arith, accepted-checked compact whole (h .accepted) .lengthB))
+  rows-inside = accepted-inside (whole h) (h .accepted) (length (p .b)) (omega (arith, same-b h))
 
   pub columns-right : T (startsRight (p .n) (p .A)) × ColumnsRise (p .n) (p .A)
-  columns-right = (accepted-checked compact whole (h .accepted) .startsA, accepted-rise whole (h .accepted))
+  columns-right = (starts-right h, accepted-rise (whole h) (h .accepted))
 
   codes-placing : (t : List ℕ) → p .m ≤ length t
       → Placing (map cutCode (compactRows (layout p))) (placed 0 (map cutCode (compactRows (layout p))) t) (p .A .rows)
-  codes-placing = accepted-placing whole (h .accepted)
+  codes-placing = accepted-placing (whole h) (h .accepted)
 
   rows-room : length (p .A .rows) + length (tiedRows 0 (map cutCode (compactRows (layout p)))) ≡ length (p .A .values) + 2 * overlapCount (layout p)
-  rows-room = omega (arith, right-A compact whole (h .accepted) .even, tied-count whole (h .accepted))
+  rows-room = omega (arith, even-A h, tied-count (whole h) (h .accepted))
 
   -- ---- the cut's A and b
 
   pub values-b : map (codeValue (p .b)) (map cutCode (compactRows (layout p))) ≡ compactB p
-  values-b = compact-values whole (h .accepted)
+  values-b = compact-values (whole h) (h .accepted)
 
   pub rows-A : cutRows (p .n) (p .A) (map cutCode (compactRows (layout p))) ≡ compactA p .rows
-  rows-A = ap (λ (M : Csc). M .rows) (cut-compact whole (h .accepted))
+  rows-A = ap (λ (M : Csc). M .rows) (cut-compact (whole h) (h .accepted))
 
   module _ (k : ℕ) (e : k ≡ overlapCount (layout p)) where
     pub starts-A : besideStarts (p .A .starts) (length (p .A .values)) k ≡ compactA p .starts
     starts-A =
-        ap (besideStarts (p .A .starts) (length (p .A .values))) e ∙ ap (λ (M : Csc). M .starts) (cut-compact whole (h .accepted))
+        ap (besideStarts (p .A .starts) (length (p .A .values))) e ∙ ap (λ (M : Csc). M .starts) (cut-compact (whole h) (h .accepted))
 
     pub values-A : cutValues (p .n) (p .A) (map cutCode (compactRows (layout p))) k ≡ compactA p .values
     values-A =
         ap (cutValues (p .n) (p .A) (map cutCode (compactRows (layout p)))) e
-        ∙ ap (λ (M : Csc). M .values) (cut-compact whole (h .accepted))
+        ∙ ap (λ (M : Csc). M .values) (cut-compact (whole h) (h .accepted))
 
 -- ---- the codes of so many rows, in tables just cleared
 
-module _ {p : Problem} (h : Accepted p) {rows : ℕ} (e : rows ≡ blockRowCount (layout p)) where
+module _ {p : Problem} (h : Accepted compact p) {rows : ℕ} (e : rows ≡ blockRowCount (layout p)) where
   pub coded : {size : ℕ} {table : List ℕ} → rows ≤ size → table ≡ written (map cutCode (compactRows (layout p))) (replicate size 0)
       → (take rows table ≡ map cutCode (compactRows (layout p))) × (rows ≤ length table)
   coded {size} room w =

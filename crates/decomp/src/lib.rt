@@ -2,52 +2,9 @@
 ghost use mathlib.Core.Path.{_≡_};
 ghost use lib.ListN.{length};
 ghost use Rattle.layout.specs.Problem.{problem};
-ghost use Rattle.layout.specs.Checks.{refusal};
 ghost use Rattle.layout.specs.Answers.{output, onRoute, routeOf, roomy, sizesRefusal, sizes as sizesOf, cutRefusal};
 
-// Checks 1 to 10 in order: the number of the first that fails, or 0. Any number but 0 names the compact route.
-fn refuse(
-    route: u32,
-    n: u32,
-    m: u32,
-    p_starts: &[u32],
-    p_rows: &[u32],
-    p_values: &[f64],
-    q: &[f64],
-    a_starts: &[u32],
-    a_rows: &[u32],
-    a_values: &[f64],
-    b: &[f64],
-    cones: &[u32],
-    alphas: &[f64],
-    count: u32,
-    words: &[u32],
-) -> u32
-    ensures { λ r. ⌜ r ≡ refusal (routeOf route) (problem n m (now («p_starts» .entry)) (now («p_rows» .entry)) (now («p_values» .entry)) (now (q .entry)) (now («a_starts» .entry)) (now («a_rows» .entry)) (now («a_values» .entry)) (now (b .entry)) (now (cones .entry)) (now (alphas .entry)) count (now (words .entry))) ⌝ }
-{
-    let r = checks::check_problem(
-        n,
-        m,
-        p_starts,
-        p_rows,
-        p_values,
-        q,
-        a_starts,
-        a_rows,
-        a_values,
-        b,
-        cones,
-        alphas,
-        count,
-        words,
-    );
-    if r != 0 {
-        return r;
-    }
-    chordal_info::check_route(route, n, m, a_rows, b, cones, count, words)
-}
-
-// The length of each output of the cut.
+// The length of each output of the cut, after checks 1 to 11. The blocks are counted once for check 10 and the lengths.
 pub fn sizes(
     route: u32,
     n: u32,
@@ -72,8 +29,7 @@ pub fn sizes(
     if 1 < route {
         return 1;
     }
-    let r = refuse(
-        route,
+    let r = checks::check_problem(
         n,
         m,
         p_starts,
@@ -92,10 +48,25 @@ pub fn sizes(
     if r != 0 {
         return r;
     }
+    let d = parts::get_decomposed_dim_and_overlaps(m, cones, count, words);
+    let t = chordal_info::check_route(
+        route,
+        n,
+        m,
+        a_rows,
+        b,
+        cones,
+        count,
+        words,
+        d.rows,
+        d.overlaps,
+    );
+    if t != 0 {
+        return t;
+    }
     if out.len() < 11 {
         return 11;
     }
-    let d = parts::get_decomposed_dim_and_overlaps(m, cones, count, words);
     let p_entries = p_values.len() as u32;
     let a_entries = a_values.len() as u32;
     let alpha_count = alphas.len() as u32;

@@ -81,64 +81,39 @@ pub fn cut(
     if refused != 0 {
         return refused;
     }
-    let d = parts::get_decomposed_dim_and_overlaps(m, cones, count, words);
-    if route == 0 {
-        augment::decomp_augment_standard(
-            n,
-            m,
-            p_starts,
-            p_rows,
-            p_values,
-            q,
-            a_starts,
-            a_rows,
-            a_values,
-            b,
-            cones,
-            alphas,
-            count,
-            words,
-            d.rows as usize,
-            p_starts_out,
-            p_rows_out,
-            p_values_out,
-            q_out,
-            a_starts_out,
-            a_rows_out,
-            a_values_out,
-            b_out,
-            cones_out,
-            alphas_out,
-        );
-        return 0;
-    }
-    compact_cut::decomp_augment_compact(
+    let d = constraints::count_added(route, m, cones, count, words);
+    augment::write_objective(
         n,
-        m,
         p_starts,
         p_rows,
         p_values,
         q,
+        alphas,
+        d.columns,
+        p_starts_out,
+        p_rows_out,
+        p_values_out,
+        q_out,
+        alphas_out,
+    );
+    constraints::write_constraints(
+        route,
+        n,
+        m,
         a_starts,
         a_rows,
         a_values,
         b,
         cones,
-        alphas,
         count,
         words,
-        d.rows as usize,
-        d.overlaps as usize,
-        p_starts_out,
-        p_rows_out,
-        p_values_out,
-        q_out,
+        d.rows,
+        d.columns,
         a_starts_out,
         a_rows_out,
         a_values_out,
         b_out,
         cones_out,
-        alphas_out,
         map_out,
     );
     0

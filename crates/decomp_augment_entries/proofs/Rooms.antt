@@ -17,7 +17,7 @@ use Rattle.layout.proofs.Accepted.{accepted-sound}
 use Rattle.layout.proofs.Sizes.{compact-sizes}
 use Rattle.tables.proofs.Laws.{threes}
 use Rattle.chordal_info.proofs.Counts.{accepted-fitting}
-use Rattle.decomp_augment.proofs.Rooms.{taken, compact-rooms}
+use Rattle.decomp_augment.proofs.Rooms.{taken, constraints-asked}
 use Rattle.decomp_augment_entries.specs.Rooms.{wordsOf}
 
 enough : (k entries : ℕ) → k ≤ 789504 → leb k (wordsOf entries) ≡ leb k (entries * 3)
@@ -65,7 +65,7 @@ map-fits p rooms entries e room =
       accepted-sound compact p (ok .0),
       omega (
         arith,
-        compact-rooms p rooms ok (blockRowCount (layout p)) (overlapCount (layout p)) refl refl .1 .1 .2,
+        constraints-asked p rooms compact ok (overlapCount (layout p)) refl (blockRowCount (layout p)) refl .1 .1 .5,
         threes entryWords entry-words (coneMap (layout p)),
         room,
       ),

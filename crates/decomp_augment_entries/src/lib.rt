@@ -85,34 +85,38 @@ fn cut_but_map(
     if refused != 0 {
         return refused;
     }
-    let d = parts::get_decomposed_dim_and_overlaps(m, cones, count, words);
-    compact_cut::write_all_but_map(
+    let d = constraints::count_added(1, m, cones, count, words);
+    augment::write_objective(
         n,
-        m,
         p_starts,
         p_rows,
         p_values,
         q,
+        alphas,
+        d.columns,
+        p_starts_out,
+        p_rows_out,
+        p_values_out,
+        q_out,
+        alphas_out,
+    );
+    constraints::decomp_augment_compact(
+        n,
+        m,
         a_starts,
         a_rows,
         a_values,
         b,
         cones,
-        alphas,
         count,
         words,
-        d.rows as usize,
-        d.overlaps as usize,
-        p_starts_out,
-        p_rows_out,
-        p_values_out,
-        q_out,
+        d.rows,
+        d.columns,
         a_starts_out,
         a_rows_out,
         a_values_out,
         b_out,
         cones_out,
-        alphas_out,
     );
     0
 }

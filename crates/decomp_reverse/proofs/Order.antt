@@ -1,5 +1,5 @@
 -- A joining's refusals in order, and what one that is refused nothing is given.
-use Prim.Native.Nat.{ℕ, _≤_}
+use Prim.Native.Nat.{ℕ, zero, suc, _≤_}
 use native.Mathlib.Omega.{arith}
 use mathlib.Core.Path.{_≡_, refl, sym, ap, subst, _∙_}
 use mathlib.Core.Bool.{Bool, true, false, cond, _&&_}
@@ -18,8 +18,10 @@ use Rattle.checks.proofs.Order.{joined-then-route, first-given, both-zero}
 use Rattle.checks.proofs.Checked.{joined-sound}
 use Rattle.chordal_info.specs.Routes.{joinRouteChecks, Counted}
 use Rattle.chordal_info.proofs.Sizes.{rows-fit, rows-few}
+use Rattle.chordal_info.proofs.Counts.{overlaps-few}
+use Rattle.chordal_info.proofs.Routes.{counted-join}
 use Rattle.reverse.specs.Joined.{Joinable, joinedOf}
-use Rattle.decomp_reverse.specs.Fits.{lengthsFit}
+use Rattle.decomp_reverse.specs.Fits.{lengthsFit, fitsBy, countedRefusal, refusalBy}
 
 -- the answer at each place
 pub join-order : (a : ℕ) (room fit : Bool) →
@@ -55,12 +57,77 @@ module _ (route : Route) (n m : ℕ) (cones : List ℕ) (count : ℕ) (words : L
   pub seven-passed : joinedRefusal n m cones count words ≡ 0 → later ≡ joinChecks route n m cones count words
   seven-passed e = sym (joined-then-route route n m cones count words ∙ ap (λ (k : ℕ). orElse k later) e)
 
--- ---- a solution's lengths from counts
+-- ---- from counts and lengths
 
-pub counted-fits : (route : Route) (n m rows overlaps : ℕ) (ps : List Part) (sol : Solution) → Counted ps rows overlaps
-    → lengthsFit route n m rows overlaps sol ≡ solutionFits route n m ps sol
-counted-fits standard n m rows overlaps ps sol h = rw (h .0)
-counted-fits compact n m rows overlaps ps sol h = rw (h .0, h .1)
+module _ (route : Route) (n m rows overlaps : ℕ) (ps : List Part) (h : Counted ps rows overlaps) where
+  pub counted-fits : (x s z : ℕ) → lengthsFit route n m rows overlaps x s z ≡ fitsBy route n m ps x s z
+  counted-fits x s z = rw (h .0, h .1) (on route)
+    where
+      on : (rt : Route) → lengthsFit rt n m (blockRowCount ps) (overlapCount ps) x s z ≡ fitsBy rt n m ps x s z
+      on standard = refl
+      on compact = refl
+
+  pub counted-few : overlaps ≤ rows
+  counted-few = rw (h .0, h .1) (overlaps-few ps)
+
+-- the answer before the map is compared
+before-map : (a : ℕ) (room fits : Bool) → ℕ
+before-map a room fits = orElse a (orElse (cond room 0 11) (cond fits 0 12))
+
+-- the map is compared last: it changes nothing where something is refused, and decides where nothing is
+map-last : (a : ℕ) (room fits right : Bool) →
+    let x = before-map a room fits in
+    let y = before-map a room (fits && right) in
+    ((x ≡ 0 → ⊥) → x ≡ y) × (x ≡ 0 → y ≡ cond right 0 12)
+unfolding before-map
+map-last (suc a) room fits right = (λ h. refl, λ e. absurd (omega arith))
+map-last zero false fits right = (λ h. refl, λ e. absurd (omega arith))
+map-last zero true false right = (λ h. refl, λ e. absurd (omega arith))
+map-last zero true true right = (λ h. absurd (h refl), λ e. refl)
+
+-- the joining's number, by the lengths
+module _ (route : Route) (n m : ℕ) (cones : List ℕ) (count : ℕ) (words : List ℕ) (x s z : ℕ) (entries rooms : List ℕ) where
+  abbrev ps : List Part
+  ps = joinedParts cones count words
+
+  abbrev ten : ℕ
+  ten = joinChecks route n m cones count words
+
+  abbrev room : Bool
+  room = roomy (n ∷ m ∷ m ∷ 2 ∷ []) rooms
+
+  -- one of checks 1 to 7 fails
+  pub refused-early : (r : ℕ) → r ≡ joinedRefusal n m cones count words → (r ≡ 0 → ⊥) → r ≡ refusalBy route n m cones count words x s z entries rooms
+  unfolding refusalBy
+  refused-early r e h =
+      let f : r ≡ ten = e ∙ seven-refused route n m cones count words (λ y. h (e ∙ y)) in
+      f ∙ sym (first-given ten (orElse (cond room 0 11) (cond (fitsBy route n m ps x s z && mapRight route ps entries) 0 12)) (λ y. h (f ∙ y)))
+
+  module _ (rows overlaps : ℕ) (c : Counted ps rows overlaps) (e : joinedRefusal n m cones count words ≡ 0) where
+    same : countedRefusal route n m rows overlaps x s z rooms ≡ before-map ten room (fitsBy route n m ps x s z)
+    unfolding countedRefusal before-map
+    same =
+        ap (λ (a : ℕ). orElse a (orElse (cond room 0 11) (cond (lengthsFit route n m rows overlaps x s z) 0 12)))
+        (counted-join route m ps rows overlaps c n ∙ seven-passed route n m cones count words e)
+        ∙ ap (λ (t : Bool). orElse ten (orElse (cond room 0 11) (cond t 0 12))) (counted-fits route n m rows overlaps ps c x s z)
+
+    -- one of checks 8 to 12 fails, the map aside
+    pub refused-counted : (r : ℕ) → r ≡ countedRefusal route n m rows overlaps x s z rooms → (r ≡ 0 → ⊥) → r ≡ refusalBy route n m cones count words x s z entries rooms
+    unfolding refusalBy before-map
+    refused-counted r f h =
+        f ∙ same ∙ map-last ten room (fitsBy route n m ps x s z) (mapRight route ps entries) .0 (λ y. h (f ∙ same ∙ y))
+
+    -- none does
+    pub by-map : (r : ℕ) → r ≡ countedRefusal route n m rows overlaps x s z rooms → r ≡ 0
+        → refusalBy route n m cones count words x s z entries rooms ≡ cond (mapRight route ps entries) 0 12
+    unfolding refusalBy before-map
+    by-map r f y = map-last ten room (fitsBy route n m ps x s z) (mapRight route ps entries) .1 (sym same ∙ sym f ∙ y)
+
+pub as-layout : (route : Route) (n m : ℕ) (cones : List ℕ) (count : ℕ) (words : List ℕ) (sol : Solution) (entries rooms : List ℕ)
+    → refusalBy route n m cones count words (length (sol .x)) (length (sol .s)) (length (sol .z)) entries rooms
+    ≡ joinRefusal route n m cones count words sol entries rooms
+unfolding refusalBy
+as-layout route n m cones count words sol entries rooms = refl
 
 -- ---- nothing is refused
 

@@ -1,12 +1,33 @@
--- Check 12's lengths from counts: n, m, the blocks' rows and their overlaps.
+-- A joining's refusals from counts and lengths: n, m, the blocks' rows and their overlaps; the lengths of x, s and z; the room of each output.
 use Prim.Native.Nat.{ℕ, _+_}
-use mathlib.Core.Bool.{Bool, _&&_}
-use lib.ListN.{length}
+use mathlib.Core.Bool.{Bool, cond, _&&_}
+use mathlib.Core.List.{List, [], _∷_}
 use lib.Dec.{eqb}
-use Rattle.layout.specs.Problem.{Route, standard, compact, Solution}
+use Rattle.layout.specs.Problem.{Route, standard, compact}
+use Rattle.layout.specs.Blocks.{Part}
+use Rattle.layout.specs.Checks.{firstFailing}
+use Rattle.layout.specs.Answers.{orElse, roomy, addedCount, slackCount, joinedParts, mapRight, joinChecks}
+use Rattle.chordal_info.specs.Routes.{joinCountChecks}
 
-abbrev pub lengthsFit : Route → ℕ → ℕ → ℕ → ℕ → Solution → Bool
-lengthsFit standard n m rows overlaps sol =
-    eqb (length (sol .x)) (n + rows) && eqb (length (sol .s)) (m + rows) && eqb (length (sol .z)) (m + rows)
-lengthsFit compact n m rows overlaps sol =
-    eqb (length (sol .x)) (n + overlaps) && eqb (length (sol .s)) rows && eqb (length (sol .z)) rows
+-- the lengths of check 12
+abbrev pub lengthsFit : Route → ℕ → ℕ → ℕ → ℕ → ℕ → ℕ → ℕ → Bool
+lengthsFit standard n m rows overlaps x s z = eqb x (n + rows) && eqb s (m + rows) && eqb z (m + rows)
+lengthsFit compact n m rows overlaps x s z = eqb x (n + overlaps) && eqb s rows && eqb z rows
+
+-- checks 8 to 12 but for the cone map
+unfoldable pub countedRefusal : Route → ℕ → ℕ → ℕ → ℕ → ℕ → ℕ → ℕ → List ℕ → ℕ
+countedRefusal route n m rows overlaps x s z rooms =
+    orElse (firstFailing 8 (joinCountChecks route n m rows overlaps))
+    (orElse (cond (roomy (n ∷ m ∷ m ∷ 2 ∷ []) rooms) 0 11)
+    (cond (lengthsFit route n m rows overlaps x s z) 0 12))
+
+-- layout's `solutionFits` and `joinRefusal`, by the lengths of the solution
+abbrev pub fitsBy : Route → ℕ → ℕ → List Part → ℕ → ℕ → ℕ → Bool
+fitsBy route n m ps x s z = eqb x (n + addedCount route ps) && eqb s (slackCount route m ps) && eqb z (slackCount route m ps)
+
+unfoldable pub refusalBy : Route → ℕ → ℕ → List ℕ → ℕ → List ℕ → ℕ → ℕ → ℕ → List ℕ → List ℕ → ℕ
+refusalBy route n m cones count words x s z entries rooms =
+    let ps = joinedParts cones count words in
+    orElse (joinChecks route n m cones count words)
+    (orElse (cond (roomy (n ∷ m ∷ m ∷ 2 ∷ []) rooms) 0 11)
+    (cond (fitsBy route n m ps x s z && mapRight route ps entries) 0 12))

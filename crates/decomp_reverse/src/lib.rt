@@ -6,16 +6,13 @@ ghost use Prim.Native.Nat.{_≤_};
 ghost use lib.ListN.{length, take, drop};
 ghost use lib.Dec.{eqb};
 ghost use Rattle.layout.specs.Lists.{below, sameNumbers, written};
-ghost use Rattle.layout.specs.Problem.{one64, solution};
-ghost use Rattle.layout.specs.Blocks.{blockRowCount};
+ghost use Rattle.layout.specs.Problem.{solution};
 ghost use Rattle.layout.specs.Checks.{Sound};
 ghost use Rattle.layout.specs.Compact.{blockOf, coneMap, mapWords};
-ghost use Rattle.layout.specs.Answers.{output, roomy, onRoute, routeOf, joinedParts, solutionFits, mapRight, joinChecks, joinRefusal, joined, scalars as scalarsOf};
-ghost use Rattle.checks.specs.Order.{joinedRefusal};
-ghost use Rattle.chordal_info.specs.Routes.{Counted};
+ghost use Rattle.layout.specs.Answers.{output, roomy, onRoute, routeOf, joinedParts, joinRefusal, joined, scalars as scalarsOf};
 ghost use Rattle.reverse.specs.Joined.{Joinable, joinedOf};
 ghost use Rattle.decomp_reverse.specs.Begins.{begins};
-ghost use Rattle.decomp_reverse.specs.Fits.{lengthsFit};
+ghost use Rattle.decomp_reverse.specs.Fits.{lengthsFit, countedRefusal, refusalBy};
 use parts::Met;
 use parts::Place;
 use reverse_standard::Scalars;
@@ -93,17 +90,6 @@ fn map_right(m: u32, cones: &[u32], count: u32, words: &[u32], entries: &[u32]) 
 
 // ---- the checks
 
-// Checks 1 to 10 of a joining in order: the number of the first that fails, or 0.
-pub fn check_join(route: u32, n: u32, m: u32, cones: &[u32], count: u32, words: &[u32]) -> u32
-    ensures { λ r. ⌜ r ≡ joinChecks (routeOf route) n m (now (cones .entry)) count (now (words .entry)) ⌝ }
-{
-    let c = checks::check_joined(n, m, cones, count, words);
-    if c.refusal != 0 {
-        return c.refusal;
-    }
-    chordal_info::check_join_counted(route, n, m, c.rows, c.overlaps)
-}
-
 // Check 11: whether the outputs have room for x, s, z and the two scalars.
 pub fn room_enough(n: u32, m: u32, x: usize, s: usize, z: usize, scalars: usize) -> bool
     ensures { λ r. ⌜ r ≡ roomy (n ∷ m ∷ m ∷ 2 ∷ []) (x ∷ s ∷ z ∷ scalars ∷ []) ⌝ }
@@ -120,31 +106,32 @@ pub fn room_enough(n: u32, m: u32, x: usize, s: usize, z: usize, scalars: usize)
     2 <= scalars
 }
 
-fn lengths_are(x: &[f64], s: &[f64], z: &[f64], columns: usize, rows: usize) -> bool
-    ensures { λ r. ⌜ r ≡ (eqb (length (now (x .entry))) columns && eqb (length (now (s .entry))) rows && eqb (length (now (z .entry))) rows) ⌝ }
+// Whether x, s and z of a solution are so long.
+fn lengths_are(x: usize, s: usize, z: usize, columns: usize, rows: usize) -> bool
+    ensures { λ r. ⌜ r ≡ (eqb x columns && eqb s rows && eqb z rows) ⌝ }
 {
-    if x.len() != columns {
+    if x != columns {
         return false;
     }
-    if s.len() != rows {
+    if s != rows {
         return false;
     }
-    z.len() == rows
+    z == rows
 }
 
-// Check 12: whether the solution has the augmented problem's lengths, whose blocks' rows and overlaps are counted.
-fn lengths_fit(
+// The lengths of check 12: whether the solution's are the augmented problem's, whose blocks' rows and overlaps are counted.
+pub fn lengths_fit(
     route: u32,
     n: u32,
     m: u32,
     rows: u64,
     overlaps: u64,
-    x: &[f64],
-    s: &[f64],
-    z: &[f64],
+    x: usize,
+    s: usize,
+    z: usize,
 ) -> bool
     requires { ⌜ (rows ≤ 262144) × (overlaps ≤ rows) ⌝ }
-    ensures { λ r. ⌜ r ≡ lengthsFit (routeOf route) n m rows overlaps (solution (now (x .entry)) (now (s .entry)) (now (z .entry)) one64 one64) ⌝ }
+    ensures { λ r. ⌜ r ≡ lengthsFit (routeOf route) n m rows overlaps x s z ⌝ }
 {
     let k = rows as usize;
     if route == 0 {
@@ -153,76 +140,23 @@ fn lengths_fit(
     lengths_are(x, s, z, n as usize + overlaps as usize, k)
 }
 
-// The same, counted here.
-pub fn solution_fits(
-    route: u32,
-    n: u32,
-    m: u32,
-    cones: &[u32],
-    count: u32,
-    words: &[u32],
-    x: &[f64],
-    s: &[f64],
-    z: &[f64],
-) -> bool
-    requires { ⌜ Sound m (now cones) count (now words) ⌝ }
-    requires { ⌜ blockRowCount (joinedParts (now cones) count (now words)) ≤ 262144 ⌝ }
-    ensures { λ r. ⌜ r ≡ solutionFits (routeOf route) n m (joinedParts (now (cones .entry)) count (now (words .entry))) (solution (now (x .entry)) (now (s .entry)) (now (z .entry)) one64 one64) ⌝ }
-{
-    let d = parts::get_decomposed_dim_and_overlaps(m, cones, count, words);
-    lengths_fit(route, n, m, d.rows, d.overlaps, x, s, z)
-}
-
-// And on the compact route the cone map.
-fn solution_right(
-    route: u32,
-    n: u32,
-    m: u32,
-    cones: &[u32],
-    count: u32,
-    words: &[u32],
-    rows: u64,
-    overlaps: u64,
-    x: &[f64],
-    s: &[f64],
-    z: &[f64],
-    entries: &[u32],
-) -> bool
-    requires { ⌜ Sound m (now cones) count (now words) ⌝ }
-    requires { ⌜ Counted (joinedParts (now cones) count (now words)) rows overlaps × (rows ≤ 262144) ⌝ }
-    ensures { λ r. ⌜ r ≡ (solutionFits (routeOf route) n m (joinedParts (now (cones .entry)) count (now (words .entry))) (solution (now (x .entry)) (now (s .entry)) (now (z .entry)) one64 one64) && mapRight (routeOf route) (joinedParts (now (cones .entry)) count (now (words .entry))) (now (entries .entry))) ⌝ }
-{
-    if !lengths_fit(route, n, m, rows, overlaps, x, s, z) {
-        return false;
-    }
-    if route == 0 {
-        return true;
-    }
-    map_right(m, cones, count, words, entries)
-}
-
-// Checks 8 to 12 in order, where checks 1 to 7 have passed.
+// Checks 8 to 12 in order but for the cone map, from counts and lengths.
 fn refuse_counted(
     route: u32,
     n: u32,
     m: u32,
-    cones: &[u32],
-    count: u32,
-    words: &[u32],
     rows: u64,
     overlaps: u64,
-    x: &[f64],
-    s: &[f64],
-    z: &[f64],
-    entries: &[u32],
+    x: usize,
+    s: usize,
+    z: usize,
     x_room: usize,
     s_room: usize,
     z_room: usize,
     scalars_room: usize,
 ) -> u32
-    requires { ⌜ joinedRefusal n m (now cones) count (now words) ≡ 0 ⌝ }
-    requires { ⌜ Counted (joinedParts (now cones) count (now words)) rows overlaps ⌝ }
-    ensures { λ r. ⌜ r ≡ joinRefusal (routeOf route) n m (now (cones .entry)) count (now (words .entry)) (solution (now (x .entry)) (now (s .entry)) (now (z .entry)) one64 one64) (now (entries .entry)) («x_room» ∷ «s_room» ∷ «z_room» ∷ «scalars_room» ∷ []) ⌝ }
+    requires { ⌜ overlaps ≤ rows ⌝ }
+    ensures { λ r. ⌜ r ≡ countedRefusal (routeOf route) n m rows overlaps x s z («x_room» ∷ «s_room» ∷ «z_room» ∷ «scalars_room» ∷ []) ⌝ }
 {
     let r = chordal_info::check_join_counted(route, n, m, rows, overlaps);
     if r != 0 {
@@ -231,27 +165,14 @@ fn refuse_counted(
     if !room_enough(n, m, x_room, s_room, z_room, scalars_room) {
         return 11;
     }
-    if !solution_right(
-        route,
-        n,
-        m,
-        cones,
-        count,
-        words,
-        rows,
-        overlaps,
-        x,
-        s,
-        z,
-        entries,
-    ) {
+    if !lengths_fit(route, n, m, rows, overlaps, x, s, z) {
         return 12;
     }
     0
 }
 
-// Checks 1 to 12 in order, with the room of each output: the number of the first that fails, or 0. Any number but 0 names the compact route.
-// The blocks are counted once for all checks.
+// Checks 1 to 12 in order, with the lengths of x, s and z and the room of each output: the number of the first that fails, or 0. Any number but 0
+// names the compact route. The blocks are counted once for all checks.
 fn refuse_join(
     route: u32,
     n: u32,
@@ -259,39 +180,45 @@ fn refuse_join(
     cones: &[u32],
     count: u32,
     words: &[u32],
-    x: &[f64],
-    s: &[f64],
-    z: &[f64],
+    x: usize,
+    s: usize,
+    z: usize,
     entries: &[u32],
     x_room: usize,
     s_room: usize,
     z_room: usize,
     scalars_room: usize,
 ) -> u32
-    ensures { λ r. ⌜ r ≡ joinRefusal (routeOf route) n m (now (cones .entry)) count (now (words .entry)) (solution (now (x .entry)) (now (s .entry)) (now (z .entry)) one64 one64) (now (entries .entry)) («x_room» ∷ «s_room» ∷ «z_room» ∷ «scalars_room» ∷ []) ⌝ }
+    ensures { λ r. ⌜ r ≡ refusalBy (routeOf route) n m (now (cones .entry)) count (now (words .entry)) x s z (now (entries .entry)) («x_room» ∷ «s_room» ∷ «z_room» ∷ «scalars_room» ∷ []) ⌝ }
 {
     let c = checks::check_joined(n, m, cones, count, words);
     if c.refusal != 0 {
         return c.refusal;
     }
-    refuse_counted(
+    let r = refuse_counted(
         route,
         n,
         m,
-        cones,
-        count,
-        words,
         c.rows,
         c.overlaps,
         x,
         s,
         z,
-        entries,
         x_room,
         s_room,
         z_room,
         scalars_room,
-    )
+    );
+    if r != 0 {
+        return r;
+    }
+    if route == 0 {
+        return 0;
+    }
+    if map_right(m, cones, count, words, entries) {
+        return 0;
+    }
+    12
 }
 
 // ---- the joining
@@ -367,9 +294,9 @@ pub fn join(
         cones,
         count,
         words,
-        x,
-        s,
-        z,
+        x.len(),
+        s.len(),
+        z.len(),
         map,
         x_out.len(),
         s_out.len(),

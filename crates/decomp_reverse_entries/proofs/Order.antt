@@ -4,13 +4,14 @@ use native.Mathlib.Omega.{arith}
 use mathlib.Core.Path.{_≡_, refl, ap, _∙_}
 use mathlib.Core.Bool.{Bool, true, false, cond, _&&_}
 use mathlib.Core.List.{List, [], _∷_}
+use lib.ListN.{length}
 use borrow.Author.Tests.{eq-eqb}
 use Rattle.layout.specs.Lists.{sameNumbers}
 use Rattle.layout.specs.Problem.{Solution, compact}
 use Rattle.layout.specs.Compact.{MapEntry, coneMap, mapWords}
 use Rattle.layout.specs.Answers.{orElse, roomy, joinedParts, solutionFits, joinChecks, joinRefusal}
 use Rattle.cone_map.specs.Entries.{sameMap}
-use Rattle.decomp_reverse_entries.specs.Refusals.{refusalAs, entriesRefusal}
+use Rattle.decomp_reverse_entries.specs.Refusals.{refusalBy, refusalAs, entriesRefusal}
 
 numbers-same : (xs : List ℕ) → sameNumbers xs xs ≡ true
 numbers-same [] = refl
@@ -28,6 +29,11 @@ pub as-joined : (same : Bool) (n m : ℕ) (cones : List ℕ) (count : ℕ) (word
 as-joined same n m cones count words sol rooms e =
     ap (λ (b : Bool). refusalAs b n m cones count words sol rooms) (numbers-same (mapWords (coneMap (joinedParts cones count words))))
     ∙ right-map (joinChecks compact n m cones count words) (roomy (n ∷ m ∷ m ∷ 2 ∷ []) rooms) (solutionFits compact n m (joinedParts cones count words) sol) same e
+
+pub by-lengths : (same : Bool) (n m : ℕ) (cones : List ℕ) (count : ℕ) (words : List ℕ) (sol : Solution) (rooms : List ℕ)
+    → refusalBy same n m cones count words (length (sol .x)) (length (sol .s)) (length (sol .z)) rooms ≡ refusalAs same n m cones count words sol rooms
+unfolding refusalBy
+by-lengths same n m cones count words sol rooms = refl
 
 -- whether the map is the problem's matters only where checks 1 to 10 pass
 pub as-entries : (same : Bool) (n m : ℕ) (cones : List ℕ) (count : ℕ) (words : List ℕ) (sol : Solution) (entries : List MapEntry) (rooms : List ℕ)

@@ -2,15 +2,26 @@
 ghost use mathlib.Core.Path.{_≡_};
 ghost use mathlib.Core.List.{[], _∷_, map as mapped};
 ghost use lib.ListN.{length};
-ghost use Rattle.layout.specs.Problem.{one64, compact, solution};
+ghost use Rattle.layout.specs.Problem.{compact, solution};
 ghost use Rattle.layout.specs.Answers.{output, joinedParts, joinChecks, joined, scalars as scalarsOf};
 ghost use Rattle.cone_map.specs.Entries.{meant};
-ghost use Rattle.decomp_reverse_entries.specs.Refusals.{refusalAs, entriesRefusal};
+ghost use Rattle.decomp_reverse_entries.specs.Refusals.{refusalBy, refusalAs, entriesRefusal};
 use cone_map::ConeMapEntry;
 use reverse_standard::Scalars;
 
+// Checks 1 to 10 in order: the number of the first that fails, or 0.
+fn check_join(n: u32, m: u32, cones: &[u32], count: u32, words: &[u32]) -> u32
+    ensures { λ r. ⌜ r ≡ joinChecks compact n m (now (cones .entry)) count (now (words .entry)) ⌝ }
+{
+    let c = checks::check_joined(n, m, cones, count, words);
+    if c.refusal != 0 {
+        return c.refusal;
+    }
+    chordal_info::check_join_counted(1, n, m, c.rows, c.overlaps)
+}
+
 // Checks 11 and 12 after checks 1 to 10, whose answer is given: the number of the first that fails, or 0. Whether the map is the problem's is
-// given too.
+// given too, and how long x, s and z are.
 fn refuse_as(
     refused: u32,
     same: bool,
@@ -19,16 +30,16 @@ fn refuse_as(
     cones: &[u32],
     count: u32,
     words: &[u32],
-    x: &[f64],
-    s: &[f64],
-    z: &[f64],
+    x: usize,
+    s: usize,
+    z: usize,
     x_room: usize,
     s_room: usize,
     z_room: usize,
     scalars_room: usize,
 ) -> u32
     requires { ⌜ refused ≡ joinChecks compact n m (now cones) count (now words) ⌝ }
-    ensures { λ r. ⌜ r ≡ refusalAs same n m (now (cones .entry)) count (now (words .entry)) (solution (now (x .entry)) (now (s .entry)) (now (z .entry)) one64 one64) («x_room» ∷ «s_room» ∷ «z_room» ∷ «scalars_room» ∷ []) ⌝ }
+    ensures { λ r. ⌜ r ≡ refusalBy same n m (now (cones .entry)) count (now (words .entry)) x s z («x_room» ∷ «s_room» ∷ «z_room» ∷ «scalars_room» ∷ []) ⌝ }
 {
     if refused != 0 {
         return refused;
@@ -36,7 +47,8 @@ fn refuse_as(
     if !decomp_reverse::room_enough(n, m, x_room, s_room, z_room, scalars_room) {
         return 11;
     }
-    if !decomp_reverse::solution_fits(1, n, m, cones, count, words, x, s, z) {
+    let d = parts::get_decomposed_dim_and_overlaps(m, cones, count, words);
+    if !decomp_reverse::lengths_fit(1, n, m, d.rows, d.overlaps, x, s, z) {
         return 12;
     }
     if !same {
@@ -75,9 +87,9 @@ fn join_as(
         cones,
         count,
         words,
-        x,
-        s,
-        z,
+        x.len(),
+        s.len(),
+        z.len(),
         x_out.len(),
         s_out.len(),
         z_out.len(),
@@ -119,7 +131,7 @@ pub fn join_compact_entries(
     ensures { λ r. ⌜ now («z_out» .exit) ≡ output r (joined compact n m (joinedParts (now (cones .entry)) count (now (words .entry))) (solution (now (x .entry)) (now (s .entry)) (now (z .entry)) tau kappa) .z) (now («z_out» .entry)) ⌝ }
     ensures { λ r. ⌜ now («scalars_out» .exit) ≡ output r (scalarsOf (joined compact n m (joinedParts (now (cones .entry)) count (now (words .entry))) (solution (now (x .entry)) (now (s .entry)) (now (z .entry)) tau kappa))) (now («scalars_out» .entry)) ⌝ }
 {
-    let refused = decomp_reverse::check_join(1, n, m, cones, count, words);
+    let refused = check_join(n, m, cones, count, words);
     let same = cone_maps::same_map(refused, m, cones, count, words, map);
     join_as(
         n,

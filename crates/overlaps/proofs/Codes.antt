@@ -13,9 +13,9 @@ use Rattle.layout.proofs.Pairs.{length-pairs}
 use Rattle.blocks.specs.Cliques.{cliqueHere, verticesHere, rowsHere}
 use Rattle.blocks.proofs.Cliques.{vertices-rise}
 use Rattle.blocks.proofs.Orders.{down-more, down-room}
-use Rattle.overlaps.specs.Places.{Places, tieCode, placeCode}
+use Rattle.parent_rows.specs.Places.{Places, tieCode, placeCode}
 use Rattle.overlaps.specs.Tables.{tiedHere, codesHere}
-use Rattle.overlaps.proofs.Places.{code-places}
+use Rattle.parent_rows.proofs.Places.{code-places}
 
 module _ (base start : ℕ) (ws ordering : List ℕ) (parent at : ℕ) where
   pub length-tied : length (tiedHere base start ws ordering parent at) ≡ triangle (length (verticesHere ws ordering at))

@@ -1,4 +1,3 @@
-pub mod Places
 pub mod Starts
 pub mod Codes
 pub mod Patterns

@@ -25,7 +25,7 @@ use Rattle.blocks.specs.Columns.{columnPairs}
 use Rattle.codes.specs.Codes.{cutCode}
 use Rattle.blocks.proofs.Patterns.{map-join, down-same}
 use Rattle.blocks.proofs.Offsets.{StandAt, here, stands, vertices-clique, rows-block}
-use Rattle.overlaps.specs.Places.{tieCode}
+use Rattle.parent_rows.specs.Places.{tieCode}
 use Rattle.overlaps.specs.Tables.{AllFound, sizeHere, FirstRows, Tied, tiedHere, codesHere}
 use Rattle.overlaps.proofs.Codes.{codes-last, codes-tied}
 

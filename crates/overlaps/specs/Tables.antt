@@ -11,7 +11,7 @@ use Rattle.layout.specs.Patterns.{readClique, blockSize}
 use Rattle.layout.specs.Blocks.{pairs}
 use Rattle.supernode_tree.specs.Reads.{whole}
 use Rattle.blocks.specs.Cliques.{cliqueHere, verticesHere, rowsHere, Standing}
-use Rattle.overlaps.specs.Places.{tieCode}
+use Rattle.parent_rows.specs.Places.{tieCode}
 
 -- a clique stands whole at each offset
 abbrev pub AllFound : List ℕ → List ℕ → Type 0

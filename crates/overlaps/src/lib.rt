@@ -1,24 +1,23 @@
-// The compact cut's rows of one pattern: an owned entry's original row, an overlap's row in the parent's block.
+// The compact cut's rows of one pattern, block by block: an owned entry's original row, an overlap's row in the parent's block.
 ghost use mathlib.Core.Path.{_≡_};
-ghost use mathlib.Core.Bool.{true, cond};
+ghost use mathlib.Core.Bool.{true};
 ghost use mathlib.Core.List.{map, reverse};
-ghost use Prim.Native.Nat.{suc, _+_, _-_, _<_, _≤_};
-ghost use lib.ListN.{length, getD, drop, replicate};
-ghost use lib.Dec.{T, eqb};
-ghost use Rattle.layout.specs.Lists.{written, rises, below, join, sum, Below};
+ghost use Prim.Native.Nat.{_+_, _<_, _≤_};
+ghost use lib.ListN.{length, drop, replicate};
+ghost use Rattle.layout.specs.Lists.{written, below, join, sum};
 ghost use Rattle.layout.specs.Triangle.{triangle};
 ghost use Rattle.layout.specs.Patterns.{readClique};
-ghost use Rattle.layout.specs.Blocks.{pairs, patternRows, blockRows};
+ghost use Rattle.layout.specs.Blocks.{patternRows, blockRows};
 ghost use Rattle.layout.specs.Checks.{RightPattern};
 ghost use Rattle.supernode_tree.specs.Reads.{whole, patternAt};
-ghost use Rattle.blocks.specs.Columns.{columnPairs, ColumnsFit};
 ghost use Rattle.blocks.specs.Cliques.{cliqueHere, verticesHere, Stands};
 ghost use Rattle.codes.specs.Codes.{cutCode};
-ghost use Rattle.overlaps.specs.Places.{Places, Climbing, placeCode};
+ghost use Rattle.parent_rows.specs.Places.{Places};
 ghost use Rattle.overlaps.specs.Tables.{AllFound, sizeHere, FirstRows, Tied, tiedHere, codesHere};
 use blocks::clique_rows;
 use blocks::clique_vertices;
-use blocks::row_column;
+use parent_rows::code_block;
+use parent_rows::note_places;
 use supernode_tree::Clique;
 use supernode_tree::Pattern;
 use supernode_tree::PatternRead;
@@ -54,21 +53,7 @@ fn first_rows(words: &[u32], offsets: &[usize], first: u32, out: &mut [u32])
 
 // ---- places in the parent's block
 
-// One more than the place of each vertex in a clear table.
-fn note_places(vertices: &[u32], out: &mut [u32])
-    requires { ⌜ T (rises (now vertices)) × Below (length (now out)) (now vertices) × (length (now vertices) ≤ 256) ⌝ }
-    requires { ⌜ now out ≡ replicate (length (now out)) 0 ⌝ }
-    ensures { λ _. ⌜ Places (now (vertices .entry)) (now (out .exit)) ⌝ }
-{
-    let mut i = 0;
-    while i < vertices.len() {
-        let v = vertices[i] as usize;
-        out[v] = i as u32 + 1;
-        i += 1;
-    }
-}
-
-// The same of the clique at an offset.
+// One more than the place of each vertex of the clique at an offset, in a clear table.
 fn clique_places(words: &[u32], ordering: &[u32], at: usize, out: &mut [u32])
     requires { ⌜ Stands (now words) (now ordering) at ⌝ }
     requires { ⌜ now out ≡ replicate 256 0 ⌝ }
@@ -80,67 +65,6 @@ fn clique_places(words: &[u32], ordering: &[u32], at: usize, out: &mut [u32])
 }
 
 // ---- codes
-
-// The parent's row where the vertex has a place there, else the entry's own.
-fn tied_row(own: u32, tied: u32, place: u32) -> u32
-    requires { ⌜ tied + place ≤ 4294967295 ⌝ }
-    ensures { λ r. ⌜ r ≡ cond (eqb place 0) own (tied + (place - 1)) ⌝ }
-{
-    if place == 0 {
-        return own;
-    }
-    tied + (place - 1)
-}
-
-// The codes of column j, whose vertex has a place in the parent's block, which starts at row start.
-fn tied_column(out: &mut [u32], vertices: &[u32], places: &[u32], j: usize, base: u32, start: u32)
-    requires { ⌜ (j < length (now vertices)) × (j < length (now out)) × T (rises (now vertices)) × Below (length (now places)) (now vertices) ⌝ }
-    requires { ⌜ (base + triangle (suc (getD (now vertices) j 0)) ≤ 65536) × (start ≤ 262144) × Climbing (now places) ⌝ }
-    requires { ⌜ 0 < getD (now places) (getD (now vertices) j 0) 0 ⌝ }
-    ensures { λ _. ⌜ now (out .exit) ≡ written (map (placeCode (now (places .entry)) base start) (columnPairs (now (vertices .entry)) j)) (now (out .entry)) ⌝ }
-{
-    let c = vertices[j];
-    let row = base + c * (c + 1) / 2;
-    let place = places[c as usize] - 1;
-    let tied = 65536 + start + place * (place + 1) / 2;
-    let mut i = 0;
-    while i <= j {
-        let v = vertices[i];
-        out[i] = tied_row(row + v, tied, places[v as usize]);
-        i += 1;
-    }
-}
-
-// The codes of column j.
-fn code_column(out: &mut [u32], vertices: &[u32], places: &[u32], j: usize, base: u32, start: u32)
-    requires { ⌜ (j < length (now vertices)) × (j < length (now out)) × T (rises (now vertices)) × Below (length (now places)) (now vertices) ⌝ }
-    requires { ⌜ (base + triangle (suc (getD (now vertices) j 0)) ≤ 65536) × (start ≤ 262144) × Climbing (now places) ⌝ }
-    ensures { λ _. ⌜ now (out .exit) ≡ written (map (placeCode (now (places .entry)) base start) (columnPairs (now (vertices .entry)) j)) (now (out .entry)) ⌝ }
-{
-    let c = vertices[j] as usize;
-    if places[c] == 0 {
-        row_column(out, vertices, j, base);
-    } else {
-        tied_column(out, vertices, places, j, base, start);
-    }
-}
-
-// The codes of a block, column by column; how many.
-fn code_block(out: &mut [u32], vertices: &[u32], places: &[u32], base: u32, start: u32) -> usize
-    requires { ⌜ T (rises (now vertices)) × Below (length (now places)) (now vertices) × ColumnsFit base (now vertices) 65536 ⌝ }
-    requires { ⌜ (start ≤ 262144) × Climbing (now places) × (triangle (length (now vertices)) ≤ length (now out)) ⌝ }
-    ensures { λ r. ⌜ r ≡ triangle (length (now (vertices .entry))) ⌝ }
-    ensures { λ _. ⌜ now (out .exit) ≡ written (map (placeCode (now (places .entry)) base start) (pairs (now (vertices .entry)))) (now (out .entry)) ⌝ }
-{
-    let mut t = 0;
-    let mut j = 0;
-    while j < vertices.len() {
-        code_column(&mut out[t..], vertices, places, j, base, start);
-        t += j + 1;
-        j += 1;
-    }
-    t
-}
 
 // The codes of the clique at an offset, whose parent's clique stands at another and its block starts at row start; how many.
 fn tied_rows(

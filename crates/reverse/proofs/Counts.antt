@@ -1,11 +1,12 @@
 -- The cones that patterns cut have few rows.
 use Prim.Native.Nat.{ℕ, _≤_}
+use native.Mathlib.Nat.{le-trans}
 use native.Mathlib.Omega.{arith}
 use mathlib.Core.Path.{_≡_, ap, sym, subst}
 use mathlib.Core.Logic.{⊎-elim}
 use mathlib.Core.Bool.{Bool, true, false, cond, not, _||_}
 use mathlib.Core.List.{List, [], _∷_}
-use lib.ListN.{getD}
+use lib.ListN.{getD, replicate, length-replicate}
 use lib.Dec.{T, leb, eqb}
 use Rattle.layout.specs.Lists.{all}
 use Rattle.layout.specs.Triangle.{triangle}
@@ -16,7 +17,7 @@ use Rattle.layout.specs.Checks.{noCone}
 use Rattle.layout.proofs.Tests.{and-iff, or-iff, not-iff, leb-iff, ltb-iff, eqb-iff}
 use Rattle.layout.proofs.Members.{all-at}
 use Rattle.layout.proofs.Triangles.{triangle-mono}
-use Rattle.reverse.specs.Counts.{sideFew, sidesFew, RowsWithin}
+use Rattle.reverse.specs.Counts.{sideFew, sidesFew, RowsWithin, CountsCones}
 
 -- 4,096 counts are enough where there are few rows, or few in each cone
 pub within : (m : ℕ) (cones : List ℕ) → T (leb m 4096 || sidesFew cones) → RowsWithin 4096 m cones
@@ -31,6 +32,17 @@ within m cones h p named fits few =
         ⊎-elim (λ no. absurd (not-iff (eqb (c .kind) 6) .0 no (eqb-iff (c .kind) 6 .1 (is .0 .1))))
         (λ yes. omega (arith, triangle-mono (p .vertexCount) 90 (omega (arith, leb-iff (c .first) 90 .0 yes, is .1))))
         (or-iff (not (eqb (c .kind) 6)) (leb (c .first) 90) .0 side)
+
+pub within-rows : (k m : ℕ) (cones : List ℕ) → m ≤ k → RowsWithin k m cones
+within-rows k m cones h p named fits few = le-trans fits h
+
+-- the largest cone that a pattern may cut has 32,896 rows
+pub within-all : (m : ℕ) (cones : List ℕ) → RowsWithin 32896 m cones
+within-all m cones p named fits few = triangle-mono (p .vertexCount) 256 few
+
+-- k counts are enough for cones of at most k rows
+pub counts-within : (k m : ℕ) (cones : List ℕ) → RowsWithin k m cones → CountsCones true m cones (replicate k 0)
+counts-within k m cones h p named fits few = subst (λ (n : ℕ). triangle (p .vertexCount) ≤ n) (sym (length-replicate {A = ℕ} k 0)) (h p named fits few)
 
 -- ---- the pattern of a cut part is one of the patterns
 

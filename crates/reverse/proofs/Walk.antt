@@ -1,15 +1,17 @@
 -- One output as the cones are walked, and what it holds at the end.
 use Prim.Native.Nat.{ℕ, _+_, _-_, _≤_}
+use native.Mathlib.Nat.{add-sub-cancel-left}
 use native.Mathlib.Omega.{arith}
 use mathlib.Core.Path.{_≡_, refl, sym, ap, ap₂, _∙_}
-use mathlib.Core.Bool.{true, false}
+use mathlib.Core.Bool.{Bool, true, false}
 use mathlib.Core.List.{List, [], _∷_, _++_, map, append-assoc, append-nil}
 use lib.ListN.{length, getD, take, drop, replicate, length-append, length-drop, take-append-drop}
 use lib.Seq.{length-take-le, take-at, take-append-add, drop-append-add, drop-drop}
 use lib.Ieee.{Float, nan}
-use Rattle.layout.specs.Lists.{sum, below, written}
+use Rattle.layout.specs.Lists.{sum, below, written, part}
 use Rattle.layout.specs.Problem.{zero64}
-use Rattle.layout.specs.Blocks.{Part, partRows, compactRows, standardRows, blockRowCount, coneRows}
+use Rattle.layout.specs.Cones.{Cone, rowCount}
+use Rattle.layout.specs.Blocks.{Part, whole, partRows, compactRows, standardRows, blockRowCount, coneRows}
 use Rattle.layout.specs.Checks.{Sound}
 use Rattle.layout.specs.Answers.{joinedParts}
 use Rattle.layout.specs.Reverse.{addRows, putRows, addColumns, columnCount, averaged}
@@ -17,7 +19,9 @@ use Rattle.layout.proofs.Joins.{map-same}
 use Rattle.layout.proofs.Starts.{length-written}
 use Rattle.layout.proofs.Laid.{sound-laid, sound-total}
 use Rattle.reverse_standard.specs.Averages.{shared}
-use Rattle.reverse_cones.specs.Parts.{sPart, zPart, valuesFrom, writtenAt}
+use Rattle.reverse_cones.specs.Parts.{wholeValues, sPart, zPart, valuesFrom, writtenAt}
+use Rattle.reverse_cones.proofs.Laws.{length-whole}
+use Rattle.reverse.specs.Joined.{Joinable, joinedOf, routeOf, firstOf}
 use Rattle.reverse.proofs.Parts.{zeros, s-standard, s-compact, z-compact}
 use Rattle.reverse.proofs.Averages.{z-standard}
 
@@ -29,8 +33,8 @@ pub record Joins (f : Part → List Float → List Float) (m : ℕ) (full vs old
   pub rest : drop m out ≡ drop m old
 
 module _ (f : Part → List Float → List Float) (m : ℕ) (vs old : List Float) (room : m ≤ length old) where
-  pub joins-none : (ps : List Part) → Joins f m (valuesFrom f ps vs) vs old ps 0 0 old
-  joins-none ps = record { size = refl; front = refl; rest = refl }
+  pub joins-none : (ps ahead : List Part) (t : ℕ) → ahead ≡ ps → Joins f m (valuesFrom f ps (drop t vs)) vs old ahead 0 t old
+  joins-none ps ahead t e = record { size = refl; front = ap (λ (qs : List Part). valuesFrom f qs (drop t vs)) e; rest = refl }
 
   -- the next part's rows were joined
   pub joins-more : (full : List Float) (x : Part) (ps ahead : List Part) (row t n k : ℕ) (out new : List Float) → Joins f m full vs old ahead row t out → ahead ≡ x ∷ ps
@@ -76,6 +80,21 @@ module _ (f : Part → List Float → List Float) (m : ℕ) (vs old : List Float
           ∙ drop-drop d (length xs) (drop row out) ∙ drop-drop (length xs + d) row out
           ∙ ap (λ (k : ℕ). drop k out) three
 
+  -- the next part was a whole cone
+  pub joins-whole : (full : List Float) (standard : Bool) (i : ℕ) (c : Cone) (at : ℕ) (ps ahead : List Part) (row t n : ℕ) (out new : List Float)
+      → ((ws : List Float) → f (whole i c at) ws ≡ wholeValues standard (take (rowCount c) ws)) → Joins f m full vs old ahead row t out → ahead ≡ whole i c at ∷ ps
+      → row + n ≤ m → n ≡ rowCount c → t + n ≤ length vs → new ≡ writtenAt row (wholeValues standard (part t (t + n) vs)) out → Joins f m full vs old ps (row + n) (t + n) new
+  joins-whole full standard i c at ps ahead row t n out new is h e fits used inside w =
+      joins-more full (whole i c at) ps ahead row t n n out new h e fits used wide (w ∙ ap (λ (xs : List Float). writtenAt row xs out) values)
+    where
+      values : wholeValues standard (part t (t + n) vs) ≡ f (whole i c at) (drop t vs)
+      values = ap (λ (k : ℕ). wholeValues standard (take k (drop t vs))) (add-sub-cancel-left t n ∙ used) ∙ sym (is (drop t vs))
+
+      wide : length (f (whole i c at) (drop t vs)) ≡ n
+      wide =
+          ap length (is (drop t vs)) ∙ length-whole standard (take (rowCount c) (drop t vs))
+          ∙ length-take-le (rowCount c) (drop t vs) (omega (arith, length-drop t vs)) ∙ sym used
+
   -- no part is left
   pub joins-done : (full : List Float) (ahead : List Part) (row t : ℕ) (out : List Float) → Joins f m full vs old ahead row t out → ahead ≡ [] → row ≡ m
       → out ≡ written full old
@@ -95,10 +114,10 @@ module _ {m : ℕ} {cones : List ℕ} {count : ℕ} {words : List ℕ} (h : Soun
   rows : sum (map coneRows ps) ≡ m
   rows = sound-total h
 
-  pub standard-s : valuesFrom (sPart true) (joinedParts cones count words) vs ≡ addColumns (standardRows (joinedParts cones count words)) vs (replicate m zero64)
+  standard-s : valuesFrom (sPart true) (joinedParts cones count words) vs ≡ addColumns (standardRows (joinedParts cones count words)) vs (replicate m zero64)
   standard-s = sym (s-standard 0 ps (sound-laid h .0) vs [] refl room) ∙ ap (λ (n : ℕ). addColumns (standardRows ps) vs (zeros n)) rows
 
-  pub standard-z : valuesFrom (zPart true) (joinedParts cones count words) vs
+  standard-z : valuesFrom (zPart true) (joinedParts cones count words) vs
       ≡ map (averaged (standardRows (joinedParts cones count words)) (addColumns (standardRows (joinedParts cones count words)) vs (replicate m zero64))) (below m)
   standard-z =
       let os = standardRows ps in
@@ -108,8 +127,30 @@ module _ {m : ℕ} {cones : List ℕ} {count : ℕ} {words : List ℕ} (h : Soun
       (λ o k. let e : 0 + o ≡ o = omega arith in ap (λ (q : ℕ). shared (columnCount os q) (getD ws o nan)) e)
       ∙ ap₂ (λ (xs : List Float) (n : ℕ). map (averaged os xs) (below n)) standard-s rows
 
-  pub compact-s : valuesFrom (sPart false) (joinedParts cones count words) vs ≡ addRows (compactRows (joinedParts cones count words)) vs (replicate m zero64)
+  compact-s : valuesFrom (sPart false) (joinedParts cones count words) vs ≡ addRows (compactRows (joinedParts cones count words)) vs (replicate m zero64)
   compact-s = sym (s-compact 0 0 ps (sound-laid h .0) vs [] refl room) ∙ ap (λ (n : ℕ). addRows (compactRows ps) vs (zeros n)) rows
 
-  pub compact-z : valuesFrom (zPart false) (joinedParts cones count words) vs ≡ putRows (compactRows (joinedParts cones count words)) vs (replicate m zero64)
+  compact-z : valuesFrom (zPart false) (joinedParts cones count words) vs ≡ putRows (compactRows (joinedParts cones count words)) vs (replicate m zero64)
   compact-z = sym (z-compact 0 0 ps (sound-laid h .0) vs [] refl room) ∙ ap (λ (n : ℕ). putRows (compactRows ps) vs (zeros n)) rows
+
+-- ---- what the checks say of s and z, on either route
+
+-- the values of the parts are the last
+pub values-last : (standard : Bool) {m : ℕ} {cones : List ℕ} {count : ℕ} {words : List ℕ} {s z : List Float} → Joinable (routeOf standard) m cones count words s z
+    → length s ≡ firstOf standard m + blockRowCount (joinedParts cones count words)
+values-last true j = j .slacks
+values-last false j = omega (arith, j .slacks)
+
+pub same-count : (standard : Bool) {m : ℕ} {cones : List ℕ} {count : ℕ} {words : List ℕ} {s z : List Float} → Joinable (routeOf standard) m cones count words s z
+    → length z ≡ length s
+same-count standard j = j .duals ∙ sym (j .slacks)
+
+pub joined-s : (standard : Bool) {m : ℕ} {cones : List ℕ} {count : ℕ} {words : List ℕ} {s z : List Float} → Joinable (routeOf standard) m cones count words s z
+    → valuesFrom (sPart standard) (joinedParts cones count words) (drop (firstOf standard m) s) ≡ joinedOf (routeOf standard) m cones count words s z .s
+joined-s true {m} {s = s} j = standard-s (j .sound) (drop m s) (omega (arith, length-drop m s, j .slacks))
+joined-s false {s = s} j = compact-s (j .sound) s (omega (arith, j .slacks))
+
+pub joined-z : (standard : Bool) {m : ℕ} {cones : List ℕ} {count : ℕ} {words : List ℕ} {s z : List Float} → Joinable (routeOf standard) m cones count words s z
+    → valuesFrom (zPart standard) (joinedParts cones count words) (drop (firstOf standard m) z) ≡ joinedOf (routeOf standard) m cones count words s z .z
+joined-z true {m} {z = z} j = standard-z (j .sound) (drop m z) (omega (arith, length-drop m z, j .duals))
+joined-z false {z = z} j = compact-z (j .sound) z (omega (arith, j .duals))

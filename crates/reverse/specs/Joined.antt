@@ -1,10 +1,11 @@
 -- What a joining of s and z walks over, and what it gives: x takes no part in them, nor do τ and κ.
 use Prim.Native.Nat.{ℕ, _≤_}
 use mathlib.Core.Path.{_≡_}
+use mathlib.Core.Bool.{Bool, true, false}
 use mathlib.Core.List.{List, []}
 use lib.ListN.{length}
 use lib.Ieee.{Float}
-use Rattle.layout.specs.Problem.{Route, Solution, solution, one64}
+use Rattle.layout.specs.Problem.{Route, standard, compact, Solution, solution, one64}
 use Rattle.layout.specs.Blocks.{blockRowCount}
 use Rattle.layout.specs.Checks.{Sound}
 use Rattle.layout.specs.Answers.{joined, joinedParts, slackCount}
@@ -18,3 +19,13 @@ pub record Joinable (route : Route) (m : ℕ) (cones : List ℕ) (count : ℕ) (
 
 abbrev pub joinedOf : Route → ℕ → List ℕ → ℕ → List ℕ → List Float → List Float → Solution
 joinedOf route m cones count words s z = joined route 0 m (joinedParts cones count words) (solution [] s z one64 one64)
+
+-- true stands for the standard route, false for the compact one
+abbrev pub routeOf : Bool → Route
+routeOf true = standard
+routeOf false = compact
+
+-- where the values of the parts begin: on the standard route m others come first
+abbrev pub firstOf : Bool → ℕ → ℕ
+firstOf true m = m
+firstOf false m = 0

@@ -6,11 +6,7 @@ ghost use lib.ListN.{length, take};
 ghost use lib.Dec.{leb};
 ghost use Rattle.layout.specs.Lists.{written};
 ghost use Rattle.layout.specs.Problem.{standard as standardRoute, compact as compactRoute};
-ghost use Rattle.layout.specs.Blocks.{blockRowCount};
-ghost use Rattle.layout.specs.Checks.{Sound};
-ghost use Rattle.layout.specs.Answers.{joinedParts};
-ghost use Rattle.reverse_cones.specs.Parts.{sPart, zPart, valuesFrom};
-ghost use Rattle.reverse.specs.Joined.{Joinable, joinedOf};
+ghost use Rattle.reverse.specs.Joined.{Joinable, joinedOf, routeOf, firstOf};
 ghost use Rattle.reverse.specs.Counts.{sideFew, sidesFew, RowsWithin, CountsCones};
 use parts::Met;
 use parts::Place;
@@ -30,30 +26,30 @@ fn copy_x(n: u32, x: &[f64], out: &mut [f64])
 
 // ---- all cones
 
-// s and z, with their values from the first cone's on. The buffers are made once for all patterns.
+// s and z on a route; the values of the first cone begin at `first`. The buffers are made once for all patterns.
 fn join_parts(
     standard: bool,
     m: u32,
     cones: &[u32],
     count: u32,
     words: &[u32],
+    first: u32,
     s: &[f64],
     z: &[f64],
     s_out: &mut [f64],
     z_out: &mut [f64],
     counts: &mut [u32],
 )
-    requires { ⌜ Sound m (now cones) count (now words) × (blockRowCount (joinedParts (now cones) count (now words)) ≤ 262144) ⌝ }
-    requires { ⌜ (length (now s) ≡ blockRowCount (joinedParts (now cones) count (now words))) × (length (now z) ≡ length (now s)) ⌝ }
+    requires { ⌜ Joinable (routeOf standard) m (now cones) count (now words) (now s) (now z) × (first ≡ firstOf standard m) ⌝ }
     requires { ⌜ (m ≤ length (now «s_out»)) × (m ≤ length (now «z_out»)) × CountsCones standard m (now cones) (now counts) ⌝ }
-    ensures { λ _. ⌜ now («s_out» .exit) ≡ written (valuesFrom (sPart standard) (joinedParts (now (cones .entry)) count (now (words .entry))) (now (s .entry))) (now («s_out» .entry)) ⌝ }
-    ensures { λ _. ⌜ now («z_out» .exit) ≡ written (valuesFrom (zPart standard) (joinedParts (now (cones .entry)) count (now (words .entry))) (now (z .entry))) (now («z_out» .entry)) ⌝ }
+    ensures { λ _. ⌜ now («s_out» .exit) ≡ written (joinedOf (routeOf standard) m (now (cones .entry)) count (now (words .entry)) (now (s .entry)) (now (z .entry)) .s) (now («s_out» .entry)) ⌝ }
+    ensures { λ _. ⌜ now («z_out» .exit) ≡ written (joinedOf (routeOf standard) m (now (cones .entry)) count (now (words .entry)) (now (s .entry)) (now (z .entry)) .z) (now («z_out» .entry)) ⌝ }
 {
     let mut offsets = [0usize; 256];
     let mut vertices = [0u32; 256];
     let mut place = Place::start(m, cones, count, words);
     let mut row = 0usize;
-    let mut t = 0usize;
+    let mut t = first as usize;
     loop {
         let met = place.next(m, cones, words);
         match met {
@@ -129,39 +125,7 @@ fn rows_few(m: u32, cones: &[u32]) -> bool
 
 // ---- the routes
 
-// s and z on the standard route, with room to count the columns of each cone's rows: their values are those after the first m.
-fn standard_by(
-    m: u32,
-    cones: &[u32],
-    count: u32,
-    words: &[u32],
-    s: &[f64],
-    z: &[f64],
-    s_out: &mut [f64],
-    z_out: &mut [f64],
-    counts: &mut [u32],
-)
-    requires { ⌜ Joinable standardRoute m (now cones) count (now words) (now s) (now z) ⌝ }
-    requires { ⌜ (m ≤ length (now «s_out»)) × (m ≤ length (now «z_out»)) × CountsCones true m (now cones) (now counts) ⌝ }
-    ensures { λ _. ⌜ now («s_out» .exit) ≡ written (joinedOf standardRoute m (now (cones .entry)) count (now (words .entry)) (now (s .entry)) (now (z .entry)) .s) (now («s_out» .entry)) ⌝ }
-    ensures { λ _. ⌜ now («z_out» .exit) ≡ written (joinedOf standardRoute m (now (cones .entry)) count (now (words .entry)) (now (s .entry)) (now (z .entry)) .z) (now («z_out» .entry)) ⌝ }
-{
-    let k = m as usize;
-    join_parts(
-        true,
-        m,
-        cones,
-        count,
-        words,
-        &s[k..],
-        &z[k..],
-        s_out,
-        z_out,
-        counts,
-    );
-}
-
-// The same with counts of its own, few where the rows are few: they are soon cleared.
+// s and z on the standard route, with counts of the columns on each cone's rows: few where the rows are few, since they are soon cleared.
 fn standard_few(
     m: u32,
     cones: &[u32],
@@ -178,7 +142,19 @@ fn standard_few(
     ensures { λ _. ⌜ now («z_out» .exit) ≡ written (joinedOf standardRoute m (now (cones .entry)) count (now (words .entry)) (now (s .entry)) (now (z .entry)) .z) (now («z_out» .entry)) ⌝ }
 {
     let mut counts = [0u32; 256];
-    standard_by(m, cones, count, words, s, z, s_out, z_out, &mut counts);
+    join_parts(
+        true,
+        m,
+        cones,
+        count,
+        words,
+        m,
+        s,
+        z,
+        s_out,
+        z_out,
+        &mut counts,
+    );
 }
 
 // The same for more rows, or for many cones of few rows.
@@ -198,7 +174,19 @@ fn standard_some(
     ensures { λ _. ⌜ now («z_out» .exit) ≡ written (joinedOf standardRoute m (now (cones .entry)) count (now (words .entry)) (now (s .entry)) (now (z .entry)) .z) (now («z_out» .entry)) ⌝ }
 {
     let mut counts = [0u32; 4096];
-    standard_by(m, cones, count, words, s, z, s_out, z_out, &mut counts);
+    join_parts(
+        true,
+        m,
+        cones,
+        count,
+        words,
+        m,
+        s,
+        z,
+        s_out,
+        z_out,
+        &mut counts,
+    );
 }
 
 // The same for the largest cone that a pattern may cut.
@@ -218,7 +206,19 @@ fn standard_many(
     ensures { λ _. ⌜ now («z_out» .exit) ≡ written (joinedOf standardRoute m (now (cones .entry)) count (now (words .entry)) (now (s .entry)) (now (z .entry)) .z) (now («z_out» .entry)) ⌝ }
 {
     let mut counts = [0u32; 32896];
-    standard_by(m, cones, count, words, s, z, s_out, z_out, &mut counts);
+    join_parts(
+        true,
+        m,
+        cones,
+        count,
+        words,
+        m,
+        s,
+        z,
+        s_out,
+        z_out,
+        &mut counts,
+    );
 }
 
 // x, s and z of a solution on the standard route.
@@ -273,5 +273,17 @@ pub fn decomp_reverse_compact(
 {
     copy_x(n, x, x_out);
     let mut none = [0u32; 1];
-    join_parts(false, m, cones, count, words, s, z, s_out, z_out, &mut none);
+    join_parts(
+        false,
+        m,
+        cones,
+        count,
+        words,
+        0,
+        s,
+        z,
+        s_out,
+        z_out,
+        &mut none,
+    );
 }

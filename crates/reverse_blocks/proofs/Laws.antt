@@ -1,13 +1,13 @@
 -- Values joined entry by entry and list by list, the counts of the standard route, and the order of the cliques.
 use Prim.Native.Nat.{ℕ, suc, _+_, _-_, _≤_, _<_}
+use native.Mathlib.Nat.{le-of-eq}
 use native.Mathlib.Numerals.{add-one}
 use native.Mathlib.Omega.{arith}
 use mathlib.Core.Path.{_≡_, refl, ap, sym, subst, _∙_}
-use mathlib.Core.Logic.{inl, inr}
 use mathlib.Core.Bool.{Bool, true, false}
-use mathlib.Core.List.{List, [], _∷_, _++_, reverse, reverse-cons}
-use lib.ListN.{length, getD, take, drop, set, length-reverse, List·getD-append}
-use lib.Seq.{take-suc, drop-cons, length-take-le, getD-append-seam, getD-set-same, getD-set-other}
+use mathlib.Core.List.{List, [], _∷_, _++_}
+use lib.ListN.{length, getD, take, drop, set, length-reverse}
+use lib.Seq.{take-suc, drop-cons, length-take-le, getD-set-same, getD-set-other}
 use lib.Dec.{eqb}
 use lib.Ieee.{Float, nan}
 use borrow.Author.Tests.{eqb-true, eqb-false}
@@ -16,14 +16,19 @@ use Rattle.layout.specs.Patterns.{Pattern, cliqueCount}
 use Rattle.layout.specs.Blocks.{blockRows}
 use Rattle.layout.specs.Checks.{RightPattern}
 use Rattle.layout.specs.Reverse.{columnCount}
-use Rattle.layout.proofs.Tests.{lt-or-le}
 use Rattle.layout.proofs.Counting.{count-append}
 use Rattle.layout.proofs.Distinct.{length-keep}
 use Rattle.layout.proofs.Walks.{walk-take, walk-append}
 use Rattle.blocks.specs.Cliques.{rowsHere, Stands, Standing}
 use Rattle.blocks.proofs.Patterns.{standard-rows-count, original-rows-count}
 use Rattle.blocks.proofs.Offsets.{StandAt, rows-up, rows-down}
-use Rattle.reverse_blocks.specs.Joins.{zValue, zAt, Counts, Countable, inOrder, ownRows}
+use Rattle.reverse_standard.specs.Routes.{zValue, inOrder}
+use Rattle.reverse_standard.proofs.Routes.{reverse-at}
+use Rattle.reverse_blocks.specs.Joins.{zAt, Counts, Countable, ownRows}
+
+-- the same by what is equal
+pub by-same : {A B : Type 0} (f : A → B) {x y : A} {r : B} → r ≡ f x → x ≡ y → r ≡ f y
+by-same f e h = e ∙ ap f h
 
 -- what a turn stores in z
 pub z-stored : (standard : Bool) (o : ℕ) (v : Float) (ws : List Float) → set ws o (zValue standard (getD ws o nan) v) ≡ zAt standard o v ws
@@ -52,6 +57,18 @@ module _ {A B S : Type 0} (f : A → B → S → S) where
       ∙ ap (λ (n : ℕ). walk f ys (drop n vs) (walk f xs vs s)) e
       ∙ sym (walk-append f xs ys vs s)
 
+  -- the same from what a call left of it
+  pub walk-joined : (xs ys zs : List A) (vs : List B) (s : S) {old new : S} (t k : ℕ) → new ≡ walk f ys (take k (drop t vs)) old → old ≡ walk f xs vs s
+      → t ≡ length xs → length ys ≤ k → xs ++ ys ≡ zs → new ≡ walk f zs vs s
+  walk-joined xs ys zs vs s t k p q e h m =
+      p ∙ ap (walk f ys (take k (drop t vs))) q ∙ walk-more xs ys vs s t k e h ∙ ap (λ (os : List A). walk f os vs s) m
+
+  -- and one element more from what a store left, at the place that code computes
+  pub walk-stored : (xs : List A) (vs : List B) (s : S) {old new : S} (i : ℕ) (o a : A) (b : B) → new ≡ f o (getD vs i b) old → old ≡ walk f (take i xs) vs s
+      → o ≡ getD xs i a → i < length xs → i < length vs → new ≡ walk f (take (i + 1) xs) vs s
+  walk-stored xs vs s i o a b p q e h l =
+      p ∙ ap (f o (getD vs i b)) q ∙ ap (λ (x : A). f x (getD vs i b) (walk f (take i xs) vs s)) e ∙ walk-one xs vs s i a b h l
+
 -- ---- counts
 
 pub counts-none : (standard : Bool) (counts : List ℕ) → Counts standard [] counts counts
@@ -62,6 +79,18 @@ pub counts-more : (standard : Bool) (xs ys a b c : List ℕ) → length c ≤ le
     → Counts standard (xs ++ ys) a c
 counts-more true xs ys a b c n h g = λ o l. omega (arith, h o (omega arith), g o l, count-append (eqb o) xs ys)
 counts-more false xs ys a b c n h g = tt
+
+-- the same for a list that goes on so
+pub counts-joined : (standard : Bool) (xs ys zs a b c : List ℕ) → length c ≡ length b → Counts standard xs a b → Counts standard ys b c → xs ++ ys ≡ zs
+    → Counts standard zs a c
+counts-joined standard xs ys zs a b c n h g m = subst (λ (os : List ℕ). Counts standard os a c) m (counts-more standard xs ys a b c (le-of-eq n) h g)
+
+-- one more, at the place that code computes
+pub counts-next : (standard : Bool) (xs : List ℕ) (i o : ℕ) (a b c : List ℕ) → i < length xs → o ≡ getD xs i 0 → length c ≡ length b
+    → Counts standard (take i xs) a b → Counts standard (o ∷ []) b c → Counts standard (take (i + 1) xs) a c
+counts-next standard xs i o a b c l e n h g =
+    counts-joined standard (take i xs) (o ∷ []) (take (i + 1) xs) a b c n h g
+    (ap (λ (q : ℕ). take i xs ++ (q ∷ [])) e ∙ sym (ap (λ (k : ℕ). take k xs) (add-one i) ∙ take-suc xs i 0 l))
 
 -- one column on row o
 pub counts-one : (counts : List ℕ) (o : ℕ) → o < length counts → Counts true (o ∷ []) counts (set counts o (getD counts o 0 + 1))
@@ -90,28 +119,6 @@ countable-left true n k l xs a b e h g c =
 countable-left false n k l xs a b e h g c = tt
 
 -- ---- the cliques in the order of the route
-
-pub reverse-at : (xs : List ℕ) (i : ℕ) → i < length xs → getD (reverse xs) i 0 ≡ getD xs (length xs - 1 - i) 0
-reverse-at [] i h = absurd (omega arith)
-reverse-at (x ∷ xs) i h =
-    ap (λ (ys : List ℕ). getD ys i 0) (reverse-cons x xs)
-    ∙ elim (lt-or-le i (length xs)) [
-      | inl l ↦
-          List·getD-append (reverse xs) (x ∷ []) 0 i (omega (arith, length-reverse xs)) ∙ reverse-at xs i l
-          ∙ ap (λ (k : ℕ). getD (x ∷ xs) k 0) (behind l)
-      | inr g ↦
-          ap (λ (k : ℕ). getD (reverse xs ++ (x ∷ [])) k 0) (last g) ∙ getD-append-seam (reverse xs) x [] 0
-          ∙ ap (λ (k : ℕ). getD (x ∷ xs) k 0) (first g)
-    ]
-  where
-    behind : i < length xs → suc (length xs - 1 - i) ≡ length (x ∷ xs) - 1 - i
-    behind l = omega arith
-
-    last : length xs ≤ i → i ≡ length (reverse xs)
-    last g = omega (arith, length-reverse xs)
-
-    first : length xs ≤ i → 0 ≡ length (x ∷ xs) - 1 - i
-    first g = omega arith
 
 pub length-order : (standard : Bool) (os : List ℕ) → length (inOrder standard os) ≡ length os
 length-order true os = refl

@@ -3,9 +3,9 @@
 use Prim.Native.Nat.{ℕ, _+_, _≤_, _<_}
 use mathlib.Core.Path.{_≡_}
 use mathlib.Core.Bool.{Bool, true, false}
-use mathlib.Core.List.{List, map, reverse}
+use mathlib.Core.List.{List, map}
 use lib.ListN.{length, getD}
-use lib.Ieee.{Float, add, binary64}
+use lib.Ieee.{Float}
 use Rattle.layout.specs.Lists.{walk}
 use Rattle.layout.specs.Patterns.{Pattern}
 use Rattle.layout.specs.Blocks.{pairs, pairRow, originalRow, patternRows}
@@ -14,10 +14,6 @@ use Rattle.blocks.specs.Columns.{columnPairs}
 use Rattle.blocks.specs.Codes.{standardPatternRows}
 
 -- ---- z: the standard route adds too, the compact one keeps the last
-
-abbrev pub zValue : Bool → Float → Float → Float
-zValue true old v = add binary64 old v
-zValue false old v = v
 
 abbrev pub zAt : Bool → ℕ → Float → List Float → List Float
 zAt true o v ws = addAt o v ws
@@ -45,11 +41,6 @@ columnRows vs j = map (pairRow 0) (columnPairs vs j)
 
 abbrev pub blockRowsOf : List ℕ → List ℕ
 blockRowsOf vs = map (pairRow 0) (pairs vs)
-
--- the cliques in the order of the route
-abbrev pub inOrder : Bool → List ℕ → List ℕ
-inOrder true os = os
-inOrder false os = reverse os
 
 abbrev pub ownRows : Bool → Pattern → List ℕ
 ownRows true p = standardPatternRows p 0

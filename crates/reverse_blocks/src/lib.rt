@@ -3,32 +3,27 @@
 ghost use mathlib.Core.Path.{_≡_};
 ghost use mathlib.Core.List.{[], _∷_};
 ghost use Prim.Native.Nat.{suc, _≤_, _<_};
-ghost use lib.ListN.{length, getD};
+ghost use lib.ListN.{length, getD, drop};
 ghost use lib.Dec.{T};
 ghost use Rattle.layout.specs.Lists.{join, rises};
 ghost use Rattle.layout.specs.Triangle.{triangle};
 ghost use Rattle.layout.specs.Blocks.{blockRows};
+ghost use Rattle.layout.specs.Patterns.{readHead};
 ghost use Rattle.layout.specs.Checks.{RightPattern};
 ghost use Rattle.layout.specs.Reverse.{addColumns};
-ghost use Rattle.supernode_tree.specs.Reads.{patternAt};
+ghost use Rattle.supernode_tree.specs.Reads.{patternAt, patternRead, PatternInside};
+ghost use Rattle.supernode_tree.specs.declared.PatternRead.the-variants.{Pattern as Found};
 ghost use Rattle.blocks.specs.Columns.{ColumnsFit};
 ghost use Rattle.blocks.specs.Cliques.{Standing, rowsHere};
-ghost use Rattle.reverse_blocks.specs.Joins.{zValue, joinZ, Counts, Countable, columnRows, blockRowsOf, inOrder, ownRows};
+ghost use Rattle.reverse_standard.specs.Routes.{inOrder};
+ghost use Rattle.reverse_blocks.specs.Joins.{joinZ, Counts, Countable, columnRows, blockRowsOf, ownRows};
+use reverse_standard::offset_at;
+use reverse_standard::z_value;
 use supernode_tree::Pattern;
 use supernode_tree::PatternRead;
 use supernode_tree::clique_offsets;
 
 // ---- a block
-
-// z on a row where old stands.
-fn z_value(standard: bool, old: f64, v: f64) -> f64
-    ensures { λ r. ⌜ r ≡ zValue standard old v ⌝ }
-{
-    if standard {
-        return old + v;
-    }
-    v
-}
 
 // The standard route counts a column on row o.
 fn count_column(standard: bool, counts: &mut [u32], o: usize)
@@ -110,15 +105,22 @@ fn join_block(
 
 // ---- a pattern
 
-// The offset of the route's clique i: the standard route goes from first to last, the compact one from last to first.
-fn offset_at(standard: bool, offsets: &[usize], i: usize) -> usize
-    requires { ⌜ i < length (now offsets) ⌝ }
-    ensures { λ r. ⌜ r ≡ getD (inOrder standard (now (offsets .entry))) i 0 ⌝ }
+// The pattern at an offset, which stands whole.
+pub fn pattern_here(words: &[u32], at: usize) -> Pattern
+    requires { ⌜ RightPattern (patternAt (now words) at) ⌝ }
+    ensures { λ r. ⌜ patternRead (now (words .entry)) (Found r) ≡ readHead (drop at (now (words .entry))) ⌝ }
+    ensures { λ r. ⌜ PatternInside (length (now (words .entry))) at (Found r) ⌝ }
 {
-    if standard {
-        return offsets[i];
-    }
-    offsets[offsets.len() - 1 - i]
+    let PatternRead::Pattern(p) = Pattern::read(words, at) else {
+        return Pattern {
+            orig_index: 0,
+            vertex_count: 0,
+            clique_count: 0,
+            ordering: 0,
+            cliques: 0,
+        };
+    };
+    p
 }
 
 // The blocks of the cliques at some offsets, in the order of the route; how many entries. Each clique's vertices are written to a buffer first.
@@ -186,9 +188,7 @@ pub fn join_pattern(
     ensures { λ _. ⌜ now («z_out» .exit) ≡ joinZ standard (ownRows standard (patternAt (now (words .entry)) at)) (now (z .entry)) (now («z_out» .entry)) ⌝ }
     ensures { λ _. ⌜ Counts standard (ownRows standard (patternAt (now (words .entry)) at)) (now (counts .entry)) (now (counts .exit)) ⌝ }
 {
-    let PatternRead::Pattern(p) = Pattern::read(words, at) else {
-        return 0;
-    };
+    let p = pattern_here(words, at);
     clique_offsets(words, p.cliques, p.clique_count, &mut *offsets);
     let a = p.ordering;
     let e = p.cliques;

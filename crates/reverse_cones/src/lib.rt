@@ -9,8 +9,6 @@ ghost use Rattle.layout.specs.Blocks.{blockRows};
 ghost use Rattle.layout.specs.Checks.{RightPattern};
 ghost use Rattle.supernode_tree.specs.Reads.{patternAt};
 ghost use Rattle.reverse_cones.specs.Parts.{wholeValues, zAveragedBy, sCut, zCut, writtenAt, CountsRows, Cleared};
-use supernode_tree::Pattern;
-use supernode_tree::PatternRead;
 
 // ---- a whole cone
 
@@ -43,10 +41,8 @@ pub fn cone_rows(words: &[u32], at: usize) -> usize
     requires { ⌜ RightPattern (patternAt (now words) at) × (patternAt (now words) at .vertexCount ≤ 256) ⌝ }
     ensures { λ r. ⌜ r ≡ triangle (patternAt (now (words .entry)) at .vertexCount) ⌝ }
 {
-    let PatternRead::Pattern(p) = Pattern::read(words, at) else {
-        return 0;
-    };
-    let k = p.vertex_count as usize;
+    let p = reverse_blocks::pattern_here(words, at);
+    let k = p.vertex_count;
     k * (k + 1) / 2
 }
 

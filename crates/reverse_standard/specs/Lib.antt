@@ -1,1 +1,2 @@
 pub mod Averages
+pub mod Routes

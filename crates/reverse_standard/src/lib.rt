@@ -1,12 +1,14 @@
-// What the standard joining has of its own: every row passes through a sum from +0.0, and z is averaged where blocks overlap.
+// What the two routes of a joining do differently. The standard one sums every row from +0.0, walks the cliques from first to last, adds z and
+// averages it where blocks overlap. The compact one walks from last to first and keeps the last z. `standard` says which it is.
 ghost use mathlib.Core.Path.{_≡_};
 ghost use mathlib.Core.List.{map};
-ghost use Prim.Native.Nat.{_≤_};
-ghost use lib.ListN.{length};
+ghost use Prim.Native.Nat.{_≤_, _<_};
+ghost use lib.ListN.{length, getD};
 ghost use lib.Ieee.{add, binary64};
 ghost use Rattle.layout.specs.Lists.{below};
 ghost use Rattle.layout.specs.Problem.{zero64, one64};
 ghost use Rattle.reverse_standard.specs.Averages.{averagedBy, shared};
+ghost use Rattle.reverse_standard.specs.Routes.{zValue, inOrder};
 
 // The two scalars of a solution.
 pub struct Scalars {
@@ -36,6 +38,28 @@ pub fn sum_rows(out: &mut [f64], values: &[f64])
         out[i] = 0.0 + values[i];
         i += 1;
     }
+}
+
+// z on a row where old stands and a block has new.
+pub fn z_value(standard: bool, old: f64, new: f64) -> f64
+    ensures { λ r. ⌜ r ≡ zValue standard old new ⌝ }
+{
+    if standard {
+        return old + new;
+    }
+    new
+}
+
+// The offset of the route's clique i: the standard route goes from first to last, the compact one from last to first.
+pub fn offset_at(standard: bool, offsets: &[usize], i: usize) -> usize
+    requires { ⌜ i < length (now offsets) ⌝ }
+    ensures { λ r. ⌜ r ≡ getD (inOrder standard (now (offsets .entry))) i 0 ⌝ }
+{
+    let mut k = offsets.len() - 1 - i;
+    if standard {
+        k = i;
+    }
+    offsets[k]
 }
 
 // z on a row where count columns stand. The quotient is computed before the test, so that the compiler can select

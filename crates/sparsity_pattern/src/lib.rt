@@ -8,7 +8,6 @@ ghost use Rattle.layout.specs.Patterns.{readPattern, readPatterns, patterns, en
 ghost use Rattle.supernode_tree.specs.Reads.{whole, patternAt};
 ghost use Rattle.sparsity_pattern.specs.Sparsity.{patternRight};
 use supernode_tree::Pattern;
-use supernode_tree::PatternRead;
 
 // Each orig_index is above the one before it.
 fn origins_rise(count: u32, words: &[u32]) -> bool
@@ -19,9 +18,7 @@ fn origins_rise(count: u32, words: &[u32]) -> bool
     let mut at = 0;
     let mut left = count;
     while 0 < left {
-        let PatternRead::Pattern(p) = Pattern::read(words, at) else {
-            return false;
-        };
+        let p = Pattern::here(words, at);
         let origin = p.orig_index as u64;
         if origin < least {
             return false;
@@ -39,9 +36,7 @@ fn pattern_right(cones: &[u32], words: &[u32], at: usize) -> bool
     requires { ⌜ whole (readPattern (drop at (now words))) ≡ true ⌝ }
     ensures { λ r. ⌜ r ≡ patternRight (now (cones .entry)) (patternAt (now (words .entry)) at) ⌝ }
 {
-    let PatternRead::Pattern(p) = Pattern::read(words, at) else {
-        return false;
-    };
+    let p = Pattern::here(words, at);
     if !supportedcone::is_psd_of(cones, p.orig_index as usize, p.vertex_count) {
         return false;
     }

@@ -64,7 +64,7 @@ fn value(fd: i32) -> f64 {
 }
 
 fn least(a: usize, b: usize) -> usize
-    ensures { λ r. ⌜ (r ≤ a) × (r ≤ b) ⌝ }
+    ensures { λ r. ⌜ (r ≤ a) × (r ≤ b) × (a ≤ b → r ≡ a) × (b ≤ a → r ≡ b) ⌝ }
 {
     if a < b { a } else { b }
 }
@@ -125,41 +125,35 @@ pub fn load_values(fd: i32, values: &mut [f64], starts: &mut [usize])
     }
 }
 
-// The k-th list; empty where there is none.
-pub fn words_at<'a>(words: &'a [u32], starts: &[usize], k: usize) -> &'a [u32]
-    requires { ⌜ k < 4096 ⌝ }
-    ensures { λ r. ⌜ now r ≡ listAt (now (words .entry)) (now (starts .entry)) k ⌝ }
+// Where the k-th list starts; 0 where the starts do not say.
+fn start(starts: &[usize], k: usize) -> usize
+    ensures { λ r. ⌜ r ≡ getD (now (starts .entry)) k 0 ⌝ }
 {
-    if starts.len() <= k + 1 {
-        return &words[..0];
-    }
-    let a = starts[k];
-    let b = starts[k + 1];
-    if b < a {
-        return &words[..0];
-    }
-    if words.len() < b {
-        return &words[..0];
-    }
-    &words[a..b]
+    if k < starts.len() { starts[k] } else { 0 }
 }
 
-pub fn values_at<'a>(values: &'a [f64], starts: &[usize], k: usize) -> &'a [f64]
-    requires { ⌜ k < 4096 ⌝ }
+// An end that lies within n; 0 for any other.
+fn within(end: usize, n: usize) -> usize
+    ensures { λ r. ⌜ (r ≤ n) × (end ≤ n → r ≡ end) × (n < end → r ≡ 0) ⌝ }
+{
+    if end <= n { end } else { 0 }
+}
+
+// The k-th list; empty where there is none.
+pub fn words_at<'a>(words: &'a [u32], starts: &[usize], k: u8) -> &'a [u32]
+    ensures { λ r. ⌜ now r ≡ listAt (now (words .entry)) (now (starts .entry)) k ⌝ }
+{
+    let end = within(start(starts, k as usize + 1), words.len());
+    let from = least(start(starts, k as usize), end);
+    &words[from..end]
+}
+
+pub fn values_at<'a>(values: &'a [f64], starts: &[usize], k: u8) -> &'a [f64]
     ensures { λ r. ⌜ now r ≡ listAt (now (values .entry)) (now (starts .entry)) k ⌝ }
 {
-    if starts.len() <= k + 1 {
-        return &values[..0];
-    }
-    let a = starts[k];
-    let b = starts[k + 1];
-    if b < a {
-        return &values[..0];
-    }
-    if values.len() < b {
-        return &values[..0];
-    }
-    &values[a..b]
+    let end = within(start(starts, k as usize + 1), values.len());
+    let from = least(start(starts, k as usize), end);
+    &values[from..end]
 }
 
 // The i-th number of a list; 0 where there is none.

@@ -12,15 +12,12 @@ use lib.Dec.{T}
 use Rattle.supernode_tree.specs.Reads.{whole, Whole, rest, ended, cliquesFrom, valueOr, cliqueOf, cliqueRead, CliqueInside, patternAt}
 use Rattle.supernode_tree.specs.declared.Clique.{Clique as CliqueAt}
 use Rattle.supernode_tree.specs.declared.CliqueRead.{CliqueRead}
-use Rattle.supernode_tree.specs.declared.CliqueRead.the-variants.{Clique as Found, Short}
+use Rattle.supernode_tree.specs.declared.CliqueRead.the-variants.{Clique as Found}
 use Rattle.supernode_tree.proofs.Words.{clique-found, part-part, length-part}
-use Rattle.supernode_tree.proofs.Many.{many-short, many-whole, many-rest, many-value, first-whole as some-whole}
+use Rattle.supernode_tree.proofs.Many.{many-whole, many-rest, many-value, first-whole as some-whole}
 use Rattle.layout.proofs.Tests.{differ, and-cases}
 
 module _ (ws : List ℕ) (at k : ℕ) (r : CliqueRead) (e : cliqueRead ws r ≡ readClique (drop at ws)) (more : 0 < k) where
-  pub none-here : r ≡ Short → whole (readCliques k (drop at ws)) ≡ false
-  none-here f = many-short readClique k (drop at ws) more (sym e ∙ ap (cliqueRead ws) f)
-
   pub whole-next : (q : CliqueAt) → r ≡ Found q → whole (readCliques k (drop at ws)) ≡ whole (readCliques (k - 1) (drop (q .next) ws))
   whole-next q f = many-whole readClique k (drop at ws) more (cliqueOf ws q) (drop (q .next) ws) (clique-found ws at r q e f)
 
@@ -74,6 +71,14 @@ module _ (ws : List ℕ) (at : ℕ) where
   pub no-head : readHead (drop at ws) ≡ short → patternAt ws at ≡ noPattern
   no-head e = rw e
 
+  -- a pattern that passes check 6 has its head
+  pub right-head : T (treeRight (patternAt ws at)) → whole (readHead (drop at ws)) ≡ true
+  right-head t = go (readHead (drop at ws)) refl
+    where
+      go : (r : Read Head) → readHead (drop at ws) ≡ r → whole r ≡ true
+      go (read h left) e = refl
+      go short e = absurd (subst (λ (p : Pattern). T (treeRight p)) (no-head e) t)
+
   module _ (h : Head) (first : ℕ) (e : readHead (drop at ws) ≡ read h (drop first ws)) where
     pub no-cliques : whole (readCliques (h .cliqueCount) (drop first ws)) ≡ false → patternAt ws at ≡ noPattern
     no-cliques w = rw e (go (readCliques (h .cliqueCount) (drop first ws)) w)
@@ -96,6 +101,14 @@ module _ (ws : List ℕ) (at : ℕ) where
         go : (b : Bool) → whole (readCliques (h .cliqueCount) (drop first ws)) ≡ b → b ≡ true
         go true q = refl
         go false q = absurd (subst (λ (p : Pattern). T (treeRight p)) (no-cliques q) t)
+
+-- the head of a whole pattern is whole
+pub head-of-whole : (ws : List ℕ) → whole (readPattern ws) ≡ true → whole (readHead ws) ≡ true
+head-of-whole ws w = go (readHead ws) w
+  where
+    go : (r : Read Head) → whole (andThen r (λ h left. andThen (readCliques (h .cliqueCount) left) (λ cs end. read (withCliques h cs) end))) ≡ true → whole r ≡ true
+    go (read h left) w = refl
+    go short w = w
 
 pub rest-none : (ws : List ℕ) (at k : ℕ) → k ≤ 0 → rest (readCliques k (drop at ws)) ≡ drop at ws
 rest-none ws at k h = let e : k ≡ 0 = omega arith in ap (λ (n : ℕ). rest (readCliques n (drop at ws))) e
@@ -125,13 +138,6 @@ module _ (ws : List ℕ) (h : Head) (left : List ℕ) (e : readHead ws ≡ read 
 
 pub no-pattern : (ws : List ℕ) → readHead ws ≡ short → readPattern ws ≡ short
 no-pattern ws e = rw e
-
-pub no-pattern-whole : (ws : List ℕ) → readHead ws ≡ short → whole (readPattern ws) ≡ false
-no-pattern-whole ws e = ap whole (no-pattern ws e)
-
-pub getD-later : {A : Type 0} (x : A) (xs : List A) (k : ℕ) (d : A) → (k ≡ 0 → ⊥) → getD (x ∷ xs) k d ≡ getD xs (k - 1) d
-getD-later x xs zero d h = absurd (h refl)
-getD-later x xs (suc k) d h = let e : k ≡ suc k - 1 = omega arith in ap (λ (n : ℕ). getD xs n d) e
 
 -- a whole pattern by its head
 pub pattern-head : (ws : List ℕ) (at : ℕ) (h : Head) (first : ℕ) → readHead (drop at ws) ≡ read h (drop first ws)

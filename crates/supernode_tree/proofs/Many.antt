@@ -16,6 +16,10 @@ module _ {A : Type 0} where
   whole-read d (read a ws) h = refl
   whole-read d short h = absurd (differ false h refl)
 
+  pub not-whole : (r : Read A) → whole r ≡ false → r ≡ short
+  not-whole (read a ws) h = absurd (differ true refl h)
+  not-whole short h = refl
+
   pub ends-whole : (r : Read A) → endsRight r ≡ true → whole r ≡ true
   ends-whole (read a ws) h = refl
   ends-whole short h = h
@@ -24,10 +28,6 @@ module _ {A : Type 0} where
   ends-value d (read a []) h = refl
   ends-value d (read a (w ∷ ws)) h = absurd (differ false h refl)
   ends-value d short h = refl
-
-  pub ended-whole : (r : Read A) → whole (ended r) ≡ whole r
-  ended-whole (read a ws) = refl
-  ended-whole short = refl
 
   pub ended-ends : (r : Read A) → endsRight (ended r) ≡ endsRight r
   ended-ends (read a []) = refl
@@ -55,7 +55,7 @@ module _ {A : Type 0} where
     opened : readMany one k ws ≡ readMany one (suc (k - 1)) ws
     opened = let e : k ≡ suc (k - 1) = omega arith in ap (λ (n : ℕ). readMany one n ws) e
 
-    pub many-short : one ws ≡ short → whole (readMany one k ws) ≡ false
+    many-short : one ws ≡ short → whole (readMany one k ws) ≡ false
     many-short e = ap whole opened ∙ rw e
 
     -- where the first ends, if it does, the others start

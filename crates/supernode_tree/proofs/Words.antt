@@ -2,14 +2,14 @@
 use Prim.Native.Nat.{ℕ, _+_, _-_, _≤_, _<_}
 use native.Mathlib.Numerals.{add-one}
 use native.Mathlib.Omega.{arith}
-use mathlib.Core.Bool.{true}
+use mathlib.Core.Bool.{true, false}
 use mathlib.Core.Logic.{inl, inr}
 use mathlib.Core.Path.{_≡_, refl, sym, ap, _∙_}
 use mathlib.Core.List.{List, [], _∷_, _++_}
 use lib.ListN.{length, getD, take, drop, length-drop}
 use lib.Seq.{drop-cons, drop-drop, take-add, length-take-le}
 use lib.Dec.{leb}
-use borrow.Author.Tests.{le-leb, lt-leb}
+use borrow.Author.Tests.{le-leb, lt-leb, leb-true, leb-false}
 use Rattle.layout.specs.Patterns.{Read, read, short, andThen, readHead, readMembers, readClique, endsRight}
 use Rattle.layout.proofs.Tests.{differ, lt-or-le}
 use Rattle.supernode_tree.specs.Reads.{headOf, patternRead, cliqueOf, cliqueRead, whole}
@@ -72,23 +72,6 @@ clique-whole ws at h =
       members-read (getD ws (at + 2) 0) (at + 3 + getD ws (at + 1) 0) ws h,
     )
 
--- a clique that stands whole ends within the words
-pub clique-fits : (ws : List ℕ) (at : ℕ) → whole (readClique (drop at ws)) ≡ true
-    → at + 3 + getD ws (at + 1) 0 + getD ws (at + 2) 0 ≤ length ws
-clique-fits ws at w = elim (lt-or-le (length ws) (at + 3)) [
-  | inl l ↦ stands (clique-short ws at l)
-  | inr l ↦ elim (lt-or-le (length ws) (at + 3 + getD ws (at + 1) 0)) [
-    | inl m ↦ stands (clique-short-snode ws at l (omega arith))
-    | inr m ↦ elim (lt-or-le (length ws) (at + 3 + getD ws (at + 1) 0 + getD ws (at + 2) 0)) [
-      | inl n ↦ stands (clique-short-separator ws at m (omega arith))
-      | inr n ↦ n
-    ]
-  ]
-]
-  where
-    stands : {A : Type 0} → readClique (drop at ws) ≡ short → A
-    stands e = absurd (differ (whole (readClique (drop at ws))) w (ap whole e))
-
 -- ---- heads
 
 few-head-words : (ws : List ℕ) → length ws < 3 → readHead ws ≡ short
@@ -112,6 +95,83 @@ pub head-whole : (ws : List ℕ) (at : ℕ) → at + 3 + getD ws (at + 1) 0 ≤ 
       ordering = take (getD ws (at + 1) 0) (drop (at + 3) ws);
     }) (drop (at + 3 + getD ws (at + 1) 0) ws)
 head-whole ws at h = rw (drop-three ws at (omega arith), members-read (getD ws (at + 1) 0) (at + 3) ws h)
+
+-- ---- cliques and heads that stand whole
+
+pub clique-short-parts : (ws : List ℕ) (at : ℕ) → at + 3 ≤ length ws → length ws < at + 3 + getD ws (at + 1) 0 + getD ws (at + 2) 0
+    → readClique (drop at ws) ≡ short
+clique-short-parts ws at h l = elim (lt-or-le (length ws) (at + 3 + getD ws (at + 1) 0)) [
+  | inl m ↦ clique-short-snode ws at h (omega arith)
+  | inr m ↦ clique-short-separator ws at m (omega arith)
+]
+
+-- a clique that stands whole ends within the words
+pub clique-fits : (ws : List ℕ) (at : ℕ) → whole (readClique (drop at ws)) ≡ true
+    → at + 3 + getD ws (at + 1) 0 + getD ws (at + 2) 0 ≤ length ws
+clique-fits ws at w = elim (lt-or-le (length ws) (at + 3)) [
+  | inl l ↦ stands (clique-short ws at l)
+  | inr l ↦ elim (lt-or-le (length ws) (at + 3 + getD ws (at + 1) 0 + getD ws (at + 2) 0)) [
+    | inl n ↦ stands (clique-short-parts ws at l n)
+    | inr n ↦ n
+  ]
+]
+  where
+    stands : {A : Type 0} → readClique (drop at ws) ≡ short → A
+    stands e = absurd (differ (whole (readClique (drop at ws))) w (ap whole e))
+
+pub room-after : (at size n : ℕ) → at ≤ n → leb size (n - at) ≡ leb (at + size) n
+room-after at size n l = elim (lt-or-le n (at + size)) [
+  | inl h ↦ lt-leb size (n - at) (omega arith) ∙ sym (lt-leb (at + size) n h)
+  | inr h ↦ le-leb size (n - at) (omega arith) ∙ sym (le-leb (at + size) n h)
+]
+
+-- what is too short for three words holds neither a clique nor a head
+module _ (ws : List ℕ) (at : ℕ) (f : leb (at + 3) (length ws) ≡ false) where
+  pub clique-none : whole (readClique (drop at ws)) ≡ false
+  clique-none = ap whole (clique-short ws at (leb-false (at + 3) (length ws) f))
+
+  pub head-none : whole (readHead (drop at ws)) ≡ false
+  head-none = ap whole (head-short ws at (leb-false (at + 3) (length ws) f))
+
+-- the counts a and e of a clique, and v of a head, as they are read
+module _ (ws : List ℕ) (at a e : ℕ) (p : a ≡ getD ws (at + 1) 0) (q : e ≡ getD ws (at + 2) 0) where
+  pub clique-stands : leb (at + 3) (length ws) ≡ true → leb (at + 3 + (a + e)) (length ws) ≡ whole (readClique (drop at ws))
+  clique-stands t = elim (lt-or-le (length ws) (at + 3 + getD ws (at + 1) 0 + getD ws (at + 2) 0)) [
+    | inl n ↦
+        lt-leb (at + 3 + (a + e)) (length ws) (omega arith) ∙ sym (ap whole (clique-short-parts ws at (leb-true (at + 3) (length ws) t) n))
+    | inr n ↦ le-leb (at + 3 + (a + e)) (length ws) (omega arith) ∙ sym (ap whole (clique-whole ws at n))
+  ]
+
+  pub clique-made : at + 3 + getD ws (at + 1) 0 + getD ws (at + 2) 0 ≤ length ws
+      → read (record { parent = getD ws at 0; snode = take a (drop (at + 3) ws); separator = take e (drop (at + 3 + a) ws) }) (drop (at + 3 + a + e) ws)
+      ≡ readClique (drop at ws)
+  clique-made h = rw (p, q) (sym (clique-whole ws at h))
+
+module _ (ws : List ℕ) (at v : ℕ) (p : v ≡ getD ws (at + 1) 0) where
+  pub head-stands : leb (at + 3) (length ws) ≡ true → leb (at + 3 + v) (length ws) ≡ whole (readHead (drop at ws))
+  head-stands t = elim (lt-or-le (length ws) (at + 3 + getD ws (at + 1) 0)) [
+    | inl n ↦
+        lt-leb (at + 3 + v) (length ws) (omega arith)
+        ∙ sym (ap whole (head-short-ordering ws at (leb-true (at + 3) (length ws) t) (omega (arith, leb-true (at + 3) (length ws) t))))
+    | inr n ↦ le-leb (at + 3 + v) (length ws) (omega arith) ∙ sym (ap whole (head-whole ws at n))
+  ]
+
+  pub head-made : at + 3 + getD ws (at + 1) 0 ≤ length ws
+      → read (record { origIndex = getD ws at 0; vertexCount = v; cliqueCount = getD ws (at + 2) 0; ordering = take v (drop (at + 3) ws) }) (drop (at + 3 + v) ws)
+      ≡ readHead (drop at ws)
+  head-made h = rw p (sym (head-whole ws at h))
+
+pub head-fits : (ws : List ℕ) (at : ℕ) → whole (readHead (drop at ws)) ≡ true → at + 3 + getD ws (at + 1) 0 ≤ length ws
+head-fits ws at w = elim (lt-or-le (length ws) (at + 3)) [
+  | inl l ↦ stands (head-short ws at l)
+  | inr l ↦ elim (lt-or-le (length ws) (at + 3 + getD ws (at + 1) 0)) [
+    | inl n ↦ stands (head-short-ordering ws at l (omega arith))
+    | inr n ↦ n
+  ]
+]
+  where
+    stands : {A : Type 0} → readHead (drop at ws) ≡ short → A
+    stands e = absurd (differ (whole (readHead (drop at ws))) w (ap whole e))
 
 -- ---- one read after another
 

@@ -4,6 +4,7 @@ ghost use Prim.Native.Nat.{_+_, _*_, _≤_, _<_};
 ghost use mathlib.Core.Bool.{true};
 ghost use mathlib.Core.List.{map};
 ghost use lib.ListN.{length, drop, getD};
+ghost use lib.Dec.{leb};
 ghost use Rattle.layout.specs.Lists.{all, sum};
 ghost use Rattle.layout.specs.Triangle.{triangle};
 ghost use Rattle.layout.specs.Patterns.{noClique, members as cliqueMembers, blockSize, readClique, readCliques, readHead, readPattern, readPatterns, endsRight};
@@ -11,8 +12,29 @@ ghost use Rattle.layout.specs.Blocks.{blockRows, overlapRows};
 ghost use Rattle.layout.specs.Checks.{RightPattern};
 ghost use Rattle.supernode_tree.specs.Reads.{patternAt, rest, whole, Whole, cliquesFrom, MembersOf, cliqueRead, CliqueInside, patternRead, PatternInside, endRead, ended};
 ghost use Rattle.supernode_tree.specs.declared.CliqueRead.the-variants.{Clique as Found};
+ghost use Rattle.supernode_tree.specs.declared.PatternRead.the-variants.{Pattern as FoundPattern};
 ghost use Rattle.supernode_tree.specs.Offsets.{OffsetsEvery, OffsetsOf};
 ghost use Rattle.supernode_tree.specs.Sizes.{atMost};
+
+// ---- words
+
+// The word at an offset.
+fn word(words: &[u32], at: usize) -> usize
+    requires { ⌜ at < length (now words) ⌝ }
+    ensures { λ r. ⌜ r ≡ getD (now (words .entry)) at 0 ⌝ }
+    ensures { λ r. ⌜ r < 4294967296 ⌝ }
+{
+    words[at] as usize
+}
+
+// Whether so many words stand from an offset on.
+fn has_room(words: &[u32], at: usize, size: usize) -> bool
+    ensures { λ r. ⌜ r ≡ leb (at + size) (length (now (words .entry))) ⌝ }
+{
+    at <= words.len() && size <= words.len() - at
+}
+
+// ---- cliques and patterns at an offset
 
 // A clique of a pattern's words, by offsets into them.
 pub struct Clique {
@@ -32,37 +54,25 @@ pub enum CliqueRead {
 impl Clique {
     pub const NO_PARENT: u32 = 4294967295;
 
+    // Whether the words at an offset hold a clique to its end.
+    fn stands(words: &[u32], at: usize) -> bool
+        ensures { λ r. ⌜ r ≡ whole (readClique (drop at (now (words .entry)))) ⌝ }
+    {
+        if !has_room(words, at, 3) {
+            return false;
+        }
+        has_room(words, at + 3, word(words, at + 1) + word(words, at + 2))
+    }
+
     // The clique at an offset, if its words do not end early.
     pub fn read(words: &[u32], at: usize) -> CliqueRead
         ensures { λ r. ⌜ cliqueRead (now (words .entry)) r ≡ readClique (drop at (now (words .entry))) ⌝ }
         ensures { λ r. ⌜ CliqueInside (length (now (words .entry))) at r ⌝ }
     {
-        let n = words.len();
-        if n < 3 {
+        if !Clique::stands(words, at) {
             return CliqueRead::Short;
         }
-        if n - 3 < at {
-            return CliqueRead::Short;
-        }
-        let parent = words[at];
-        let snode_count = words[at + 1] as usize;
-        let separator_count = words[at + 2] as usize;
-        let snode = at + 3;
-        if n - snode < snode_count {
-            return CliqueRead::Short;
-        }
-        let separator = snode + snode_count;
-        if n - separator < separator_count {
-            return CliqueRead::Short;
-        }
-        CliqueRead::Clique(Clique {
-            parent: parent,
-            snode: snode,
-            snode_count: snode_count,
-            separator: separator,
-            separator_count: separator_count,
-            next: separator + separator_count,
-        })
+        CliqueRead::Clique(Clique::here(words, at))
     }
 
     // The clique at an offset where one stands whole: its counts need no test.
@@ -72,8 +82,8 @@ impl Clique {
         ensures { λ r. ⌜ CliqueInside (length (now (words .entry))) at (Found r) ⌝ }
     {
         let parent = words[at];
-        let snode_count = words[at + 1] as usize;
-        let separator_count = words[at + 2] as usize;
+        let snode_count = word(words, at + 1);
+        let separator_count = word(words, at + 2);
         let snode = at + 3;
         let separator = snode + snode_count;
         Clique {
@@ -110,32 +120,44 @@ pub enum PatternRead {
 }
 
 impl Pattern {
+    // Whether the words at an offset hold a pattern to the end of its ordering.
+    fn stands(words: &[u32], at: usize) -> bool
+        ensures { λ r. ⌜ r ≡ whole (readHead (drop at (now (words .entry)))) ⌝ }
+    {
+        if !has_room(words, at, 3) {
+            return false;
+        }
+        has_room(words, at + 3, word(words, at + 1))
+    }
+
     // All of the pattern at an offset but its cliques, if these words do not end early.
     pub fn read(words: &[u32], at: usize) -> PatternRead
         ensures { λ r. ⌜ patternRead (now (words .entry)) r ≡ readHead (drop at (now (words .entry))) ⌝ }
         ensures { λ r. ⌜ PatternInside (length (now (words .entry))) at r ⌝ }
     {
-        let n = words.len();
-        if n < 3 {
+        if !Pattern::stands(words, at) {
             return PatternRead::Short;
         }
-        if n - 3 < at {
-            return PatternRead::Short;
-        }
+        PatternRead::Pattern(Pattern::here(words, at))
+    }
+
+    // The same where these words stand whole: the vertex count needs no test.
+    pub fn here(words: &[u32], at: usize) -> Pattern
+        requires { ⌜ whole (readHead (drop at (now words))) ≡ true ⌝ }
+        ensures { λ r. ⌜ patternRead (now (words .entry)) (FoundPattern r) ≡ readHead (drop at (now (words .entry))) ⌝ }
+        ensures { λ r. ⌜ PatternInside (length (now (words .entry))) at (FoundPattern r) ⌝ }
+    {
         let orig_index = words[at];
-        let vertex_count = words[at + 1] as usize;
+        let vertex_count = word(words, at + 1);
         let clique_count = words[at + 2];
         let ordering = at + 3;
-        if n - ordering < vertex_count {
-            return PatternRead::Short;
-        }
-        PatternRead::Pattern(Pattern {
+        Pattern {
             orig_index: orig_index,
             vertex_count: vertex_count,
             clique_count: clique_count,
             ordering: ordering,
             cliques: ordering + vertex_count,
-        })
+        }
     }
 }
 
@@ -154,9 +176,10 @@ fn cliques_end(words: &[u32], first: usize, count: u32) -> End
     let mut at = first;
     let mut left = count;
     while 0 < left {
-        let CliqueRead::Clique(q) = Clique::read(words, at) else {
+        if !Clique::stands(words, at) {
             return End::Short;
-        };
+        }
+        let q = Clique::here(words, at);
         at = q.next;
         left -= 1;
     }
@@ -167,9 +190,10 @@ fn cliques_end(words: &[u32], first: usize, count: u32) -> End
 fn pattern_end(words: &[u32], at: usize) -> End
     ensures { λ r. ⌜ endRead (now (words .entry)) r ≡ ended (readPattern (drop at (now (words .entry)))) ⌝ }
 {
-    let PatternRead::Pattern(p) = Pattern::read(words, at) else {
+    if !Pattern::stands(words, at) {
         return End::Short;
-    };
+    }
+    let p = Pattern::here(words, at);
     cliques_end(words, p.cliques, p.clique_count)
 }
 
@@ -187,16 +211,6 @@ pub fn patterns_end(count: u32, words: &[u32]) -> bool
         left -= 1;
     }
     words.len() <= at
-}
-
-// count cliques stand whole from an offset on.
-pub fn cliques_whole(words: &[u32], first: usize, count: u32) -> bool
-    ensures { λ r. ⌜ r ≡ whole (readCliques count (drop first (now (words .entry)))) ⌝ }
-{
-    let End::At(_) = cliques_end(words, first, count) else {
-        return false;
-    };
-    true
 }
 
 // ---- walks over words that stand whole
@@ -221,39 +235,8 @@ pub fn pattern_next(words: &[u32], at: usize) -> usize
     requires { ⌜ whole (readPattern (drop at (now words))) ≡ true ⌝ }
     ensures { λ r. ⌜ rest (readPattern (drop at (now (words .entry)))) ≡ drop r (now (words .entry)) ⌝ }
 {
-    let PatternRead::Pattern(p) = Pattern::read(words, at) else {
-        return 0;
-    };
+    let p = Pattern::here(words, at);
     cliques_next(words, p.cliques, p.clique_count)
-}
-
-// The members of a clique, by offsets: where they start and end.
-pub struct Members {
-    pub start: usize,
-    pub end: usize,
-}
-
-// The members of clique c of count that stand whole, found from the first: none where there is no such clique.
-pub fn members_of(words: &[u32], first: usize, count: u32, c: u32) -> Members
-    requires { ⌜ Whole (now words) first count ⌝ }
-    ensures { λ r. ⌜ MembersOf (now (words .entry)) (cliqueMembers (getD (cliquesFrom (now (words .entry)) first count) c noClique)) r ⌝ }
-{
-    let mut at = first;
-    let mut left = count;
-    let mut skip = c;
-    while 0 < left {
-        let q = Clique::here(words, at);
-        if skip == 0 {
-            return Members {
-                start: q.snode,
-                end: q.next,
-            };
-        }
-        at = q.next;
-        skip -= 1;
-        left -= 1;
-    }
-    Members { start: 0, end: 0 }
 }
 
 // ---- offsets, so that cliques can be had in any order
@@ -288,7 +271,13 @@ pub fn clique_offsets(words: &[u32], first: usize, count: u32, out: &mut [usize]
     offsets_every(words, first, count, 1, out);
 }
 
-// The same, found from the last offset before it.
+// The members of a clique, by offsets: where they start and end.
+pub struct Members {
+    pub start: usize,
+    pub end: usize,
+}
+
+// The members of clique c of count, found from the last offset before it: none where there is no such clique.
 pub fn members_by(
     words: &[u32],
     first: usize,
@@ -306,8 +295,12 @@ pub fn members_by(
         return Members { start: 0, end: 0 };
     }
     let i = c / step;
-    let passed = i * step;
-    members_of(words, offsets[i as usize], count - passed, c - passed)
+    let at = cliques_next(words, offsets[i as usize], c - i * step);
+    let q = Clique::here(words, at);
+    Members {
+        start: q.snode,
+        end: q.next,
+    }
 }
 
 // ---- block sizes
@@ -357,11 +350,6 @@ pub fn get_decomposed_dim_and_overlaps(words: &[u32], at: usize) -> Decomposed
     ensures { λ r. ⌜ r .dim ≡ blockRows (patternAt (now (words .entry)) at) ⌝ }
     ensures { λ r. ⌜ r .overlaps ≡ overlapRows (patternAt (now (words .entry)) at) ⌝ }
 {
-    let PatternRead::Pattern(p) = Pattern::read(words, at) else {
-        return Decomposed {
-            dim: 0,
-            overlaps: 0,
-        };
-    };
+    let p = Pattern::here(words, at);
     dim_and_overlaps(words, p.cliques, p.clique_count)
 }

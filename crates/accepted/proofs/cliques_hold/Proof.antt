@@ -5,13 +5,13 @@ use Rattle.accepted.proofs.cliques_hold.Statement.{statement}
 use Rattle.accepted.proofs.cliques_hold.Tie as tie
 
 not-right-requires : tie.Need-not-right-requires
-not-right-requires c κs = search needs
+not-right-requires c κs = tt
 
 returns : tie.Need-returns
 returns c = λ z. absurd (omega (arith, c .not-right .ensures))
 
 not-right-requires-2 : tie.Need-not-right-requires-2
-not-right-requires-2 c κs = search needs
+not-right-requires-2 c κs = tt
 
 returns-2 : tie.Need-returns-2
 returns-2 c = λ z. absurd (omega (arith, c .not-right2 .ensures))
@@ -20,13 +20,13 @@ snodes-hold-requires : tie.Need-snodes-hold-requires
 snodes-hold-requires c κs = search needs
 
 not-right-requires-3 : tie.Need-not-right-requires-3
-not-right-requires-3 c κs = search needs
+not-right-requires-3 c κs = tt
 
 same-length : tie.Need-same-length
-same-length c = search needs
+same-length c = omega arith
 
 same-length-2 : tie.Need-same-length-2
-same-length-2 c = search needs
+same-length-2 c = omega arith
 
 returns-3 : tie.Need-returns-3
 returns-3 c = λ z. absurd (omega (arith, c .not-right3 .ensures))
@@ -37,13 +37,13 @@ separators-hold-requires c κs =
     ((h .0 .stand, omega arith), (omega arith, (h .1, omega arith)))
 
 same-length-3 : tie.Need-same-length-3
-same-length-3 c = search needs
+same-length-3 c = omega arith
 
 same-length-4 : tie.Need-same-length-4
-same-length-4 c = search needs
+same-length-4 c = omega arith
 
 same-length-5 : tie.Need-same-length-5
-same-length-5 c = search needs
+same-length-5 c = omega arith
 
 returns-4 : tie.Need-returns-4
 returns-4 c =

@@ -9,7 +9,6 @@ use Rattle.supernode_tree.proofs.Words.{length-part}
 use Rattle.accepted.specs.Accepted.{Met, CliquesHold}
 use Rattle.accepted.proofs.Marks.{met-none, met-all, met-marks}
 use native.Mathlib.Omega.{arith}
-use borrow.Author.Needs.{needs}
 use Rattle.accepted.proofs.members_hold.Statement.{statement}
 use Rattle.accepted.proofs.members_hold.Tie as tie
 
@@ -28,25 +27,25 @@ as-many c =
     length-part (p .ordering) (p .cliques - p .ordering) (s .args .words .now) (omega arith) ∙ omega arith
 
 mul-mark-all : tie.Need-mul-mark-all
-mul-mark-all c = search needs
+mul-mark-all c = omega arith
 
 sub-mark-all : tie.Need-sub-mark-all
-sub-mark-all c = search needs
+sub-mark-all c = omega arith
 
 part-mark-all-start : tie.Need-part-mark-all-start
-part-mark-all-start c = search needs
+part-mark-all-start c = omega arith
 
 part-mark-all-end : tie.Need-part-mark-all-end
-part-mark-all-end c = search needs
+part-mark-all-end c = omega arith
 
 mark-all-requires : tie.Need-mark-all-requires
-mark-all-requires c κs = search needs
+mark-all-requires c κs = tt
 
 not-right-requires : tie.Need-not-right-requires
-not-right-requires c κs = search needs
+not-right-requires c κs = tt
 
 same-length : tie.Need-same-length
-same-length c = search needs
+same-length c = omega arith
 
 returns : tie.Need-returns
 returns c = λ z. absurd (omega (arith, c .not-right .ensures))
@@ -59,13 +58,13 @@ cliques-hold-requires c κs =
     (omega arith, (met-marks true _ (take (p .cliques - p .ordering) (drop (p .ordering) (s .args .words .now))) (ordered e) (as-many e), omega arith))
 
 same-length-2 : tie.Need-same-length-2
-same-length-2 c = search needs
+same-length-2 c = omega arith
 
 same-length-3 : tie.Need-same-length-3
-same-length-3 c = search needs
+same-length-3 c = omega arith
 
 same-length-4 : tie.Need-same-length-4
-same-length-4 c = search needs
+same-length-4 c = omega arith
 
 returns-2 : tie.Need-returns-2
 returns-2 c =

@@ -6,36 +6,35 @@ use borrow.Author.Tests.{not-false}
 use Rattle.accepted.proofs.Marks.{all-front, all-over}
 use Rattle.accepted.proofs.Patterns.{pattern-holds}
 use native.Mathlib.Omega.{arith}
-use borrow.Author.Needs.{needs}
 use Rattle.accepted.proofs.pattern_holds.Statement.{statement}
 use Rattle.accepted.proofs.pattern_holds.Tie as tie
 
 not-right-requires : tie.Need-not-right-requires
-not-right-requires c κs = search needs
+not-right-requires c κs = tt
 
 returns : tie.Need-returns
 returns c = λ z. absurd (omega (arith, c .not-right .ensures))
 
 cast-is-psd-of : tie.Need-cast-is-psd-of
-cast-is-psd-of c = search needs
+cast-is-psd-of c = omega arith
 
 is-psd-of-requires : tie.Need-is-psd-of-requires
-is-psd-of-requires c κs = search needs
+is-psd-of-requires c κs = tt
 
 not-right-requires-2 : tie.Need-not-right-requires-2
-not-right-requires-2 c κs = search needs
+not-right-requires-2 c κs = tt
 
 returns-2 : tie.Need-returns-2
 returns-2 c = λ z. absurd (omega (arith, c .not-right2 .ensures))
 
 sub-members-hold : tie.Need-sub-members-hold
-sub-members-hold c = search needs
+sub-members-hold c = omega arith
 
 part-members-hold-start : tie.Need-part-members-hold-start
-part-members-hold-start c = search needs
+part-members-hold-start c = omega arith
 
 part-members-hold-end : tie.Need-part-members-hold-end
-part-members-hold-end c = search needs
+part-members-hold-end c = omega arith
 
 members-hold-requires : tie.Need-members-hold-requires
 members-hold-requires c κs =
@@ -45,13 +44,13 @@ members-hold-requires c κs =
     (s .pre .0, (sym (length-take-le (n - 0) marks (omega arith) ∙ omega arith), (all-front false marks (n - 0) (omega arith) (s .pre .1 .0), omega arith)))
 
 same-length : tie.Need-same-length
-same-length c = search needs
+same-length c = omega arith
 
 same-length-2 : tie.Need-same-length-2
-same-length-2 c = search needs
+same-length-2 c = omega arith
 
 same-length-3 : tie.Need-same-length-3
-same-length-3 c = search needs
+same-length-3 c = omega arith
 
 returns-3 : tie.Need-returns-3
 returns-3 c =

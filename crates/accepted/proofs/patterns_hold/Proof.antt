@@ -17,7 +17,6 @@ use Rattle.supernode_tree.proofs.Sizes.{triangle-small}
 use Rattle.accepted.specs.Accepted.{AllAre, cutRows}
 use Rattle.accepted.proofs.Patterns.{origin, Left, left-more, left-none, left-all, sum-more, sum-done}
 use native.Mathlib.Omega.{arith}
-use borrow.Author.Needs.{needs}
 use Rattle.accepted.proofs.patterns_hold.Statement.{statement}
 use Rattle.accepted.proofs.patterns_hold.Tie as tie
 
@@ -48,40 +47,40 @@ loop-holds : tie.Need-loop-holds Inv-loop μ-loop
 loop-holds c = (omega arith, omega arith, refl, refl, refl, λ v h. marked-none 0 256 v h, λ l. (l, (omega arith, omega arith, omega arith)), omega arith, omega arith, omega arith)
 
 read-requires : tie.Need-read-requires Inv-loop μ-loop
-read-requires c κs = search needs
+read-requires c κs = tt
 
 enum-known-p : tie.Need-enum-known-p Inv-loop μ-loop
-enum-known-p c = search needs
+enum-known-p c = omega arith
 
 enum-told : tie.Need-enum-told Inv-loop μ-loop
-enum-told c = search needs
+enum-told c = omega arith
 
 not-accepted-requires : tie.Need-not-accepted-requires Inv-loop μ-loop
-not-accepted-requires c κs = search needs
+not-accepted-requires c κs = tt
 
 returns : tie.Need-returns Inv-loop μ-loop
 returns c = λ z. absurd (differ _ z (c .not-accepted .ensures))
 
 cast-origin : tie.Need-cast-origin Inv-loop μ-loop
-cast-origin c = search needs
+cast-origin c = omega arith
 
 not-accepted-requires-2 : tie.Need-not-accepted-requires-2 Inv-loop μ-loop
-not-accepted-requires-2 c κs = search needs
+not-accepted-requires-2 c κs = tt
 
 returns-2 : tie.Need-returns-2 Inv-loop μ-loop
 returns-2 c = λ z. absurd (differ _ z (c .not-accepted2 .ensures))
 
 add-least : tie.Need-add-least Inv-loop μ-loop
-add-least c = search needs
+add-least c = omega arith
 
 slice-aggregate-pattern-holds : tie.Need-slice-aggregate-pattern-holds Inv-loop μ-loop
-slice-aggregate-pattern-holds c = search needs
+slice-aggregate-pattern-holds c = omega arith
 
 slice-aggregate-pattern-holds-2 : tie.Need-slice-aggregate-pattern-holds-2 Inv-loop μ-loop
-slice-aggregate-pattern-holds-2 c = search needs
+slice-aggregate-pattern-holds-2 c = omega arith
 
 slice-aggregate-pattern-holds-3 : tie.Need-slice-aggregate-pattern-holds-3 Inv-loop μ-loop
-slice-aggregate-pattern-holds-3 c = search needs
+slice-aggregate-pattern-holds-3 c = omega arith
 
 pattern-holds-requires : tie.Need-pattern-holds-requires Inv-loop μ-loop
 pattern-holds-requires c κs =
@@ -90,7 +89,7 @@ pattern-holds-requires c κs =
     ((inside .1, inside .2), (l .loop .inv .5, omega arith))
 
 not-accepted-requires-3 : tie.Need-not-accepted-requires-3 Inv-loop μ-loop
-not-accepted-requires-3 c κs = search needs
+not-accepted-requires-3 c κs = tt
 
 returns-3 : tie.Need-returns-3 Inv-loop μ-loop
 returns-3 c = λ z. absurd (differ _ z (c .not-accepted3 .ensures))
@@ -105,7 +104,7 @@ triangular-number-requires : tie.Need-triangular-number-requires Inv-loop μ-loo
 triangular-number-requires c κs = omega (arith, found (c .before .before))
 
 cast-cut : tie.Need-cast-cut Inv-loop μ-loop
-cast-cut c = search needs
+cast-cut c = omega arith
 
 add-cut : tie.Need-add-cut Inv-loop μ-loop
 add-cut c = omega (arith, c .before .before .before .before .before .before .before .before .before .before .before .before .before .before .before .before .before .before .before .before .before .before .fits, c .triangular-number .ensures, triangle-small _ (found (c .before .before .before) .2), c .before .before .before .before .before .before .before .before .before .before .before .before .before .before .before .before .before .before .before .loop .inv .8)
@@ -114,10 +113,10 @@ add-overlaps : tie.Need-add-overlaps Inv-loop μ-loop
 add-overlaps c = omega (arith, c .before .before .before .before .before .before .before .before .before .before .before .before .before .before .before .before .before .before .before .before .before .before .before .fits, found (c .before .before .before .before), c .before .before .before .before .before .before .before .before .before .before .before .before .before .before .before .before .before .before .before .before .loop .inv .9)
 
 sub-left : tie.Need-sub-left Inv-loop μ-loop
-sub-left c = search needs
+sub-left c = omega arith
 
 loop-less : tie.Need-loop-less Inv-loop μ-loop
-loop-less c = search needs
+loop-less c = omega arith
 
 loop-again : tie.Need-loop-again Inv-loop μ-loop
 loop-again c =

@@ -1,4 +1,4 @@
-use Prim.Native.Nat.{ℕ, suc, _-_, _*_}
+use Prim.Native.Nat.{ℕ, suc, _+_, _-_, _*_, _≤_}
 use mathlib.Core.Bool.{false}
 use mathlib.Core.Path.{_≡_, refl, sym, ap, _∙_}
 use mathlib.Core.List.{List}
@@ -12,13 +12,12 @@ use Rattle.supernode_tree.proofs.Offsets.{after, after-clique}
 use Rattle.vertex_set.specs.OnceIn.{onceIn}
 use Rattle.vertex_set.proofs.Unmarked.{once-empty}
 use native.Mathlib.Omega.{arith}
-use borrow.Author.Needs.{needs}
 use Rattle.accepted.proofs.separator_holds.Statement.{statement}
 use Rattle.accepted.proofs.separator_holds.Tie as tie
 
 returns : tie.Need-returns
 returns c =
-    let s = c .before .before .before .before in
+    let s = c .before .before .before .before .before in
     let ws = s .args .words .now in
     let q = s .args .q in
     let k : ℕ = q .next - q .separator in
@@ -29,22 +28,26 @@ returns-2 : tie.Need-returns-2
 returns-2 c = λ z. absurd (differ false z refl)
 
 cast-at : tie.Need-cast-at
-cast-at c = search needs
+cast-at c = omega arith
 
 mul-at : tie.Need-mul-at
-mul-at c = search needs
+mul-at c = omega arith
 
 shared-slice-read-at : tie.Need-shared-slice-read-at
-shared-slice-read-at c = search needs
+shared-slice-read-at c = omega arith
+
+-- a clique's members end after they start
+members-rise : (start separator next a b : ℕ) → separator ≡ start + a → next ≡ separator + b → start ≤ next
+members-rise start separator next a b p q = omega arith
 
 -- the parent's clique stands at its offset
-parent-read : (c : tie.After-shared-slice-known3) → let s = c .before .before .before .before .before .before .before .before in
+parent-read : (c : tie.After-shared-slice-known3) → let s = c .before .before .before .before .before .before .before .before .before in
     let a = s .args in
     let ws = a .words .now in
     readClique (drop (getD (a .offsets .now) (a .q .parent) 0) ws)
     ≡ read (getD (cliquesFrom ws (a .first) (a .count)) (a .q .parent) noClique) (after ws (a .first) (suc (a .q .parent)))
 parent-read c =
-    let s = c .before .before .before .before .before .before .before .before in
+    let s = c .before .before .before .before .before .before .before .before .before in
     let a = s .args in
     let ws = a .words .now in
     let parent = a .q .parent in
@@ -54,48 +57,28 @@ parent-read c =
 here-requires : tie.Need-here-requires
 here-requires c κs = ap whole (parent-read c)
 
-mul-once-in : tie.Need-mul-once-in
-mul-once-in c = search needs
-
-sub-once-in : tie.Need-sub-once-in
-sub-once-in c = search needs
-
-part-once-in-start : tie.Need-part-once-in-start
-part-once-in-start c = search needs
-
-part-once-in-end : tie.Need-part-once-in-end
-part-once-in-end c = search needs
-
-mul-once-in-2 : tie.Need-mul-once-in-2
-mul-once-in-2 c = let inside = c .before .here .ensures .1 in omega arith
-
-sub-once-in-2 : tie.Need-sub-once-in-2
-sub-once-in-2 c = let inside = c .before .here .ensures .1 in omega arith
-
-part-once-in-start-2 : tie.Need-part-once-in-start-2
-part-once-in-start-2 c = let inside = c .before .here .ensures .1 in omega arith
-
-part-once-in-end-2 : tie.Need-part-once-in-end-2
-part-once-in-end-2 c = let inside = c .before .here .ensures .1 in omega arith
-
-once-in-requires : tie.Need-once-in-requires
-once-in-requires c κs = search needs
+separator-right-requires : tie.Need-separator-right-requires
+separator-right-requires c κs =
+    let h = c .before in
+    let s = h .before .before .before .before .before .before .before .before .before .before in
+    let inside = h .here .ensures .1 in
+    (s .pre .1 .1 .1 .0, ((members-rise _ _ _ _ _ (inside .1) (inside .2), inside .3), s .pre .1 .1 .1 .1))
 
 same-length : tie.Need-same-length
-same-length c = search needs
+same-length c = c .before .before .separator-right .kept .1 .1 .1 .1 .1 .1 .0
 
 returns-3 : tie.Need-returns-3
 returns-3 c =
-    let h = c .before .before .before .before .before .before in
+    let h = c .before .before .before .before in
     let m = h .here .result in
-    let s = c .before .before .before .before .before .before .before .before .before .before .before .before .before .before .before in
+    let s = c .before .before .before .before .before .before .before .before .before .before .before .before .before .before in
     let ws = s .args .words .now in
     let q = s .args .q in
     let at = getD (s .args .offsets .now) (q .parent) 0 in
     let us = take (q .next - q .separator) (drop (q .separator) ws) in
     let same : cliqueOf ws m ≡ getD (cliquesFrom ws (s .args .first) (s .args .count)) (q .parent) noClique =
     ap (valueOr noClique) (h .here .ensures .0 ∙ parent-read (h .before)) in
-    λ z. ap (λ (ms : List ℕ). onceIn ms us) (sym (members-part ws at m (h .here .ensures .1) ∙ ap members same)) ∙ sym (c .before .before .once-in .ensures) ∙ z
+    λ z. ap (λ (ms : List ℕ). onceIn ms us) (sym (members-part ws at m (h .here .ensures .1) ∙ ap members same)) ∙ sym (c .before .before .separator-right .ensures) ∙ z
 
 pub separator-holds-spec : {M : Type 1} → statement M
 separator-holds-spec =
@@ -107,14 +90,6 @@ separator-holds-spec =
     mul-at
     shared-slice-read-at
     here-requires
-    mul-once-in
-    sub-once-in
-    part-once-in-start
-    part-once-in-end
-    mul-once-in-2
-    sub-once-in-2
-    part-once-in-start-2
-    part-once-in-end-2
-    once-in-requires
+    separator-right-requires
     same-length
     returns-3)

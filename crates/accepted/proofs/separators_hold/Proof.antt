@@ -42,13 +42,13 @@ here-requires c κs =
     first-whole (l .before .before .before .before .args .words .now) (l .loop .at) (l .loop .left) (c .loop-test .taken) (l .loop .inv .0)
 
 get-nblk-requires : tie.Need-get-nblk-requires Inv-loop μ-loop
-get-nblk-requires c κs = search needs
+get-nblk-requires c κs = omega arith
 
 not-right-requires : tie.Need-not-right-requires Inv-loop μ-loop
-not-right-requires c κs = search needs
+not-right-requires c κs = tt
 
 same-length : tie.Need-same-length Inv-loop μ-loop
-same-length c = search needs
+same-length c = omega arith
 
 returns : tie.Need-returns Inv-loop μ-loop
 returns c = λ z. absurd (omega (arith, c .not-right .ensures))
@@ -62,43 +62,43 @@ separator-holds-requires c κs =
     (s .pre .0 .0, (s .pre .1 .0, (s .pre .1 .1 .0, ((omega arith, omega arith), omega (arith, l .loop .inv .2, s .pre .1 .1 .1)))))
 
 not-right-requires-2 : tie.Need-not-right-requires-2 Inv-loop μ-loop
-not-right-requires-2 c κs = search needs
+not-right-requires-2 c κs = tt
 
 same-length-2 : tie.Need-same-length-2 Inv-loop μ-loop
-same-length-2 c = search needs
+same-length-2 c = omega arith
 
 returns-2 : tie.Need-returns-2 Inv-loop μ-loop
 returns-2 c = λ z. absurd (omega (arith, c .not-right2 .ensures))
 
 cast-triangular-number : tie.Need-cast-triangular-number Inv-loop μ-loop
-cast-triangular-number c = search needs
+cast-triangular-number c = omega arith
 
 triangular-number-requires : tie.Need-triangular-number-requires Inv-loop μ-loop
-triangular-number-requires c κs = search needs
+triangular-number-requires c κs = omega arith
 
 cast-dim : tie.Need-cast-dim Inv-loop μ-loop
-cast-dim c = search needs
+cast-dim c = omega arith
 
 add-dim : tie.Need-add-dim Inv-loop μ-loop
-add-dim c = search needs
+add-dim c = omega arith
 
 cast-triangular-number-2 : tie.Need-cast-triangular-number-2 Inv-loop μ-loop
-cast-triangular-number-2 c = search needs
+cast-triangular-number-2 c = omega arith
 
 triangular-number-requires-2 : tie.Need-triangular-number-requires-2 Inv-loop μ-loop
-triangular-number-requires-2 c κs = search needs
+triangular-number-requires-2 c κs = omega arith
 
 cast-overlaps : tie.Need-cast-overlaps Inv-loop μ-loop
-cast-overlaps c = search needs
+cast-overlaps c = omega arith
 
 add-overlaps : tie.Need-add-overlaps Inv-loop μ-loop
-add-overlaps c = search needs
+add-overlaps c = omega arith
 
 sub-left : tie.Need-sub-left Inv-loop μ-loop
-sub-left c = search needs
+sub-left c = omega arith
 
 loop-less : tie.Need-loop-less Inv-loop μ-loop
-loop-less c = search needs
+loop-less c = omega arith
 
 loop-again : tie.Need-loop-again Inv-loop μ-loop
 loop-again c =
@@ -130,7 +130,7 @@ loop-again c =
     )
 
 same-length-3 : tie.Need-same-length-3 Inv-loop μ-loop
-same-length-3 c = search needs
+same-length-3 c = omega arith
 
 returns-3 : tie.Need-returns-3 Inv-loop μ-loop
 returns-3 c =

@@ -9,7 +9,6 @@ use Rattle.supernode_tree.proofs.Cliques.{snode-part}
 use Rattle.accepted.specs.Accepted.{SnodesHold}
 use Rattle.accepted.proofs.Walked.{Walked, walked-none, walked-more, walked-snodes, walked-offsets, walked-marks}
 use native.Mathlib.Omega.{arith}
-use borrow.Author.Needs.{needs}
 use Rattle.accepted.proofs.snodes_hold.Statement.{statement}
 use Rattle.accepted.proofs.snodes_hold.Tie as tie
 
@@ -33,40 +32,40 @@ loop-holds c =
     )
 
 read-requires : tie.Need-read-requires Inv-loop μ-loop
-read-requires c κs = search needs
+read-requires c κs = tt
 
 enum-known-q : tie.Need-enum-known-q Inv-loop μ-loop
-enum-known-q c = search needs
+enum-known-q c = omega arith
 
 enum-told : tie.Need-enum-told Inv-loop μ-loop
-enum-told c = search needs
+enum-told c = omega arith
 
 same-length : tie.Need-same-length Inv-loop μ-loop
-same-length c = search needs
+same-length c = omega arith
 
 same-length-2 : tie.Need-same-length-2 Inv-loop μ-loop
-same-length-2 c = search needs
+same-length-2 c = omega arith
 
 returns : tie.Need-returns Inv-loop μ-loop
 returns c = λ z. absurd (differ false z refl)
 
 parent-right-requires : tie.Need-parent-right-requires Inv-loop μ-loop
-parent-right-requires c κs = search needs
+parent-right-requires c κs = omega arith
 
 same-length-3 : tie.Need-same-length-3 Inv-loop μ-loop
-same-length-3 c = search needs
+same-length-3 c = omega arith
 
 same-length-4 : tie.Need-same-length-4 Inv-loop μ-loop
-same-length-4 c = search needs
+same-length-4 c = omega arith
 
 returns-2 : tie.Need-returns-2 Inv-loop μ-loop
 returns-2 c = λ z. absurd (differ false z refl)
 
 same-length-5 : tie.Need-same-length-5 Inv-loop μ-loop
-same-length-5 c = search needs
+same-length-5 c = omega arith
 
 same-length-6 : tie.Need-same-length-6 Inv-loop μ-loop
-same-length-6 c = search needs
+same-length-6 c = omega arith
 
 returns-3 : tie.Need-returns-3 Inv-loop μ-loop
 returns-3 c = λ z. absurd (differ false z refl)
@@ -84,25 +83,25 @@ part-mark-all-end : tie.Need-part-mark-all-end Inv-loop μ-loop
 part-mark-all-end c = let inside = rw (c .before .before .before .before .before .q .given .1) at (c .before .before .before .before .before .before .before .read .ensures .1) in omega arith
 
 mark-all-requires : tie.Need-mark-all-requires Inv-loop μ-loop
-mark-all-requires c κs = search needs
+mark-all-requires c κs = tt
 
 same-length-7 : tie.Need-same-length-7 Inv-loop μ-loop
-same-length-7 c = search needs
+same-length-7 c = omega arith
 
 same-length-8 : tie.Need-same-length-8 Inv-loop μ-loop
-same-length-8 c = search needs
+same-length-8 c = omega arith
 
 returns-4 : tie.Need-returns-4 Inv-loop μ-loop
 returns-4 c = λ z. absurd (differ false z refl)
 
 cast-offsets : tie.Need-cast-offsets Inv-loop μ-loop
-cast-offsets c = search needs
+cast-offsets c = omega arith
 
 mul-offsets : tie.Need-mul-offsets Inv-loop μ-loop
-mul-offsets c = search needs
+mul-offsets c = omega arith
 
 slice-write-offsets : tie.Need-slice-write-offsets Inv-loop μ-loop
-slice-write-offsets c = search needs
+slice-write-offsets c = omega arith
 
 add-total : tie.Need-add-total Inv-loop μ-loop
 add-total c = let inside = rw (c .before .before .before .before .before .before .before .before .before .before .before .before .q .given .1) at (c .before .before .before .before .before .before .before .before .before .before .before .before .before .before .read .ensures .1) in omega arith
@@ -111,7 +110,7 @@ add-c : tie.Need-add-c Inv-loop μ-loop
 add-c c = omega (arith, c .before .before .before .before .before .before .before .before .before .before .before .before .before .before .before .before .before .before .before .before .fits)
 
 loop-less : tie.Need-loop-less Inv-loop μ-loop
-loop-less c = search needs
+loop-less c = omega arith
 
 loop-again : tie.Need-loop-again Inv-loop μ-loop
 loop-again c =
@@ -135,10 +134,10 @@ loop-again c =
     )
 
 same-length-9 : tie.Need-same-length-9 Inv-loop μ-loop
-same-length-9 c = search needs
+same-length-9 c = omega arith
 
 same-length-10 : tie.Need-same-length-10 Inv-loop μ-loop
-same-length-10 c = search needs
+same-length-10 c = omega arith
 
 returns-5 : tie.Need-returns-5 Inv-loop μ-loop
 returns-5 c =

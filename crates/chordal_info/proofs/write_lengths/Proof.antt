@@ -1,72 +1,32 @@
-use mathlib.Core.Path.{refl}
-use lib.ListN.{length-set}
-use Rattle.chordal_info.proofs.Sizes.{lengths-written}
-use native.Mathlib.Omega.{arith}
+use Prim.Native.Nat.{ℕ}
+use native.Mathlib.Numerals.{add-one}
+use mathlib.Core.Path.{ap, _∙_}
+use mathlib.Core.List.{List, [], _∷_}
 use borrow.Author.Needs.{needs}
+use Rattle.layout.specs.Lists.{written}
 use Rattle.chordal_info.proofs.write_lengths.Statement.{statement}
 use Rattle.chordal_info.proofs.write_lengths.Tie as tie
 
-add-out : tie.Need-add-out
-add-out c = omega arith
+add-starts : tie.Need-add-starts
+add-starts c = search needs
 
-slice-write-out : tie.Need-slice-write-out
-slice-write-out c = search needs
+slice-aggregate-copy-numbers : tie.Need-slice-aggregate-copy-numbers
+slice-aggregate-copy-numbers c = search needs
 
-slice-write-out-2 : tie.Need-slice-write-out-2
-slice-write-out-2 c = simp length-set (omega arith)
-
-slice-write-out-3 : tie.Need-slice-write-out-3
-slice-write-out-3 c = simp length-set (omega arith)
-
-slice-write-out-4 : tie.Need-slice-write-out-4
-slice-write-out-4 c = simp length-set (omega arith)
-
-add-out-2 : tie.Need-add-out-2
-add-out-2 c = search needs
-
-slice-write-out-5 : tie.Need-slice-write-out-5
-slice-write-out-5 c = simp length-set (omega arith)
-
-slice-write-out-6 : tie.Need-slice-write-out-6
-slice-write-out-6 c = simp length-set (omega arith)
-
-slice-write-out-7 : tie.Need-slice-write-out-7
-slice-write-out-7 c = simp length-set (omega arith)
-
-slice-write-out-8 : tie.Need-slice-write-out-8
-slice-write-out-8 c = simp length-set (omega arith)
-
-slice-write-out-9 : tie.Need-slice-write-out-9
-slice-write-out-9 c = simp length-set (omega arith)
-
-slice-write-out-10 : tie.Need-slice-write-out-10
-slice-write-out-10 c = simp length-set (omega arith)
-
-slice-write-out-11 : tie.Need-slice-write-out-11
-slice-write-out-11 c = simp length-set (omega arith)
+copy-numbers-requires : tie.Need-copy-numbers-requires
+copy-numbers-requires c κs = search needs
 
 same-length : tie.Need-same-length
-same-length c = simp length-set refl
+same-length c = search needs
 
 returns : tie.Need-returns
-returns c = let a = c .args in lengths-written (a .out .now) (a .columns) (a .p-entries) (a .a-entries) (a .b) (a .cone-words) (a .alphas) (a .map-words) (c .pre .0)
+returns c =
+    let w = c .before .before in
+    let a = w .before .before .before .before .args in
+    w .copy-numbers .ensures
+    ∙ ap (λ (k : ℕ). written (k ∷ a .p-entries ∷ a .p-entries ∷ a .columns ∷ k ∷ a .a-entries ∷ a .a-entries ∷ a .b ∷ a .cone-words ∷ a .alphas ∷ a .map-words ∷ []) (a .out .now))
+    (add-one (a .columns))
 
 pub write-lengths-spec : {M : Type 1} → statement M
 write-lengths-spec =
-    tie.close
-    (tie.spec
-    add-out
-    slice-write-out
-    slice-write-out-2
-    slice-write-out-3
-    slice-write-out-4
-    add-out-2
-    slice-write-out-5
-    slice-write-out-6
-    slice-write-out-7
-    slice-write-out-8
-    slice-write-out-9
-    slice-write-out-10
-    slice-write-out-11
-    same-length
-    returns)
+    tie.close (tie.spec add-starts slice-aggregate-copy-numbers copy-numbers-requires same-length returns)

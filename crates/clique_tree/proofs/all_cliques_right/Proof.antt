@@ -1,51 +1,41 @@
-use mathlib.Core.Path.{_≡_, refl, sym, ap, _∙_}
-use lib.ListN.{length}
+use mathlib.Core.Path.{_≡_, sym, ap, _∙_}
 use borrow.Author.Tests.{not-true, not-false}
 use Rattle.layout.specs.Lists.{all}
 use Rattle.layout.specs.Patterns.{patterns}
 use Rattle.layout.specs.Checks.{cliquesRight}
 use Rattle.supernode_tree.proofs.Patterns.{patternsFrom, WholePatterns, patterns-whole, patterns-start, patterns-none, pattern-first, whole-later, all-stops, all-goes}
-use native.Mathlib.Omega.{arith}
 use borrow.Author.Needs.{needs}
 use Rattle.clique_tree.proofs.all_cliques_right.Statement.{statement}
 use Rattle.clique_tree.proofs.all_cliques_right.Tie as tie
 
 abbrev Inv-loop : tie.InvT-loop
-Inv-loop count words marks₀ offsets₀ at₀ left₀ marks offsets at left =
+Inv-loop count words at₀ left₀ at left =
     WholePatterns words at left × (all cliquesRight (patterns count words) ≡ all cliquesRight (patternsFrom words at left))
-    × (length marks ≡ 256) × (length offsets ≡ 256)
 
 abbrev μ-loop : tie.MeasureT-loop
-μ-loop count words marks₀ offsets₀ at₀ left₀ marks offsets at left = left
+μ-loop count words at₀ left₀ at left = left
 
 loop-holds : tie.Need-loop-holds Inv-loop μ-loop
 loop-holds c =
     let s = c .before in
     let ws = s .args .words .now in
-    (patterns-whole ws (s .args .count) (s .pre), ap (all cliquesRight) (patterns-start ws (s .args .count) (s .pre)), refl, refl)
+    (patterns-whole ws (s .args .count) (s .pre), ap (all cliquesRight) (patterns-start ws (s .args .count) (s .pre)))
 
-slice-aggregate-cliques-right-by : tie.Need-slice-aggregate-cliques-right-by Inv-loop μ-loop
-slice-aggregate-cliques-right-by c = search needs
-
-slice-aggregate-cliques-right-by-2 : tie.Need-slice-aggregate-cliques-right-by-2 Inv-loop μ-loop
-slice-aggregate-cliques-right-by-2 c = search needs
-
-cliques-right-by-requires : tie.Need-cliques-right-by-requires Inv-loop μ-loop
-cliques-right-by-requires c κs = search needs
+few-cliques-right-requires : tie.Need-few-cliques-right-requires Inv-loop μ-loop
+few-cliques-right-requires c κs =
+    let l = c .before in
+    pattern-first (l .before .before .args .words .now) (l .loop .at) (l .loop .left) (c .loop-test .taken) (l .loop .inv .0)
 
 returns : tie.Need-returns Inv-loop μ-loop
 returns c =
-    let t = c .before .before .before in
-    let i = t .before .before .before in
-    let l = i .before in
+    let l = c .before .before .before in
     let ws = l .before .before .args .words .now in
-    sym (all-stops ws (l .loop .at) (l .loop .left) (i .loop-test .taken) (l .loop .inv .0) cliquesRight _ _ (l .loop .inv .1) (t .cliques-right-by .ensures) (not-true _ (c .if1 .taken)))
+    sym (all-stops ws (l .loop .at) (l .loop .left) (c .before .before .loop-test .taken) (l .loop .inv .0) cliquesRight _ _ (l .loop .inv .1) (c .before .few-cliques-right .ensures) (not-true _ (c .if1 .taken)))
 
 pattern-next-requires : tie.Need-pattern-next-requires Inv-loop μ-loop
 pattern-next-requires c κs =
-    let i = c .before .before .before .before .before .before in
-    let l = i .before in
-    pattern-first (l .before .before .args .words .now) (l .loop .at) (l .loop .left) (i .loop-test .taken) (l .loop .inv .0)
+    let l = c .before .before .before in
+    pattern-first (l .before .before .args .words .now) (l .loop .at) (l .loop .left) (c .before .before .loop-test .taken) (l .loop .inv .0)
 
 sub-left : tie.Need-sub-left Inv-loop μ-loop
 sub-left c = search needs
@@ -56,15 +46,12 @@ loop-less c = search needs
 loop-again : tie.Need-loop-again Inv-loop μ-loop
 loop-again c =
     let e = c .before in
-    let t = e .before .before .before in
-    let i = t .before .before .before in
-    let l = i .before in
+    let t = e .before in
+    let l = t .before .before in
     let ws = l .before .before .args .words .now in
-    let more = i .loop-test .taken in (
+    let more = t .before .loop-test .taken in (
       whole-later ws (l .loop .at) (l .loop .left) more (l .loop .inv .0) (c .pattern-next .result) (c .pattern-next .ensures),
-      all-goes ws (l .loop .at) (l .loop .left) more (l .loop .inv .0) cliquesRight _ _ (l .loop .inv .1) (t .cliques-right-by .ensures) (c .pattern-next .result) (c .pattern-next .ensures) (not-false _ (e .if1 .left)),
-      omega arith,
-      omega arith,
+      all-goes ws (l .loop .at) (l .loop .left) more (l .loop .inv .0) cliquesRight _ _ (l .loop .inv .1) (t .few-cliques-right .ensures) (c .pattern-next .result) (c .pattern-next .ensures) (not-false _ (e .if1 .left)),
     )
 
 returns-2 : tie.Need-returns-2 Inv-loop μ-loop
@@ -79,9 +66,7 @@ all-cliques-right-spec =
     Inv-loop
     μ-loop
     loop-holds
-    slice-aggregate-cliques-right-by
-    slice-aggregate-cliques-right-by-2
-    cliques-right-by-requires
+    few-cliques-right-requires
     returns
     pattern-next-requires
     sub-left

@@ -22,7 +22,9 @@ loop-holds c =
     (patterns-whole ws (s .args .count) (s .pre), ap (all treeRight) (patterns-start ws (s .args .count) (s .pre)))
 
 tree-right-requires : tie.Need-tree-right-requires Inv-loop μ-loop
-tree-right-requires c κs = search needs
+tree-right-requires c κs =
+    let l = c .before in
+    pattern-first (l .before .before .args .words .now) (l .loop .at) (l .loop .left) (c .loop-test .taken) (l .loop .inv .0)
 
 returns : tie.Need-returns Inv-loop μ-loop
 returns c =

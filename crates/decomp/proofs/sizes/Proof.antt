@@ -1,22 +1,23 @@
-use Prim.Native.Nat.{ℕ}
-use mathlib.Core.Path.{_≡_, refl, sym, ap, subst, _∙_}
+use Prim.Native.Nat.{ℕ, _≤_}
+use native.Mathlib.Nat.{le-trans}
+use native.Mathlib.Omega.{arith}
+use mathlib.Core.Path.{_≡_, refl, sym, ap, _∙_}
 use mathlib.Core.List.{List}
 use lib.ListN.{length}
+use lib.Dec.{ltb, lit≤}
+use mir.Syntax.{w32}
+use mir.Val.{Fits}
 use borrow.Author.Tests.{le-leb, lt-leb}
-use Rattle.layout.specs.Lists.{written}
+use Rattle.layout.specs.Lists.{all, below, rises, written}
 use Rattle.layout.specs.Problem.{Problem, problem}
-use Rattle.layout.specs.Blocks.{blockRowCount, overlapCount}
-use Rattle.layout.specs.Checks.{layout, refusal}
-use Rattle.layout.specs.Answers.{orElse, roomRefusal, routeOf, onRoute, sizesRefusal}
-use Rattle.layout.proofs.Accepted.{accepted-sound, accepted-checked}
-use Rattle.checks.proofs.Order.{first-given}
-use Rattle.chordal_info.specs.Sizes.{Fitting, routeSizes}
-use Rattle.chordal_info.proofs.Sizes.{route-sizes}
-use Rattle.chordal_info.proofs.Counts.{accepted-fitting}
+use Rattle.layout.specs.Checks.{Checked, columnRows, refusal}
+use Rattle.layout.specs.Answers.{problemRefusal, routeOf}
+use Rattle.layout.proofs.Tests.{and-iff}
+use Rattle.layout.proofs.Accepted.{accepted-checked}
 use Rattle.layout.proofs.Buffers.{output-kept}
-use Rattle.decomp.proofs.Answers.{no-route, on-route, few-alphas}
-use native.Mathlib.Omega.{arith}
-use borrow.Author.Needs.{needs}
+use Rattle.checks.proofs.Checked.{problem-checked}
+use Rattle.decomp.proofs.Answers.{no-route, few-alphas}
+use Rattle.decomp.proofs.Refusals.{stopped-early, stopped-late, by-room, accepted, counts-fit, counts-sizes}
 use Rattle.decomp.proofs.sizes.Statement.{statement}
 use Rattle.decomp.proofs.sizes.Tie as tie
 
@@ -32,102 +33,101 @@ start c = c .before .before .before .before .before .before .before .before .bef
 returns : tie.Need-returns
 returns c = (sym (no-route _ _ (c .if1 .taken)), refl)
 
-refuse-requires : tie.Need-refuse-requires
-refuse-requires c κs = search needs
-
--- the number, on a route
-numbered : (c : tie.Else1) → let s = start c in
-    let room = length (s .args .out .now) in
-    onRoute (s .args .route) (λ rt. sizesRefusal rt (given s) room)
-    ≡ orElse (refusal (routeOf (s .args .route)) (given s)) (roomRefusal 11 room)
-numbered c =
-    let s = start c in
-    on-route (s .args .route) (λ rt. sizesRefusal rt (given s) (length (s .args .out .now))) (c .if1 .left)
+check-problem-requires : tie.Need-check-problem-requires
+check-problem-requires c κs = tt
 
 returns-2 : tie.Need-returns-2
 returns-2 c =
     let k = c .before in
-    let s = start (k .before) in
-    let e = k .refuse .ensures in (
-      e ∙ sym (numbered (k .before) ∙ first-given (refusal (routeOf (s .args .route)) (given s)) (roomRefusal 11 (length (s .args .out .now))) (λ z. c .if2 .taken (e ∙ z))),
-      output-kept (k .refuse .result) _ (s .args .out .now) (c .if2 .taken),
+    let s = start (k .before) in (
+      stopped-early (s .args .route) (given s) (length (s .args .out .now)) (k .before .if1 .left) (k .check-problem .result) (k .check-problem .ensures) (c .if2 .taken),
+      output-kept (k .check-problem .result) _ (s .args .out .now) (c .if2 .taken),
     )
 
-accepted : (c : tie.Else2) → let s = start (c .before .before) in refusal (routeOf (s .args .route)) (given s) ≡ 0
-accepted c = sym (c .before .refuse .ensures) ∙ c .if2 .left
+-- checks 1 to 7 passed
+seven : (c : tie.Else2) → problemRefusal (given (start (c .before .before))) ≡ 0
+seven c = sym (c .before .check-problem .ensures) ∙ c .if2 .left
 
--- the number that the room gives
-by-room : (c : tie.Else2) → let s = start (c .before .before) in
-    let room = length (s .args .out .now) in
-    onRoute (s .args .route) (λ rt. sizesRefusal rt (given s) room) ≡ roomRefusal 11 room
-by-room c =
-    let s = start (c .before .before) in
-    numbered (c .before .before) ∙ ap (λ (k : ℕ). orElse k (roomRefusal 11 (length (s .args .out .now)))) (accepted c)
+checked : (c : tie.Else2) → Checked (given (start (c .before .before)))
+checked c = problem-checked (given (start (c .before .before))) (seven c)
+
+get-decomposed-dim-and-overlaps-requires : tie.Need-get-decomposed-dim-and-overlaps-requires
+get-decomposed-dim-and-overlaps-requires c κs = checked c .sound
+
+check-route-requires : tie.Need-check-route-requires
+check-route-requires c κs =
+    let p = given (start (c .before .before .before)) in
+    let w = checked (c .before) in
+    let g = c .get-decomposed-dim-and-overlaps .ensures in (
+      w .sound,
+      (
+        (and-iff (all (λ r. ltb r (p .m)) (p .A .rows)) (all (λ k. rises (columnRows (p .A) k)) (below (p .n))) .0 (w .rowsA) .0, w .lengthB),
+        (g .0, g .1 .0),
+      ),
+    )
 
 returns-3 : tie.Need-returns-3
 returns-3 c =
-    let s = start (c .before .before .before) in
-    (sym (by-room (c .before) ∙ rw (lt-leb 11 (length (s .args .out .now)) (c .if3 .taken))), refl)
-
-get-decomposed-dim-and-overlaps-requires : tie.Need-get-decomposed-dim-and-overlaps-requires
-get-decomposed-dim-and-overlaps-requires c κs =
-    let s = start (c .before .before .before) in
-    accepted-sound (routeOf (s .args .route)) (given s) (accepted (c .before))
-
-cast-p-entries : tie.Need-cast-p-entries
-cast-p-entries c =
-    let k = c .before .before in
-    let s = start (k .before .before) in
-    omega (arith, accepted-checked (routeOf (s .args .route)) (given s) (accepted k) .fewEntriesP)
-
-cast-a-entries : tie.Need-cast-a-entries
-cast-a-entries c =
-    let k = c .before .before in
-    let s = start (k .before .before) in
-    omega (arith, accepted-checked (routeOf (s .args .route)) (given s) (accepted k) .fewEntriesA)
-
-cast-alpha-count : tie.Need-cast-alpha-count
-cast-alpha-count c =
-    let k = c .before .before in
-    let s = start (k .before .before) in
-    omega (arith, few-alphas (given s) (accepted-checked (routeOf (s .args .route)) (given s) (accepted k)))
-
-write-sizes-requires : tie.Need-write-sizes-requires
-write-sizes-requires c κs =
-    let d = c .before in
-    let k = d .before .before in
-    let s = start (k .before .before) in
-    let rt = routeOf (s .args .route) in
-    let p = given s in
-    let g = d .get-decomposed-dim-and-overlaps .ensures in (
-      d .before .if3 .left,
-      subst (λ (x : ℕ). Fitting rt (p .n) (p .m) (length (p .A .values)) x (d .get-decomposed-dim-and-overlaps .result .overlaps) (d .get-decomposed-dim-and-overlaps .result .cones)) (sym (g .0))
-          (subst (λ (x : ℕ). Fitting rt (p .n) (p .m) (length (p .A .values)) (blockRowCount (layout p)) x (d .get-decomposed-dim-and-overlaps .result .cones)) (sym (g .1 .0))
-          (subst (λ (x : ℕ). Fitting rt (p .n) (p .m) (length (p .A .values)) (blockRowCount (layout p)) (overlapCount (layout p)) x) (sym (g .1 .1))
-          (accepted-fitting rt p (accepted k)))),
+    let k = c .before in
+    let e = k .before .before in
+    let s = start (e .before .before) in (
+      stopped-late (s .args .route) (given s) (length (s .args .out .now)) (e .before .before .if1 .left) (k .check-route .result) (seven e) (k .check-route .ensures) (c .if3 .taken),
+      output-kept (k .check-route .result) _ (s .args .out .now) (c .if3 .taken),
     )
 
-same-length : tie.Need-same-length
-same-length c = search needs
+ok : (c : tie.Else3) → let s = start (c .before .before .before .before .before) in refusal (routeOf (s .args .route)) (given s) ≡ 0
+ok c =
+    let k = c .before in
+    let s = start (k .before .before .before .before) in
+    accepted (routeOf (s .args .route)) (given s) (k .check-route .result) (seven (k .before .before)) (k .check-route .ensures) (c .if3 .left)
 
 returns-4 : tie.Need-returns-4
 returns-4 c =
-    let w = c .before .before in
-    let d = w .before .before in
-    let k = d .before .before in
-    let s = start (k .before .before) in
-    let rt = routeOf (s .args .route) in
-    let p = given s in
+    let k = c .before in
+    let e = k .before .before .before .before .before in
+    let s = start e in
+    (sym (by-room (s .args .route) (given s) (length (s .args .out .now)) (e .if1 .left) (ok k) ∙ rw (lt-leb 11 (length (s .args .out .now)) (c .if4 .taken))), refl)
+
+-- a count that check 1 bounds fits a word
+small : {n : ℕ} → n ≤ 262144 → Fits w32 n
+small {n} h = omega arith
+
+cast-p-entries : tie.Need-cast-p-entries
+cast-p-entries c = small (checked (c .before .before .before .before) .fewEntriesP)
+
+cast-a-entries : tie.Need-cast-a-entries
+cast-a-entries c = small (checked (c .before .before .before .before) .fewEntriesA)
+
+cast-alpha-count : tie.Need-cast-alpha-count
+cast-alpha-count c =
+    let e = c .before .before .before .before in
+    let p = given (start (e .before .before)) in
+    small (le-trans (few-alphas p (checked e)) (lit≤ tt))
+
+write-sizes-requires : tie.Need-write-sizes-requires
+write-sizes-requires c κs =
+    let k = c .before .before in
+    let d = k .before .before in
+    let s = start (d .before .before .before) in
+    let r = d .get-decomposed-dim-and-overlaps .result in
     let g = d .get-decomposed-dim-and-overlaps .ensures in
-    let counted : ℕ → ℕ → ℕ → List ℕ =
-    λ rows overlaps cones. routeSizes rt (p .n) (p .m) (length (p .P .values)) (length (p .A .values)) (length (p .alphas)) rows overlaps cones in (
-      sym (by-room k ∙ rw (le-leb 11 (length (s .args .out .now)) (d .before .if3 .left))),
+    (c .before .if4 .left, counts-fit (routeOf (s .args .route)) (given s) (ok k) (r .rows) (r .overlaps) (r .cones) (g .0) (g .1 .0) (g .1 .1))
+
+same-length : tie.Need-same-length
+same-length c = c .before .before .write-sizes .kept .1 .1 .1 .1 .1 .1 .1 .1 .1 .0
+
+returns-5 : tie.Need-returns-5
+returns-5 c =
+    let w = c .before .before in
+    let k = w .before .before .before in
+    let d = k .before .before in
+    let e = d .before .before .before in
+    let s = start e in
+    let r = d .get-decomposed-dim-and-overlaps .result in
+    let g = d .get-decomposed-dim-and-overlaps .ensures in (
+      sym (by-room (s .args .route) (given s) (length (s .args .out .now)) (e .if1 .left) (ok k) ∙ rw (le-leb 11 (length (s .args .out .now)) (w .before .before .if4 .left))),
       w .write-sizes .ensures
-          ∙ ap (λ (l : List ℕ). written l (s .args .out .now))
-          (ap (λ (x : ℕ). counted x (d .get-decomposed-dim-and-overlaps .result .overlaps) (d .get-decomposed-dim-and-overlaps .result .cones)) (g .0)
-          ∙ ap (λ (x : ℕ). counted (blockRowCount (layout p)) x (d .get-decomposed-dim-and-overlaps .result .cones)) (g .1 .0)
-          ∙ ap (λ (x : ℕ). counted (blockRowCount (layout p)) (overlapCount (layout p)) x) (g .1 .1)
-          ∙ sym (route-sizes rt p (accepted k))),
+          ∙ ap (λ (l : List ℕ). written l (s .args .out .now)) (counts-sizes (routeOf (s .args .route)) (given s) (ok k) (r .rows) (r .overlaps) (r .cones) (g .0) (g .1 .0) (g .1 .1)),
     )
 
 pub sizes-spec : {M : Type 1} → statement M
@@ -135,13 +135,15 @@ sizes-spec =
     tie.close
     (tie.spec
     returns
-    refuse-requires
+    check-problem-requires
     returns-2
-    returns-3
     get-decomposed-dim-and-overlaps-requires
+    check-route-requires
+    returns-3
+    returns-4
     cast-p-entries
     cast-a-entries
     cast-alpha-count
     write-sizes-requires
     same-length
-    returns-4)
+    returns-5)

@@ -1,14 +1,13 @@
-use Prim.Native.Nat.{ℕ, _≤_}
-use mathlib.Core.Path.{_≡_, sym, subst, _∙_}
+use Prim.Native.Nat.{ℕ}
+use mathlib.Core.Path.{_≡_, refl, sym, _∙_}
 use mathlib.Core.List.{List, [], _∷_}
 use lib.ListN.{length}
-use Rattle.layout.specs.Problem.{Problem, standard, compact, problem}
+use Rattle.layout.specs.Problem.{Problem, Route, problem}
 use Rattle.layout.specs.Answers.{onRoute, routeOf, cutRefusal}
 use Rattle.layout.proofs.Accepted.{accepted-sound}
 use Rattle.layout.proofs.Buffers.{output-kept}
-use Rattle.decomp_augment.proofs.Rooms.{Taken, taken, standard-rooms, compact-rooms, by-route}
-use native.Mathlib.Omega.{arith}
-use borrow.Author.Needs.{needs}
+use Rattle.augment_standard.proofs.Constraints.{renamed}
+use Rattle.decomp_augment.proofs.Rooms.{Taken, taken, objective-asked, constraints-asked, starts-P, rows-P, values-P, costs-q, same-alphas, starts-A, rows-A, values-A, same-b, same-cones, same-map}
 use Rattle.decomp_augment.proofs.cut.Statement.{statement}
 use Rattle.decomp_augment.proofs.cut.Tie as tie
 
@@ -29,10 +28,10 @@ abbrev start : tie.After-refuse-cut → tie.Start
 start c = c .before .before .before .before .before .before .before .before .before .before .before .before .before .before .before .before .before .before .before .before .before .before .before .before
 
 slice-aggregate-refuse-cut : tie.Need-slice-aggregate-refuse-cut
-slice-aggregate-refuse-cut c = search needs
+slice-aggregate-refuse-cut c = refl
 
 refuse-cut-requires : tie.Need-refuse-cut-requires
-refuse-cut-requires c κs = search needs
+refuse-cut-requires c κs = tt
 
 returns : tie.Need-returns
 returns c =
@@ -77,174 +76,91 @@ returns c =
 number : (c : tie.Else1) → let s = start (c .before) in 0 ≡ onRoute (s .args .route) (λ rt. cutRefusal rt (given s) (rooms s))
 number c = sym (c .if1 .left) ∙ c .before .refuse-cut .ensures
 
-accepted : (c : tie.Else1) → let s = start (c .before) in (s .args .route ≤ 1) × Taken (routeOf (s .args .route)) (given s) (rooms s)
-accepted c = let s = start (c .before) in taken (s .args .route) (given s) (rooms s) (sym (number c))
+accepted : (c : tie.Else1) → let s = start (c .before) in Taken (routeOf (s .args .route)) (given s) (rooms s)
+accepted c = let s = start (c .before) in taken (s .args .route) (given s) (rooms s) (sym (number c)) .1
 
-get-decomposed-dim-and-overlaps-requires : tie.Need-get-decomposed-dim-and-overlaps-requires
-get-decomposed-dim-and-overlaps-requires c κs =
-    let s = start (c .before) in
-    accepted-sound (routeOf (s .args .route)) (given s) (accepted c .1 .0)
+count-added-requires : tie.Need-count-added-requires
+count-added-requires c κs =
+    let s = c .before .before .before .before .before .before .before .before .before .before .before .before .before .before .before .before .before .before .before .before .before .before .before .before .before in
+    accepted-sound (routeOf (s .args .route)) (given s) (accepted c .0)
 
--- ---- the standard route
+write-objective-requires : tie.Need-write-objective-requires
+write-objective-requires c κs =
+    let d = c .before .before .before .before .before in
+    let s = c .before .before .before .before .before .before .before .before .before .before .before .before .before .before .before .before .before .before .before .before .before .before .before .before .before .before .before .before .before .before .before in
+    objective-asked (given s) (rooms s) (routeOf (s .args .route)) (accepted (d .before)) (d .count-added .result .columns) (d .count-added .ensures .1)
 
-decomp-augment-standard-requires : tie.Need-decomp-augment-standard-requires
-decomp-augment-standard-requires c κs =
-    let t = c .before .before .before .before .before .before .before .before .before .before in
-    let d = t .before in
-    let s = start (d .before .before) in
-    let ok : Taken standard (given s) (rooms s) = subst (λ (j : ℕ). Taken (routeOf j) (given s) (rooms s)) (t .if2 .taken) (accepted (d .before) .1) in
-    let rows = d .get-decomposed-dim-and-overlaps .ensures .0 in
-    (ok .0, (rows, standard-rooms (given s) (rooms s) ok (d .get-decomposed-dim-and-overlaps .result .rows) rows))
+write-constraints-requires : tie.Need-write-constraints-requires
+write-constraints-requires c κs =
+    let d = c .before .before .before .before .before .before .before .before .before .before .before .before .before .before .before .before .before .before .before .before .before .before in
+    let s = c .before .before .before .before .before .before .before .before .before .before .before .before .before .before .before .before .before .before .before .before .before .before .before .before .before .before .before .before .before .before .before .before .before .before .before .before .before .before .before .before .before .before .before .before .before .before .before .before in
+    let n = d .count-added .result in
+    constraints-asked (given s) (rooms s) (routeOf (s .args .route)) (accepted (d .before)) (n .columns) (d .count-added .ensures .1) (n .rows) (d .count-added .ensures .0)
 
 same-length : tie.Need-same-length
-same-length c = search needs
+same-length c = c .before .before .before .before .before .before .before .before .before .before .before .before .before .before .before .before .before .before .before .before .before .before .before .before .before .before .before .before .before .write-objective .kept .1 .1 .1 .1 .1 .1 .1 .0
 
 same-length-2 : tie.Need-same-length-2
-same-length-2 c = search needs
+same-length-2 c = c .before .before .before .before .before .before .before .before .before .before .before .before .before .before .before .before .before .before .before .before .before .before .before .before .before .before .before .before .before .write-objective .kept .1 .1 .1 .1 .1 .1 .1 .1 .0
 
 same-length-3 : tie.Need-same-length-3
-same-length-3 c = search needs
+same-length-3 c = c .before .before .before .before .before .before .before .before .before .before .before .before .before .before .before .before .before .before .before .before .before .before .before .before .before .before .before .before .before .write-objective .kept .1 .1 .1 .1 .1 .1 .1 .1 .1 .0
 
 same-length-4 : tie.Need-same-length-4
-same-length-4 c = search needs
+same-length-4 c = c .before .before .before .before .before .before .before .before .before .before .before .before .before .before .before .before .before .before .before .before .before .before .before .before .before .before .before .before .before .write-objective .kept .1 .1 .1 .1 .1 .1 .1 .1 .1 .1 .0
 
 same-length-5 : tie.Need-same-length-5
-same-length-5 c = search needs
+same-length-5 c = c .before .before .before .before .before .before .before .before .before .before .before .before .write-constraints .kept .1 .1 .1 .1 .1 .1 .1 .1 .1 .1 .1 .1 .0
 
 same-length-6 : tie.Need-same-length-6
-same-length-6 c = search needs
+same-length-6 c = c .before .before .before .before .before .before .before .before .before .before .before .before .write-constraints .kept .1 .1 .1 .1 .1 .1 .1 .1 .1 .1 .1 .1 .1 .0
 
 same-length-7 : tie.Need-same-length-7
-same-length-7 c = search needs
+same-length-7 c = c .before .before .before .before .before .before .before .before .before .before .before .before .write-constraints .kept .1 .1 .1 .1 .1 .1 .1 .1 .1 .1 .1 .1 .1 .1 .0
 
 same-length-8 : tie.Need-same-length-8
-same-length-8 c = search needs
+same-length-8 c = c .before .before .before .before .before .before .before .before .before .before .before .before .write-constraints .kept .1 .1 .1 .1 .1 .1 .1 .1 .1 .1 .1 .1 .1 .1 .1 .0
 
 same-length-9 : tie.Need-same-length-9
-same-length-9 c = search needs
+same-length-9 c = c .before .before .before .before .before .before .before .before .before .before .before .before .write-constraints .kept .1 .1 .1 .1 .1 .1 .1 .1 .1 .1 .1 .1 .1 .1 .1 .1 .0
 
 same-length-10 : tie.Need-same-length-10
-same-length-10 c = search needs
+same-length-10 c = c .before .before .before .before .before .before .before .before .before .before .before .before .before .before .before .before .before .before .before .before .before .before .before .before .before .before .before .before .before .write-objective .kept .1 .1 .1 .1 .1 .1 .1 .1 .1 .1 .1 .0
+
+same-length-11 : tie.Need-same-length-11
+same-length-11 c = c .before .before .before .before .before .before .before .before .before .before .before .before .write-constraints .kept .1 .1 .1 .1 .1 .1 .1 .1 .1 .1 .1 .1 .1 .1 .1 .1 .1 .0
 
 returns-2 : tie.Need-returns-2
 returns-2 c =
-    let w = c .before .before .before .before .before .before .before .before .before .before .before .before .before .before .before .before .before .before .before .before .decomp-augment-standard .ensures in
-    let t = c .before .before .before .before .before .before .before .before .before .before .before .before .before .before .before .before .before .before .before .before .before .before .before .before .before .before .before .before .before .before .before in
-    let s = start (t .before .before .before) in
+    let d = c .before .before .before .before .before .before .before .before .before .before .before .before .before .before .before .before .before .before .before .before .before .before .before .before .before .before .before .before .before .before .before .before .before .before .before in
+    let s = c .before .before .before .before .before .before .before .before .before .before .before .before .before .before .before .before .before .before .before .before .before .before .before .before .before .before .before .before .before .before .before .before .before .before .before .before .before .before .before .before .before .before .before .before .before .before .before .before .before .before .before .before .before .before .before .before .before .before .before .before .before in
     let a = s .args in
-    let e = t .if2 .taken in (
-      number (t .before .before),
+    let p = given s in
+    let r = routeOf (a .route) in
+    let o = c .before .before .before .before .before .before .before .before .before .before .before .before .before .before .before .before .before .before .before .before .before .before .before .before .before .before .before .before .before .write-objective .ensures in
+    let w = c .before .before .before .before .before .before .before .before .before .before .before .before .write-constraints .ensures in (
+      number (d .before),
       (
-        w .0 ∙ by-route (λ x. x .P .starts) (given s) (a .p-starts-out .now) e,
+        renamed (a .p-starts-out .now) (starts-P p r (d .count-added .result .columns) (d .count-added .ensures .1)) (o .0),
         (
-          w .1 .0 ∙ by-route (λ x. x .P .rows) (given s) (a .p-rows-out .now) e,
+          renamed (a .p-rows-out .now) (rows-P p r) (o .1 .0),
           (
-            w .1 .1 .0 ∙ by-route (λ x. x .P .values) (given s) (a .p-values-out .now) e,
+            renamed (a .p-values-out .now) (values-P p r) (o .1 .1 .0),
             (
-              w .1 .1 .1 .0 ∙ by-route (λ x. x .q) (given s) (a .q-out .now) e,
+              renamed (a .q-out .now) (costs-q p r (d .count-added .result .columns) (d .count-added .ensures .1)) (o .1 .1 .1 .0),
               (
-                w .1 .1 .1 .1 .0 ∙ by-route (λ x. x .A .starts) (given s) (a .a-starts-out .now) e,
+                renamed (a .a-starts-out .now) (starts-A p r) (w .0),
                 (
-                  w .1 .1 .1 .1 .1 .0 ∙ by-route (λ x. x .A .rows) (given s) (a .a-rows-out .now) e,
+                  renamed (a .a-rows-out .now) (rows-A p r) (w .1 .0),
                   (
-                    w .1 .1 .1 .1 .1 .1 .0 ∙ by-route (λ x. x .A .values) (given s) (a .a-values-out .now) e,
+                    renamed (a .a-values-out .now) (values-A p r) (w .1 .1 .0),
                     (
-                      w .1 .1 .1 .1 .1 .1 .1 .0 ∙ by-route (λ x. x .b) (given s) (a .b-out .now) e,
+                      renamed (a .b-out .now) (same-b p r) (w .1 .1 .1 .0),
                       (
-                        w .1 .1 .1 .1 .1 .1 .1 .1 .0 ∙ by-route (λ x. x .cones) (given s) (a .cones-out .now) e,
+                        renamed (a .cones-out .now) (same-cones p r) (w .1 .1 .1 .1 .0),
                         (
-                          w .1 .1 .1 .1 .1 .1 .1 .1 .1 ∙ by-route (λ x. x .alphas) (given s) (a .alphas-out .now) e,
-                          by-route (λ x. x .map) (given s) (a .map-out .now) e,
-                        ),
-                      ),
-                    ),
-                  ),
-                ),
-              ),
-            ),
-          ),
-        ),
-      ),
-    )
-
--- ---- the compact route
-
--- a route that is at most 1 and not 0
-route-one : (c : tie.Else2) → start (c .before .before .before) .args .route ≡ 1
-route-one c = omega (arith, accepted (c .before .before) .0, c .if2 .left)
-
-decomp-augment-compact-requires : tie.Need-decomp-augment-compact-requires
-decomp-augment-compact-requires c κs =
-    let t = c .before .before .before .before .before .before .before .before .before .before .before in
-    let d = t .before in
-    let s = start (d .before .before) in
-    let ok : Taken compact (given s) (rooms s) = subst (λ (j : ℕ). Taken (routeOf j) (given s) (rooms s)) (route-one t) (accepted (d .before) .1) in
-    let g = d .get-decomposed-dim-and-overlaps .ensures in
-    let f = compact-rooms (given s) (rooms s) ok (d .get-decomposed-dim-and-overlaps .result .rows) (d .get-decomposed-dim-and-overlaps .result .overlaps) (g .0) (g .1 .0) in
-    (ok .0, ((g .0, g .1 .0), f))
-
-same-length-11 : tie.Need-same-length-11
-same-length-11 c = search needs
-
-same-length-12 : tie.Need-same-length-12
-same-length-12 c = search needs
-
-same-length-13 : tie.Need-same-length-13
-same-length-13 c = search needs
-
-same-length-14 : tie.Need-same-length-14
-same-length-14 c = search needs
-
-same-length-15 : tie.Need-same-length-15
-same-length-15 c = search needs
-
-same-length-16 : tie.Need-same-length-16
-same-length-16 c = search needs
-
-same-length-17 : tie.Need-same-length-17
-same-length-17 c = search needs
-
-same-length-18 : tie.Need-same-length-18
-same-length-18 c = search needs
-
-same-length-19 : tie.Need-same-length-19
-same-length-19 c = search needs
-
-same-length-20 : tie.Need-same-length-20
-same-length-20 c = search needs
-
-same-length-21 : tie.Need-same-length-21
-same-length-21 c = search needs
-
-returns-3 : tie.Need-returns-3
-returns-3 c =
-    let w = c .before .before .before .before .before .before .before .before .before .before .before .before .before .before .before .before .before .before .before .before .before .before .decomp-augment-compact .ensures in
-    let t = c .before .before .before .before .before .before .before .before .before .before .before .before .before .before .before .before .before .before .before .before .before .before .before .before .before .before .before .before .before .before .before .before .before .before in
-    let s = start (t .before .before .before) in
-    let a = s .args in
-    let e = route-one t in (
-      number (t .before .before),
-      (
-        w .0 ∙ by-route (λ x. x .P .starts) (given s) (a .p-starts-out .now) e,
-        (
-          w .1 .0 ∙ by-route (λ x. x .P .rows) (given s) (a .p-rows-out .now) e,
-          (
-            w .1 .1 .0 ∙ by-route (λ x. x .P .values) (given s) (a .p-values-out .now) e,
-            (
-              w .1 .1 .1 .0 ∙ by-route (λ x. x .q) (given s) (a .q-out .now) e,
-              (
-                w .1 .1 .1 .1 .0 ∙ by-route (λ x. x .A .starts) (given s) (a .a-starts-out .now) e,
-                (
-                  w .1 .1 .1 .1 .1 .0 ∙ by-route (λ x. x .A .rows) (given s) (a .a-rows-out .now) e,
-                  (
-                    w .1 .1 .1 .1 .1 .1 .0 ∙ by-route (λ x. x .A .values) (given s) (a .a-values-out .now) e,
-                    (
-                      w .1 .1 .1 .1 .1 .1 .1 .0 ∙ by-route (λ x. x .b) (given s) (a .b-out .now) e,
-                      (
-                        w .1 .1 .1 .1 .1 .1 .1 .1 .0 ∙ by-route (λ x. x .cones) (given s) (a .cones-out .now) e,
-                        (
-                          w .1 .1 .1 .1 .1 .1 .1 .1 .1 .0 ∙ by-route (λ x. x .alphas) (given s) (a .alphas-out .now) e,
-                          w .1 .1 .1 .1 .1 .1 .1 .1 .1 .1 ∙ by-route (λ x. x .map) (given s) (a .map-out .now) e,
+                          renamed (a .alphas-out .now) (same-alphas p r) (o .1 .1 .1 .1),
+                          renamed (a .map-out .now) (same-map p r) (w .1 .1 .1 .1 .1),
                         ),
                       ),
                     ),
@@ -264,8 +180,9 @@ cut-spec =
     slice-aggregate-refuse-cut
     refuse-cut-requires
     returns
-    get-decomposed-dim-and-overlaps-requires
-    decomp-augment-standard-requires
+    count-added-requires
+    write-objective-requires
+    write-constraints-requires
     same-length
     same-length-2
     same-length-3
@@ -276,17 +193,5 @@ cut-spec =
     same-length-8
     same-length-9
     same-length-10
-    returns-2
-    decomp-augment-compact-requires
     same-length-11
-    same-length-12
-    same-length-13
-    same-length-14
-    same-length-15
-    same-length-16
-    same-length-17
-    same-length-18
-    same-length-19
-    same-length-20
-    same-length-21
-    returns-3)
+    returns-2)

@@ -4,7 +4,6 @@ use Rattle.layout.specs.Problem.{Route, standard, compact, Solution}
 use Rattle.layout.specs.Answers.{routeOf}
 use Rattle.chordal_info.proofs.Sizes.{route-standard, route-compact}
 use Rattle.reverse.specs.Joined.{Joinable, joinedOf}
-use borrow.Author.Needs.{needs}
 use Rattle.decomp_reverse.proofs.decomp_reverse.Statement.{statement}
 use Rattle.decomp_reverse.proofs.decomp_reverse.Tie as tie
 
@@ -40,13 +39,13 @@ decomp-reverse-compact-requires c κs =
     (joinable s compact (route-compact (s .args .route) (t .if1 .left)), s .pre .1)
 
 same-length : tie.Need-same-length
-same-length c = search needs
+same-length c = c .before .before .before .before .before .before .decomp-reverse-standard .kept .1 .1 .1 .1 .1 .1 .1 .1 .0
 
 same-length-2 : tie.Need-same-length-2
-same-length-2 c = search needs
+same-length-2 c = c .before .before .before .before .before .before .decomp-reverse-standard .kept .1 .1 .1 .1 .1 .1 .1 .1 .1 .0
 
 same-length-3 : tie.Need-same-length-3
-same-length-3 c = search needs
+same-length-3 c = c .before .before .before .before .before .before .decomp-reverse-standard .kept .1 .1 .1 .1 .1 .1 .1 .1 .1 .1 .0
 
 returns : tie.Need-returns
 returns c =
@@ -58,13 +57,13 @@ returns c =
     (e .0, (e .1 .0 ∙ as-s s standard same, e .1 .1 ∙ as-z s standard same))
 
 same-length-4 : tie.Need-same-length-4
-same-length-4 c = search needs
+same-length-4 c = c .before .before .before .before .before .before .decomp-reverse-compact .kept .1 .1 .1 .1 .1 .1 .1 .1 .0
 
 same-length-5 : tie.Need-same-length-5
-same-length-5 c = search needs
+same-length-5 c = c .before .before .before .before .before .before .decomp-reverse-compact .kept .1 .1 .1 .1 .1 .1 .1 .1 .1 .0
 
 same-length-6 : tie.Need-same-length-6
-same-length-6 c = search needs
+same-length-6 c = c .before .before .before .before .before .before .decomp-reverse-compact .kept .1 .1 .1 .1 .1 .1 .1 .1 .1 .1 .0
 
 returns-2 : tie.Need-returns-2
 returns-2 c =

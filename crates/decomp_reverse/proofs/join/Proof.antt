@@ -8,8 +8,7 @@ use Rattle.layout.specs.Problem.{Route, solution}
 use Rattle.layout.specs.Answers.{output, routeOf, onRoute, joinRefusal}
 use Rattle.layout.proofs.Buffers.{output-kept}
 use Rattle.decomp.proofs.Answers.{no-route, on-route}
-use Rattle.decomp_reverse.proofs.Order.{Accepted, join-accepted, joined-parts, joined-scalars}
-use borrow.Author.Needs.{needs}
+use Rattle.decomp_reverse.proofs.Order.{Accepted, as-layout, join-accepted, joined-parts, joined-scalars}
 use Rattle.decomp_reverse.proofs.join.Statement.{statement}
 use Rattle.decomp_reverse.proofs.join.Tie as tie
 
@@ -26,22 +25,30 @@ refused s rt =
     joinRefusal rt (a .n) (a .m) (a .cones .now) (a .count) (a .words .now) (solution (a .x .now) (a .s .now) (a .z .now) (a .tau) (a .kappa)) (a .map .now)
     (length (a .x-out .now) ∷ length (a .s-out .now) ∷ length (a .z-out .now) ∷ length (a .scalars-out .now) ∷ [])
 
+-- the number that was answered is that of the route
+answered : (k : tie.After-refuse-join) → let s = start (k .before) in k .refuse-join .result ≡ refused s (routeOf (s .args .route))
+answered k =
+    let s = start (k .before) in
+    let a = s .args in
+    k .refuse-join .ensures
+    ∙ as-layout (routeOf (a .route)) (a .n) (a .m) (a .cones .now) (a .count) (a .words .now) (solution (a .x .now) (a .s .now) (a .z .now) (a .tau) (a .kappa)) (a .map .now)
+    (length (a .x-out .now) ∷ length (a .s-out .now) ∷ length (a .z-out .now) ∷ length (a .scalars-out .now) ∷ [])
+
 numbered : (c : tie.Else1) → let s = start c in onRoute (s .args .route) (refused s) ≡ refused s (routeOf (s .args .route))
 numbered c = on-route (start c .args .route) (refused (start c)) (c .if1 .left)
 
 refuse-join-requires : tie.Need-refuse-join-requires
-refuse-join-requires c κs = search needs
+refuse-join-requires c κs = tt
 
 returns-2 : tie.Need-returns-2
 returns-2 c =
     let k = c .before in
-    let a = start (k .before) .args in
     let keeps : (old new : List Float) → old ≡ output (k .refuse-join .result) new old = λ old new. output-kept (k .refuse-join .result) new old (c .if2 .taken) in
-    (k .refuse-join .ensures ∙ sym (numbered (k .before)), (keeps _ _, (keeps _ _, (keeps _ _, keeps _ _))))
+    (answered k ∙ sym (numbered (k .before)), (keeps _ _, (keeps _ _, (keeps _ _, keeps _ _))))
 
 -- nothing was refused
 none : (c : tie.Else2) → let s = start (c .before .before) in refused s (routeOf (s .args .route)) ≡ 0
-none c = sym (c .before .refuse-join .ensures) ∙ c .if2 .left
+none c = sym (answered (c .before)) ∙ c .if2 .left
 
 accepted : (c : tie.Else2)
     → let a = start (c .before .before) .args in
@@ -58,7 +65,7 @@ decomp-reverse-requires c κs =
     (g .joinable, (g .columns, g .room-x, g .room-s, g .room-z))
 
 joined-requires : tie.Need-joined-requires
-joined-requires c κs = search needs
+joined-requires c κs = tt
 
 write-scalars-requires : tie.Need-write-scalars-requires
 write-scalars-requires c κs =
@@ -66,16 +73,16 @@ write-scalars-requires c κs =
     accepted (d .before .before .before .before) .room-scalars
 
 same-length : tie.Need-same-length
-same-length c = search needs
+same-length c = c .before .before .before .before .before .before .before .before .before .before .before .decomp-reverse .kept .1 .1 .1 .1 .1 .1 .1 .1 .1 .0
 
 same-length-2 : tie.Need-same-length-2
-same-length-2 c = search needs
+same-length-2 c = c .before .before .before .before .before .before .before .before .before .before .before .decomp-reverse .kept .1 .1 .1 .1 .1 .1 .1 .1 .1 .1 .0
 
 same-length-3 : tie.Need-same-length-3
-same-length-3 c = search needs
+same-length-3 c = c .before .before .before .before .before .before .before .before .before .before .before .decomp-reverse .kept .1 .1 .1 .1 .1 .1 .1 .1 .1 .1 .1 .0
 
 same-length-4 : tie.Need-same-length-4
-same-length-4 c = search needs
+same-length-4 c = c .before .before .write-scalars .kept .1 .0
 
 returns-3 : tie.Need-returns-3
 returns-3 c =

@@ -1,4 +1,3 @@
-use lib.ListN.{length}
 use borrow.Author.Tests.{eq-eqb, ne-eqb}
 use Rattle.decomp_reverse.proofs.lengths_are.Statement.{statement}
 use Rattle.decomp_reverse.proofs.lengths_are.Tie as tie
@@ -12,7 +11,7 @@ returns-2 c = simp (eq-eqb _ _ (c .before .if1 .left), ne-eqb _ _ (c .if2 .taken
 returns-3 : tie.Need-returns-3
 returns-3 c =
     let a = c .before .before .args in
-    rw (eq-eqb (length (a .x .now)) (a .columns) (c .before .if1 .left), eq-eqb (length (a .s .now)) (a .rows) (c .if2 .left))
+    rw (eq-eqb (a .x) (a .columns) (c .before .if1 .left), eq-eqb (a .s) (a .rows) (c .if2 .left))
 
 pub lengths-are-spec : {M : Type 1} → statement M
 lengths-are-spec = tie.close (tie.spec returns returns-2 returns-3)

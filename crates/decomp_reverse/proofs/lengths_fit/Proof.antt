@@ -1,6 +1,6 @@
 use mathlib.Core.Path.{sym, ap, _∙_}
 use mathlib.Core.Bool.{Bool}
-use Rattle.layout.specs.Problem.{Route, solution, one64}
+use Rattle.layout.specs.Problem.{Route}
 use Rattle.chordal_info.proofs.Sizes.{route-standard, route-compact}
 use Rattle.decomp_reverse.specs.Fits.{lengthsFit}
 use borrow.Author.Needs.{needs}
@@ -11,7 +11,7 @@ use Rattle.decomp_reverse.proofs.lengths_fit.Tie as tie
 abbrev on : tie.Start → Route → Bool
 on s route =
     let a = s .args in
-    lengthsFit route (a .n) (a .m) (a .rows) (a .overlaps) (solution (a .x .now) (a .s .now) (a .z .now) one64 one64)
+    lengthsFit route (a .n) (a .m) (a .rows) (a .overlaps) (a .x) (a .s) (a .z)
 
 add-lengths-are : tie.Need-add-lengths-are
 add-lengths-are c = search needs
@@ -24,7 +24,7 @@ lengths-are-requires c κs = search needs
 
 returns : tie.Need-returns
 returns c =
-    let s = c .before .before .before .before .before in
+    let s = c .before .before in
     c .lengths-are .ensures ∙ sym (ap (on s) (route-standard (s .args .route) (c .before .if1 .taken)))
 
 add-lengths-are-3 : tie.Need-add-lengths-are-3
@@ -35,7 +35,7 @@ lengths-are-requires-2 c κs = search needs
 
 returns-2 : tie.Need-returns-2
 returns-2 c =
-    let s = c .before .before .before .before .before in
+    let s = c .before .before in
     c .lengths-are2 .ensures ∙ sym (ap (on s) (route-compact (s .args .route) (c .before .if1 .left)))
 
 pub lengths-fit-spec : {M : Type 1} → statement M

@@ -9,8 +9,7 @@ use Rattle.layout.specs.Answers.{output, joinedParts}
 use Rattle.layout.proofs.Buffers.{output-kept}
 use Rattle.decomp_reverse.proofs.Order.{Accepted, join-accepted, joined-parts, joined-scalars}
 use Rattle.decomp_reverse_entries.specs.Refusals.{refusalAs}
-use Rattle.decomp_reverse_entries.proofs.Order.{as-joined}
-use borrow.Author.Needs.{needs}
+use Rattle.decomp_reverse_entries.proofs.Order.{as-joined, by-lengths}
 use Rattle.decomp_reverse_entries.proofs.join_as.Statement.{statement}
 use Rattle.decomp_reverse_entries.proofs.join_as.Tie as tie
 
@@ -18,20 +17,32 @@ abbrev start : tie.After-refuse-as → tie.Start
 start c = c .before .before .before .before .before .before .before .before .before .before
 
 refuse-as-requires : tie.Need-refuse-as-requires
-refuse-as-requires c κs = search needs
+refuse-as-requires c κs = c .before .before .before .before .before .before .before .before .before .pre
+
+-- the number that was answered
+answered : (k : tie.After-refuse-as)
+    → let a = start k .args in
+    k .refuse-as .result
+    ≡ refusalAs (a .same) (a .n) (a .m) (a .cones .now) (a .count) (a .words .now) (solution (a .x .now) (a .s .now) (a .z .now) (a .tau) (a .kappa))
+    (length (a .x-out .now) ∷ length (a .s-out .now) ∷ length (a .z-out .now) ∷ length (a .scalars-out .now) ∷ [])
+answered k =
+    let a = start k .args in
+    k .refuse-as .ensures
+    ∙ by-lengths (a .same) (a .n) (a .m) (a .cones .now) (a .count) (a .words .now) (solution (a .x .now) (a .s .now) (a .z .now) (a .tau) (a .kappa))
+    (length (a .x-out .now) ∷ length (a .s-out .now) ∷ length (a .z-out .now) ∷ length (a .scalars-out .now) ∷ [])
 
 returns : tie.Need-returns
 returns c =
     let k = c .before in
     let keeps : (old new : List Float) → old ≡ output (k .refuse-as .result) new old = λ old new. output-kept (k .refuse-as .result) new old (c .if1 .taken) in
-    (k .refuse-as .ensures, keeps _ _, keeps _ _, keeps _ _, keeps _ _)
+    (answered k, keeps _ _, keeps _ _, keeps _ _, keeps _ _)
 
 -- nothing was refused
 none : (c : tie.Else1)
     → let a = start (c .before) .args in
     refusalAs (a .same) (a .n) (a .m) (a .cones .now) (a .count) (a .words .now) (solution (a .x .now) (a .s .now) (a .z .now) (a .tau) (a .kappa))
     (length (a .x-out .now) ∷ length (a .s-out .now) ∷ length (a .z-out .now) ∷ length (a .scalars-out .now) ∷ []) ≡ 0
-none c = sym (c .before .refuse-as .ensures) ∙ c .if1 .left
+none c = sym (answered (c .before)) ∙ c .if1 .left
 
 accepted : (c : tie.Else1)
     → let a = start (c .before) .args in
@@ -50,7 +61,7 @@ decomp-reverse-requires c κs =
     (g .joinable, (g .columns, g .room-x, g .room-s, g .room-z))
 
 joined-requires : tie.Need-joined-requires
-joined-requires c κs = search needs
+joined-requires c κs = tt
 
 write-scalars-requires : tie.Need-write-scalars-requires
 write-scalars-requires c κs =
@@ -58,16 +69,16 @@ write-scalars-requires c κs =
     accepted (d .before .before .before .before) .room-scalars
 
 same-length : tie.Need-same-length
-same-length c = search needs
+same-length c = c .before .before .before .before .before .before .before .before .before .before .before .decomp-reverse .kept .1 .1 .1 .1 .1 .1 .1 .1 .1 .0
 
 same-length-2 : tie.Need-same-length-2
-same-length-2 c = search needs
+same-length-2 c = c .before .before .before .before .before .before .before .before .before .before .before .decomp-reverse .kept .1 .1 .1 .1 .1 .1 .1 .1 .1 .1 .0
 
 same-length-3 : tie.Need-same-length-3
-same-length-3 c = search needs
+same-length-3 c = c .before .before .before .before .before .before .before .before .before .before .before .decomp-reverse .kept .1 .1 .1 .1 .1 .1 .1 .1 .1 .1 .1 .0
 
 same-length-4 : tie.Need-same-length-4
-same-length-4 c = search needs
+same-length-4 c = c .before .before .write-scalars .kept .1 .0
 
 returns-2 : tie.Need-returns-2
 returns-2 c =

@@ -6,13 +6,12 @@ use mathlib.Core.Bool.{Bool}
 use Prim.Native.Nat.{ℕ, _<_, _^_}
 use mathlib.Core.List.{List, [], _∷_, _++_, map}
 use lib.ListN.{take, drop, getD}
-use lib.Dec.{lit<}
 use mir.Syntax.{named, w32}
 use mir.Val.{vint}
 use base.Logic.{ent, id⊢}
 use base.Fml.{Fml, ftrue}
 use types.Kit.{Item, ‵, ⋆, _$_, _∵_, !, qed, by, move, drop as drop-item, done}
-use types.Run.{look, lit, and-then, returns}
+use types.Run.{look, returns}
 use denote.Ref.{RefT}
 use denote.Signature.{plain}
 use denote.Builtin.{u32, f64}
@@ -37,9 +36,9 @@ use Rattle.cone_map.specs.Entries.{meant, sameMap}
 use Rattle.cone_map.proofs.ConeMapEntry as E
 use Rattle.decomp_reverse.proofs.Order.{checks-passed}
 use Rattle.decomp_reverse_entries.proofs.Order.{as-entries}
-use Rattle.decomp_reverse.proofs.check_join as check-of
-use Rattle.decomp_reverse.proofs.check_join.Symbol as check-def
-use Rattle.decomp_reverse.proofs.check_join.Met as check-thm
+use Rattle.decomp_reverse_entries.proofs.check_join as check-of
+use Rattle.decomp_reverse_entries.proofs.check_join.Symbol as check-def
+use Rattle.decomp_reverse_entries.proofs.check_join.Met as check-thm
 use Rattle.cone_maps.proofs.same_map as same-of
 use Rattle.cone_maps.proofs.same_map.Symbol as same-def
 use Rattle.cone_maps.proofs.same_map.Met as same-thm
@@ -108,7 +107,7 @@ module _ (h : Here this) where
   problem-args = plain-arg u32s m (known-of h 1) ∷ lent-arg (named 0) (lft 10 (h .κs) 0) u32 (arg h 2) ∷ plain-arg u32s count (known-of h 3) ∷ lent-arg (named 1) (lft 10 (h .κs) 1) u32 (arg h 4) ∷ []
 
   abbrev check-args : List Arg
-  check-args = plain-arg u32s 1 (refl, lit< tt) ∷ plain-arg u32s n (known-of h 0) ∷ problem-args
+  check-args = plain-arg u32s n (known-of h 0) ∷ problem-args
 
   -- ---- the call of `same_map`, with what the checks answered
 
@@ -160,7 +159,7 @@ module _ (h : Here this) where
   joins-all bs = taken-apart h _ ! $
       -- [n; m; cones; count; words; x; s; z; tau; kappa; map; the outputs; the tokens; _0; …]: local i at 25 + 2 * i
       move ! (15 ∷ 16 ∷ 2 ∷ 4 ∷ []) $
-      calls-lent (h .w) check-join (to-call h (span 0 2) (denoted check-args) (vals check-args), tt) (toks h (span 0 2)) check-args _ ! (h .cited .0) refl (id⊢ 𝓤 _) u32s (λ r. r ≡ checked) refl (and-then ! (lit ! tt) (loads ! 24 tt refl)) (λ r e is.
+      calls-lent (h .w) check-join (to-call h (span 0 2) (denoted check-args) (vals check-args), tt) (toks h (span 0 2)) check-args _ ! (h .cited .0) refl (id⊢ 𝓤 _) u32s (λ r. r ≡ checked) refl (loads ! 24 tt refl) (λ r e is.
       lands-in ! u32s r is 57 refl refl $
       -- [the tokens; cones; words; n; m; count; x; s; z; tau; kappa; map; the outputs; the other tokens; _0; …]
       move ! (0 ∷ 1 ∷ 20 ∷ 2 ∷ 3 ∷ 12 ∷ []) $
@@ -177,4 +176,4 @@ module _ (h : Here this) where
 
 pub join-compact-entries-spec : {M : Type 1} → stated.statement M
 unfolding code.routine
-join-compact-entries-spec 𝓤 H 𝓜 𝓖 𝓡 = stands this key.name code.env (code.calls-decomp-reverse·check-join, (code.calls-cone-maps·same-map, (code.calls-decomp-reverse-entries·join-as, tt))) (λ h. walks h refl (λ bs t. t) (joins-all h)) 𝓤 H 𝓜 𝓖 𝓡 (code.unfolded 𝓤 H 𝓜 𝓡)
+join-compact-entries-spec 𝓤 H 𝓜 𝓖 𝓡 = stands this key.name code.env (code.calls-decomp-reverse-entries·check-join, (code.calls-cone-maps·same-map, (code.calls-decomp-reverse-entries·join-as, tt))) (λ h. walks h refl (λ bs t. t) (joins-all h)) 𝓤 H 𝓜 𝓖 𝓡 (code.unfolded 𝓤 H 𝓜 𝓡)

@@ -4,7 +4,7 @@ use mathlib.Core.List.{List}
 use lib.ListN.{length, replicate, length-replicate}
 use Rattle.blocks.specs.Cliques.{verticesHere}
 use Rattle.blocks.proofs.Cliques.{vertices-rise, vertices-few, vertices-below}
-use Rattle.overlaps.specs.Places.{Places}
+use Rattle.parent_rows.specs.Places.{Places}
 use native.Mathlib.Omega.{arith}
 use borrow.Author.Needs.{needs}
 use Rattle.overlaps.proofs.clique_places.Statement.{statement}

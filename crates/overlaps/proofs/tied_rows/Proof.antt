@@ -7,8 +7,8 @@ use Rattle.layout.specs.Triangle.{triangle}
 use Rattle.layout.specs.Blocks.{pairs}
 use Rattle.blocks.specs.Cliques.{verticesHere}
 use Rattle.blocks.proofs.Cliques.{vertices-rise, vertices-few, vertices-below, vertices-fit}
-use Rattle.overlaps.specs.Places.{placeCode}
-use Rattle.overlaps.proofs.Places.{places-climb}
+use Rattle.parent_rows.specs.Places.{placeCode}
+use Rattle.parent_rows.proofs.Places.{places-climb}
 use Rattle.overlaps.proofs.Codes.{length-tied, tied-places}
 use native.Mathlib.Omega.{arith}
 use borrow.Author.Needs.{needs}

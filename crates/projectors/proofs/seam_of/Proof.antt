@@ -4,16 +4,28 @@ use Rattle.projectors.proofs.seam_of.Statement.{statement}
 use Rattle.projectors.proofs.seam_of.Tie as tie
 
 abbrev Inv-loop : tie.InvT-loop
-Inv-loop originals row₀ row = row ≤ 6
+Inv-loop sums row₀ row = row ≤ 6
 
 abbrev μ-loop : tie.MeasureT-loop
-μ-loop originals row₀ row = 6 - row
+μ-loop sums row₀ row = 6 - row
 
 loop-holds : tie.Need-loop-holds Inv-loop μ-loop
 loop-holds c = search needs
 
-seam-at-requires : tie.Need-seam-at-requires Inv-loop μ-loop
-seam-at-requires c κs = search needs
+cast-whole : tie.Need-cast-whole Inv-loop μ-loop
+cast-whole c = search needs
+
+mul-whole : tie.Need-mul-whole Inv-loop μ-loop
+mul-whole c = search needs
+
+array-read-whole : tie.Need-array-read-whole Inv-loop μ-loop
+array-read-whole c = search needs
+
+whole-requires : tie.Need-whole-requires Inv-loop μ-loop
+whole-requires c κs = search needs
+
+sub-others : tie.Need-sub-others Inv-loop μ-loop
+sub-others c = search needs
 
 returns : tie.Need-returns Inv-loop μ-loop
 returns c = search needs
@@ -27,9 +39,6 @@ loop-less c = search needs
 loop-again : tie.Need-loop-again Inv-loop μ-loop
 loop-again c = search needs
 
-seam-at-requires-2 : tie.Need-seam-at-requires-2 Inv-loop μ-loop
-seam-at-requires-2 c κs = search needs
-
 returns-2 : tie.Need-returns-2 Inv-loop μ-loop
 returns-2 c = search needs
 
@@ -40,10 +49,13 @@ seam-of-spec =
     Inv-loop
     μ-loop
     loop-holds
-    seam-at-requires
+    cast-whole
+    mul-whole
+    array-read-whole
+    whole-requires
+    sub-others
     returns
     add-row
     loop-less
     loop-again
-    seam-at-requires-2
     returns-2)

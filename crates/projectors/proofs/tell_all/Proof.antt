@@ -1,5 +1,5 @@
-use lib.ListN.{length}
 use Prim.Native.Nat.{_-_, _≤_}
+use lib.ListN.{length}
 use borrow.Author.Needs.{needs}
 use Rattle.projectors.proofs.tell_all.Statement.{statement}
 use Rattle.projectors.proofs.tell_all.Tie as tie
@@ -13,11 +13,11 @@ abbrev μ-loop : tie.MeasureT-loop
 loop-holds : tie.Need-loop-holds Inv-loop μ-loop
 loop-holds c = search needs
 
-item-requires : tie.Need-item-requires Inv-loop μ-loop
-item-requires c κs = search needs
+mul-tell : tie.Need-mul-tell Inv-loop μ-loop
+mul-tell c = search needs
 
-cast-tell : tie.Need-cast-tell Inv-loop μ-loop
-cast-tell c = search needs
+shared-slice-read-tell : tie.Need-shared-slice-read-tell Inv-loop μ-loop
+shared-slice-read-tell c = search needs
 
 tell-requires : tie.Need-tell-requires Inv-loop μ-loop
 tell-requires c κs = search needs
@@ -41,8 +41,8 @@ tell-all-spec =
     Inv-loop
     μ-loop
     loop-holds
-    item-requires
-    cast-tell
+    mul-tell
+    shared-slice-read-tell
     tell-requires
     add-i
     loop-less

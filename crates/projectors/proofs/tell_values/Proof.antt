@@ -1,5 +1,5 @@
-use lib.ListN.{length}
 use Prim.Native.Nat.{_-_, _≤_}
+use lib.ListN.{length}
 use borrow.Author.Needs.{needs}
 use Rattle.projectors.proofs.tell_values.Statement.{statement}
 use Rattle.projectors.proofs.tell_values.Tie as tie

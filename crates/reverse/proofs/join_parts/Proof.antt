@@ -1,44 +1,82 @@
-use Prim.Native.Nat.{ℕ, _+_, _-_, _≤_}
+use Prim.Native.Nat.{ℕ, suc, _+_, _≤_}
+use native.Mathlib.Nat.{le-trans, le-of-eq}
 use mathlib.Core.Path.{_≡_, refl, ap, sym, subst, _∙_}
 use mathlib.Core.Bool.{Bool, true, false}
 use mathlib.Core.List.{List, [], _∷_, map}
-use lib.ListN.{length, getD, take, drop, length-drop, length-replicate}
-use lib.Seq.{length-take-le}
+use lib.ListN.{length, getD, drop, length-replicate}
 use lib.Dec.{T}
 use lib.Ieee.{Float}
-use Rattle.layout.specs.Lists.{sum, part}
+use Rattle.layout.specs.Lists.{sum, written}
 use Rattle.layout.specs.Triangle.{triangle}
-use Rattle.layout.specs.Cones.{records}
+use Rattle.layout.specs.Cones.{Cone, records}
 use Rattle.layout.specs.Patterns.{Pattern}
-use Rattle.layout.specs.Blocks.{Part, whole, cut, partRows, blockRows, blockRowCount, coneRows}
+use Rattle.layout.specs.Blocks.{Part, whole, cut, blockRows, blockRowCount, coneRows}
 use Rattle.layout.specs.Checks.{noCone, namesItsCone}
 use Rattle.layout.specs.Answers.{joinedParts}
 use Rattle.layout.proofs.Laid.{sound-total}
 use Rattle.supernode_tree.specs.Reads.{patternAt}
 use Rattle.parts.specs.Ahead.{patternsAhead, ahead, Stands, meets, Knows}
 use Rattle.parts.specs.declared.Met.the-variants.{Whole, Cut}
-use Rattle.reverse_cones.specs.Parts.{wholeValues, sPart, zPart, valuesFrom, writtenAt, CountsRows}
-use Rattle.reverse_cones.proofs.Laws.{length-whole}
+use Rattle.reverse_blocks.proofs.Laws.{by-same}
+use Rattle.reverse_blocks.proofs.Room.{Room, same-le, le-same, fits-count}
+use Rattle.reverse_cones.specs.Parts.{sPart, zPart, valuesFrom, CountsRows}
+use Rattle.reverse.specs.Joined.{firstOf}
 use Rattle.reverse.specs.Counts.{CountsCones}
 use Rattle.reverse.proofs.Counts.{cut-passes}
 use Rattle.reverse.proofs.Parts.{length-s-cut, length-z-cut}
-use Rattle.reverse.proofs.Walk.{Joins, joins-none, joins-more, joins-done}
+use Rattle.reverse.proofs.Walk.{Joins, joins-none, joins-more, joins-whole, joins-done, values-last, same-count, joined-s, joined-z}
 use native.Mathlib.Omega.{arith}
-use borrow.Author.Needs.{needs}
 use Rattle.reverse.proofs.join_parts.Statement.{statement}
 use Rattle.reverse.proofs.join_parts.Tie as tie
 
 abbrev Inv-loop : tie.InvT-loop
-Inv-loop standard m cones count words s z s-out₀ z-out₀ counts₀ offsets₀ vertices₀ place₀ row₀ t₀ s-out z-out counts offsets vertices place row t =
+Inv-loop standard m cones count words first s z s-out₀ z-out₀ counts₀ offsets₀ vertices₀ place₀ row₀ t₀ s-out z-out counts offsets vertices place row t =
     let ps = joinedParts cones count words in
     let left = ahead cones words place in
-    Joins (sPart standard) m (valuesFrom (sPart standard) ps s) s s-out₀ left row t s-out
-    × Joins (zPart standard) m (valuesFrom (zPart standard) ps z) z z-out₀ left row t z-out
-    × (length counts ≡ length counts₀) × (row + sum (map coneRows left) ≡ m) × (t + blockRowCount left ≡ blockRowCount ps) × Stands m cones words place
-    × (length offsets ≡ 256) × (length vertices ≡ 256)
+    Joins (sPart standard) m (valuesFrom (sPart standard) ps (drop first s)) s s-out₀ left row t s-out
+    × Joins (zPart standard) m (valuesFrom (zPart standard) ps (drop first z)) z z-out₀ left row t z-out
+    × (length counts ≡ length counts₀) × (row + sum (map coneRows left) ≡ m) × (t + blockRowCount left ≡ length s) × (blockRowCount left ≤ 262144)
+    × Stands m cones words place × (length offsets ≡ 256) × (length vertices ≡ 256)
 
 abbrev μ-loop : tie.MeasureT-loop
-μ-loop standard m cones count words s z s-out₀ z-out₀ counts₀ offsets₀ vertices₀ place₀ row₀ t₀ s-out z-out counts offsets vertices place row t = length (ahead cones words place)
+μ-loop standard m cones count words first s z s-out₀ z-out₀ counts₀ offsets₀ vertices₀ place₀ row₀ t₀ s-out z-out counts offsets vertices place row t = length (ahead cones words place)
+
+-- ---- numbers: of what is left, n is the next part's
+
+sum-begins : (a b m : ℕ) → a ≡ b → b ≡ m → 0 + a ≡ m
+sum-begins a b m e h = omega arith
+
+values-begin : (t k a b l : ℕ) → t ≡ k → a ≡ b → l ≡ k + b → t + a ≡ l
+values-begin t k a b l e f h = omega arith
+
+sum-fits : (a n k rest left total : ℕ) → a + left ≡ total → left ≡ k + rest → n ≡ k → a + n ≤ total
+sum-fits a n k rest left total h e f = omega arith
+
+sum-next : (a n k rest left total : ℕ) → a + left ≡ total → left ≡ k + rest → n ≡ k → a + n + rest ≡ total
+sum-next a n k rest left total h e f = omega arith
+
+sum-done : (a left m : ℕ) → a + left ≡ m → left ≡ 0 → a ≡ m
+sum-done a left m h e = omega arith
+
+first-few : (k rest left b : ℕ) → left ≡ k + rest → left ≤ b → k ≤ b
+first-few k rest left b e h = omega arith
+
+rest-few : (k rest left b : ℕ) → left ≡ k + rest → left ≤ b → rest ≤ b
+rest-few k rest left b e h = omega arith
+
+part-le : (a n k : ℕ) → a + n ≤ k → n ≤ k
+part-le a n k h = omega arith
+
+shorter : (x : Part) (ps left : List Part) → left ≡ x ∷ ps → suc (length ps) ≤ length left
+shorter x ps left e = omega (arith, ap length e)
+
+-- the counts have room for the rows of a cone
+counts-rows : (standard : Bool) (m n : ℕ) (cones a b : List ℕ) (p : Pattern) → n ≡ triangle (p .vertexCount) → n ≤ m → p .vertexCount ≤ 256 → length b ≡ length a
+    → T (namesItsCone (records cones) p) → CountsCones standard m cones a → CountsRows standard n b
+counts-rows true m n cones a b p r h g e named room = omega (arith, r, room p named (omega (arith, r)) g)
+counts-rows false m n cones a b p r h g e named room = tt
+
+-- ---- a turn
 
 abbrev start : (l : tie.At-loop Inv-loop μ-loop) → tie.Start Inv-loop μ-loop
 start l = l .before .before .before .before .before .before .before .before .before
@@ -47,279 +85,292 @@ start l = l .before .before .before .before .before .before .before .before .bef
 abbrev left : (l : tie.At-loop Inv-loop μ-loop) → List Part
 left l = let a = start l .args in ahead (a .cones .now) (a .words .now) (l .loop .place)
 
--- a whole cone was met
-abbrev wholeOf : (c : tie.After-known-told Inv-loop μ-loop) → Part
-wholeOf c =
-    let l = c .before .before .before .before in
-    let q = l .loop .place in
-    whole (q .cone) (getD (records (start l .args .cones .now)) (q .cone) noCone) (q .row)
+abbrev rowsOf : List Part → ℕ
+rowsOf ps = sum (map coneRows ps)
 
-met-whole : (c : tie.After-known-told Inv-loop μ-loop)
-    → let l = c .before .before .before .before in
-    let a = start l .args in
-    let g = c .before .met .given in
-    (left l ≡ wholeOf c ∷ ahead (a .cones .now) (a .words .now) (g .0 .1 .0))
-    × Knows (a .m) (a .cones .now) (a .words .now) (l .loop .place) (Whole (g .0 .0) (g .0 .1 .0))
+-- ---- a whole cone was met
+
+abbrev loop-of : (c : tie.After-known-told Inv-loop μ-loop) → tie.At-loop Inv-loop μ-loop
+loop-of c = c .before .before .before .before
+
+abbrev coneOf : (c : tie.After-known-told Inv-loop μ-loop) → Cone
+coneOf c = let l = loop-of c in getD (records (start l .args .cones .now)) (l .loop .place .cone) noCone
+
+abbrev wholeOf : (c : tie.After-known-told Inv-loop μ-loop) → Part
+wholeOf c = let q = loop-of c .loop .place in whole (q .cone) (coneOf c) (q .row)
+
+abbrev after-whole : (c : tie.After-known-told Inv-loop μ-loop) → List Part
+after-whole c = let a = start (loop-of c) .args in ahead (a .cones .now) (a .words .now) (c .before .met .given .0 .1 .0)
+
+met-whole : (c : tie.After-known-told Inv-loop μ-loop) → left (loop-of c) ≡ wholeOf c ∷ after-whole c
 met-whole c =
-    let r = c .before .before .before in
-    let l = r .before in
+    let l = loop-of c in
     let a = start l .args in
-    let g = c .before .met .given in (
-      r .next .ensures .0 ∙ ap (meets (a .cones .now) (a .words .now) (l .loop .place)) (g .1),
-      subst (Knows (a .m) (a .cones .now) (a .words .now) (l .loop .place)) (g .1) (r .next .ensures .1),
-    )
+    by-same (meets (a .cones .now) (a .words .now) (l .loop .place)) {r = left l} (c .before .before .before .next .ensures .0) (c .before .met .given .1)
+
+knows-whole : (c : tie.After-known-told Inv-loop μ-loop)
+    → let l = loop-of c in
+    let a = start l .args in
+    let g = c .before .met .given .0 in
+    Knows (a .m) (a .cones .now) (a .words .now) (l .loop .place) (Whole (g .0) (g .1 .0))
+knows-whole c =
+    let l = loop-of c in
+    let a = start l .args in
+    subst (Knows (a .m) (a .cones .now) (a .words .now) (l .loop .place)) (c .before .met .given .1) (c .before .before .before .next .ensures .1)
 
 -- its rows and its values
-fits-whole : (c : tie.After-known-told Inv-loop μ-loop)
-    → let l = c .before .before .before .before in
-    let s = start l in
-    let n = c .before .met .given .0 .0 in
-    (l .loop .row + n ≤ s .args .m) × (l .loop .t + n ≤ length (s .args .s .now)) × (length (s .args .z .now) ≡ length (s .args .s .now))
-fits-whole c =
-    let l = c .before .before .before .before in
-    let s = start l in
-    let e = met-whole c .0 in
-    let n = met-whole c .1 .0 in (
-      omega (arith, l .loop .inv .3, ap (λ (ps : List Part). sum (map coneRows ps)) e, n),
-      omega (arith, l .loop .inv .4, ap blockRowCount e, n, s .pre .1 .0),
-      s .pre .1 .0 .1,
-    )
+rows-whole : (c : tie.After-known-told Inv-loop μ-loop) → loop-of c .loop .row + c .before .met .given .0 .0 ≤ start (loop-of c) .args .m
+rows-whole c =
+    let l = loop-of c in
+    sum-fits (l .loop .row) (c .before .met .given .0 .0) (coneRows (wholeOf c)) (rowsOf (after-whole c)) (rowsOf (left l)) (start l .args .m) (l .loop .inv .3) (ap rowsOf (met-whole c)) (knows-whole c .0)
 
--- a cut cone was met
+s-whole : (c : tie.After-known-told Inv-loop μ-loop) → loop-of c .loop .t + c .before .met .given .0 .0 ≤ length (start (loop-of c) .args .s .now)
+s-whole c =
+    let l = loop-of c in
+    sum-fits (l .loop .t) (c .before .met .given .0 .0) (coneRows (wholeOf c)) (blockRowCount (after-whole c)) (blockRowCount (left l)) (length (start l .args .s .now)) (l .loop .inv .4)
+    (ap blockRowCount (met-whole c)) (knows-whole c .0)
+
+z-same : (s : tie.Start Inv-loop μ-loop) → length (s .args .z .now) ≡ length (s .args .s .now)
+z-same s = same-count (s .args .standard) (s .pre .0 .0)
+
+z-whole : (c : tie.After-known-told Inv-loop μ-loop) → loop-of c .loop .t + c .before .met .given .0 .0 ≤ length (start (loop-of c) .args .z .now)
+z-whole c = le-same (s-whole c) (z-same (start (loop-of c)))
+
+-- ---- a cut cone was met
+
+abbrev loop-of2 : (c : tie.After-known-told2 Inv-loop μ-loop) → tie.At-loop Inv-loop μ-loop
+loop-of2 c = c .before .before .before .before
+
 abbrev patternOf : (c : tie.After-known-told2 Inv-loop μ-loop) → Pattern
-patternOf c = patternAt (start (c .before .before .before .before) .args .words .now) (c .before .met2 .given .0 .0)
+patternOf c = patternAt (start (loop-of2 c) .args .words .now) (c .before .met2 .given .0 .0)
 
 abbrev cutOf : (c : tie.After-known-told2 Inv-loop μ-loop) → Part
-cutOf c =
-    let q = c .before .before .before .before .loop .place in
-    cut (q .cone) (q .row) (q .pattern) (patternOf c)
+cutOf c = let q = loop-of2 c .loop .place in cut (q .cone) (q .row) (q .pattern) (patternOf c)
 
-met-cut : (c : tie.After-known-told2 Inv-loop μ-loop)
-    → let l = c .before .before .before .before in
-    let a = start l .args in
-    let g = c .before .met2 .given in
-    (left l ≡ cutOf c ∷ ahead (a .cones .now) (a .words .now) (g .0 .1 .0))
-    × Knows (a .m) (a .cones .now) (a .words .now) (l .loop .place) (Cut (g .0 .0) (g .0 .1 .0))
+abbrev after-cut : (c : tie.After-known-told2 Inv-loop μ-loop) → List Part
+after-cut c = let a = start (loop-of2 c) .args in ahead (a .cones .now) (a .words .now) (c .before .met2 .given .0 .1 .0)
+
+met-cut : (c : tie.After-known-told2 Inv-loop μ-loop) → left (loop-of2 c) ≡ cutOf c ∷ after-cut c
 met-cut c =
-    let r = c .before .before .before in
-    let l = r .before in
+    let l = loop-of2 c in
     let a = start l .args in
-    let g = c .before .met2 .given in (
-      r .next .ensures .0 ∙ ap (meets (a .cones .now) (a .words .now) (l .loop .place)) (g .1),
-      subst (Knows (a .m) (a .cones .now) (a .words .now) (l .loop .place)) (g .1) (r .next .ensures .1),
-    )
+    by-same (meets (a .cones .now) (a .words .now) (l .loop .place)) {r = left l} (c .before .before .before .next .ensures .0) (c .before .met2 .given .1)
 
-fits-cut : (c : tie.After-known-told2 Inv-loop μ-loop)
-    → let l = c .before .before .before .before in
-    let s = start l in
-    let p = patternOf c in
-    (l .loop .row + triangle (p .vertexCount) ≤ s .args .m) × (l .loop .t + blockRows p ≤ length (s .args .s .now)) × (blockRows p ≤ 262144)
-fits-cut c =
-    let l = c .before .before .before .before in
-    let s = start l in
-    let e = met-cut c .0 in (
-      omega (arith, l .loop .inv .3, ap (λ (ps : List Part). sum (map coneRows ps)) e),
-      omega (arith, l .loop .inv .4, ap blockRowCount e, s .pre .1 .0),
-      omega (arith, l .loop .inv .4, ap blockRowCount e, s .pre .0 .1),
-    )
+knows-cut : (c : tie.After-known-told2 Inv-loop μ-loop)
+    → let l = loop-of2 c in
+    let a = start l .args in
+    let g = c .before .met2 .given .0 in
+    Knows (a .m) (a .cones .now) (a .words .now) (l .loop .place) (Cut (g .0) (g .1 .0))
+knows-cut c =
+    let l = loop-of2 c in
+    let a = start l .args in
+    subst (Knows (a .m) (a .cones .now) (a .words .now) (l .loop .place)) (c .before .met2 .given .1) (c .before .before .before .next .ensures .1)
 
 -- its pattern is one that names its cone
-named-cut : (c : tie.After-known-told2 Inv-loop μ-loop) → T (namesItsCone (records (start (c .before .before .before .before) .args .cones .now)) (patternOf c))
+named-cut : (c : tie.After-known-told2 Inv-loop μ-loop) → T (namesItsCone (records (start (loop-of2 c) .args .cones .now)) (patternOf c))
 named-cut c =
-    let l = c .before .before .before .before in
+    let l = loop-of2 c in
     let a = start l .args in
     let q = l .loop .place in
     cut-passes (namesItsCone (records (a .cones .now))) (q .cone) (q .row) (q .pattern) (drop (q .cone) (records (a .cones .now))) (patternsAhead (a .words .now) q)
-    (q .cone) (q .row) (q .pattern) (patternOf c) (ahead (a .cones .now) (a .words .now) (c .before .met2 .given .0 .1 .0)) (met-cut c .0) (l .loop .inv .5 .named)
+    (q .cone) (q .row) (q .pattern) (patternOf c) (after-cut c) (met-cut c) (l .loop .inv .6 .named)
 
--- the counts have room for its rows
-counts-rows : (standard : Bool) (m n : ℕ) (cones a b : List ℕ) (p : Pattern) → n ≡ triangle (p .vertexCount) → n ≤ m → p .vertexCount ≤ 256 → length b ≡ length a
-    → T (namesItsCone (records cones) p) → CountsCones standard m cones a → CountsRows standard n b
-counts-rows true m n cones a b p r h g e named room = omega (arith, r, room p named (omega (arith, r)) g)
-counts-rows false m n cones a b p r h g e named room = tt
+few-cut : (c : tie.After-known-told2 Inv-loop μ-loop) → blockRows (patternOf c) ≤ 262144
+few-cut c = let l = loop-of2 c in first-few (blockRows (patternOf c)) (blockRowCount (after-cut c)) (blockRowCount (left l)) 262144 (ap blockRowCount (met-cut c)) (l .loop .inv .5)
+
+-- its rows and its values
+abbrev met-of : (r : tie.After-cone-rows Inv-loop μ-loop) → tie.After-known-told2 Inv-loop μ-loop
+met-of r = r .before
+
+rows-cut : (r : tie.After-cone-rows Inv-loop μ-loop) → loop-of2 (met-of r) .loop .row + r .cone-rows .result ≤ start (loop-of2 (met-of r)) .args .m
+rows-cut r =
+    let c = met-of r in
+    let l = loop-of2 c in
+    sum-fits (l .loop .row) (r .cone-rows .result) (triangle (patternOf c .vertexCount)) (rowsOf (after-cut c)) (rowsOf (left l)) (start l .args .m) (l .loop .inv .3) (ap rowsOf (met-cut c))
+    (r .cone-rows .ensures)
+
+s-cut : (c : tie.After-known-told2 Inv-loop μ-loop) (n : ℕ) → n ≡ blockRows (patternOf c) → loop-of2 c .loop .t + n ≤ length (start (loop-of2 c) .args .s .now)
+s-cut c n e =
+    let l = loop-of2 c in
+    sum-fits (l .loop .t) n (blockRows (patternOf c)) (blockRowCount (after-cut c)) (blockRowCount (left l)) (length (start l .args .s .now)) (l .loop .inv .4) (ap blockRowCount (met-cut c)) e
+
+-- ---- the needs
 
 start-requires : tie.Need-start-requires Inv-loop μ-loop
-start-requires c κs = c .before .before .before .before .before .before .before .pre .0 .0
+start-requires c κs = c .before .before .before .before .before .before .before .pre .0 .0 .sound
 
 loop-holds : tie.Need-loop-holds Inv-loop μ-loop
 loop-holds c =
     let s = c .before .before .before .before .before .before .before .before in
     let a = s .args in
     let ps = joinedParts (a .cones .now) (a .count) (a .words .now) in
+    let qs = ahead (a .cones .now) (a .words .now) (c .start .result) in
     let e = c .start .ensures .0 in (
-      subst (λ (qs : List Part). Joins (sPart (a .standard)) (a .m) (valuesFrom (sPart (a .standard)) ps (a .s .now)) (a .s .now) (a .s-out .now) qs 0 0 (a .s-out .now)) (sym e)
-          (joins-none (sPart (a .standard)) (a .m) (a .s .now) (a .s-out .now) (s .pre .1 .1 .0) ps),
-      subst (λ (qs : List Part). Joins (zPart (a .standard)) (a .m) (valuesFrom (zPart (a .standard)) ps (a .z .now)) (a .z .now) (a .z-out .now) qs 0 0 (a .z-out .now)) (sym e)
-          (joins-none (zPart (a .standard)) (a .m) (a .z .now) (a .z-out .now) (s .pre .1 .1 .1) ps),
+      joins-none (sPart (a .standard)) (a .m) (a .s .now) (a .s-out .now) (s .pre .1 .0) ps qs (a .first) e,
+      joins-none (zPart (a .standard)) (a .m) (a .z .now) (a .z-out .now) (s .pre .1 .1) ps qs (a .first) e,
       refl,
-      omega (arith, ap (λ (qs : List Part). sum (map coneRows qs)) e, sound-total (s .pre .0 .0)),
-      omega (arith, ap blockRowCount e),
+      sum-begins (rowsOf qs) (rowsOf ps) (a .m) (ap rowsOf e) (sound-total (s .pre .0 .0 .sound)),
+      values-begin (a .first) (firstOf (a .standard) (a .m)) (blockRowCount qs) (blockRowCount ps) (length (a .s .now)) (s .pre .0 .1) (ap blockRowCount e) (values-last (a .standard) (s .pre .0 .0)),
+      same-le (ap blockRowCount e) (s .pre .0 .0 .few),
       c .start .ensures .1,
       length-replicate {A = ℕ} 256 0,
       length-replicate {A = ℕ} 256 0,
     )
 
 next-requires : tie.Need-next-requires Inv-loop μ-loop
-next-requires c κs = c .loop .inv .5
+next-requires c κs = c .loop .inv .6
 
 enum-known-met : tie.Need-enum-known-met Inv-loop μ-loop
-enum-known-met c = search needs
+enum-known-met c = c .match .keys1
 
 cast-n : tie.Need-cast-n Inv-loop μ-loop
-cast-n c = search needs
+cast-n c =
+    let s = start (loop-of c) in
+    fits-count 8 (part-le (loop-of c .loop .t) (c .before .met .given .0 .0) (length (s .args .s .now)) (s-whole c)) (s .good .1 .1 .1 .1 .1 .1 .0)
 
 join-whole-requires : tie.Need-join-whole-requires Inv-loop μ-loop
 join-whole-requires c κs =
     let k = c .before in
-    let l = k .before .before .before .before in
-    let f = fits-whole k in
-    (f .1, omega (arith, f .0, l .loop .inv .0 .size, start l .pre .1 .1))
+    let l = loop-of k in
+    (s-whole k, le-same (le-trans (rows-whole k) (start l .pre .1 .0)) (l .loop .inv .0 .size))
 
 join-whole-requires-2 : tie.Need-join-whole-requires-2 Inv-loop μ-loop
 join-whole-requires-2 c κs =
     let k = c .before .before .before .before .before in
-    let l = k .before .before .before .before in
-    let f = fits-whole k in
-    (omega (arith, f .1, f .2), omega (arith, f .0, l .loop .inv .1 .size, start l .pre .1 .1))
+    let l = loop-of k in
+    (z-whole k, le-same (le-trans (rows-whole k) (start l .pre .1 .1)) (l .loop .inv .1 .size))
+
+abbrev joined-whole : tie.After-slice-known5 Inv-loop μ-loop → tie.After-known-told Inv-loop μ-loop
+joined-whole c = c .before .before .before .before .before .before .before .before
 
 add-row : tie.Need-add-row Inv-loop μ-loop
 add-row c =
-    let k = c .before .before .before .before .before .before .before .before in
-    omega (arith, fits-whole k .0, start (k .before .before .before .before) .pre .0 .0 .few)
+    let k = joined-whole c in
+    let s = start (loop-of k) in
+    fits-count 8 (le-trans (rows-whole k) (s .pre .1 .0)) (s .good .1 .1 .1 .1 .1 .1 .1 .1 .0)
 
 add-t : tie.Need-add-t Inv-loop μ-loop
-add-t c =
-    let k = c .before .before .before .before .before .before .before .before in
-    let s = start (k .before .before .before .before) in
-    omega (arith, fits-whole k .1, s .pre .0 .1, s .pre .1 .0)
+add-t c = let k = joined-whole c in fits-count 8 (s-whole k) (start (loop-of k) .good .1 .1 .1 .1 .1 .1 .0)
 
 loop-less : tie.Need-loop-less Inv-loop μ-loop
-loop-less c =
-    let k = c .before .before .before .before .before .before .before .before in
-    omega (arith, ap length (met-whole k .0))
+loop-less c = let k = joined-whole c in shorter (wholeOf k) (after-whole k) (left (loop-of k)) (met-whole k)
 
 loop-again : tie.Need-loop-again Inv-loop μ-loop
 loop-again c =
     let w = c .before .before in
     let v = w .before .before .before .before in
     let k = v .before .before in
-    let l = k .before .before .before .before in
+    let l = loop-of k in
     let s = start l in
     let a = s .args in
-    let x = wholeOf k in
-    let e = met-whole k .0 in
+    let q = l .loop .place in
+    let e = met-whole k in
     let n = k .before .met .given .0 .0 in
-    let h = met-whole k .1 in
-    let f = fits-whole k in
-    let ps = joinedParts (a .cones .now) (a .count) (a .words .now) in
-    let q : List Part = ahead (a .cones .now) (a .words .now) (k .before .met .given .0 .1 .0) in
+    let h = knows-whole k in
+    let row = l .loop .row in
     let t = l .loop .t in
-    let taken : t + n - t ≡ partRows x = omega (arith, h .0) in
-    let values : (vs : List Float) → wholeValues (a .standard) (part t (t + n) vs) ≡ sPart (a .standard) x (drop t vs) =
-    λ vs. ap (λ (m : ℕ). wholeValues (a .standard) (take m (drop t vs))) taken in
-    let wide : (vs : List Float) → t + n ≤ length vs → length (sPart (a .standard) x (drop t vs)) ≡ n =
-    λ vs r. length-whole (a .standard) (take (partRows x) (drop t vs)) ∙ length-take-le (partRows x) (drop t vs) (omega (arith, h .0, length-drop t vs)) ∙ sym (h .0) in (
-      joins-more (sPart (a .standard)) (a .m) (a .s .now) (a .s-out .now) (s .pre .1 .1 .0) (valuesFrom (sPart (a .standard)) ps (a .s .now)) x q (left l) (l .loop .row) t n n
-          (l .loop .s-out) (v .join-whole .last .1 .1 .1 .1 .1 .0) (l .loop .inv .0) e (f .0) (h .0) (wide (a .s .now) (f .1))
-          (v .join-whole .ensures ∙ ap (λ (xs : List Float). writtenAt (l .loop .row) xs (l .loop .s-out)) (values (a .s .now))),
-      joins-more (zPart (a .standard)) (a .m) (a .z .now) (a .z-out .now) (s .pre .1 .1 .1) (valuesFrom (zPart (a .standard)) ps (a .z .now)) x q (left l) (l .loop .row) t n n
-          (l .loop .z-out) (w .join-whole2 .last .1 .1 .1 .1 .1 .0) (l .loop .inv .1) e (f .0) (h .0) (wide (a .z .now) (omega (arith, f .1, f .2)))
-          (w .join-whole2 .ensures ∙ ap (λ (xs : List Float). writtenAt (l .loop .row) xs (l .loop .z-out)) (values (a .z .now))),
+    let ps = joinedParts (a .cones .now) (a .count) (a .words .now) in (
+      joins-whole (sPart (a .standard)) (a .m) (a .s .now) (a .s-out .now) (s .pre .1 .0) (valuesFrom (sPart (a .standard)) ps (drop (a .first) (a .s .now))) (a .standard) (q .cone) (coneOf k) (q .row)
+          (after-whole k) (left l) row t n (l .loop .s-out) (v .join-whole .last .1 .1 .1 .1 .1 .0) (λ vs. refl) (l .loop .inv .0) e (rows-whole k) (h .0) (s-whole k) (v .join-whole .ensures),
+      joins-whole (zPart (a .standard)) (a .m) (a .z .now) (a .z-out .now) (s .pre .1 .1) (valuesFrom (zPart (a .standard)) ps (drop (a .first) (a .z .now))) (a .standard) (q .cone) (coneOf k) (q .row)
+          (after-whole k) (left l) row t n (l .loop .z-out) (w .join-whole2 .last .1 .1 .1 .1 .1 .0) (λ vs. refl) (l .loop .inv .1) e (rows-whole k) (h .0) (z-whole k) (w .join-whole2 .ensures),
       l .loop .inv .2,
-      omega (arith, l .loop .inv .3, ap (λ (qs : List Part). sum (map coneRows qs)) e, h .0),
-      omega (arith, l .loop .inv .4, ap blockRowCount e, h .0),
+      sum-next row n (coneRows (wholeOf k)) (rowsOf (after-whole k)) (rowsOf (left l)) (a .m) (l .loop .inv .3) (ap rowsOf e) (h .0),
+      sum-next t n (coneRows (wholeOf k)) (blockRowCount (after-whole k)) (blockRowCount (left l)) (length (a .s .now)) (l .loop .inv .4) (ap blockRowCount e) (h .0),
+      rest-few (coneRows (wholeOf k)) (blockRowCount (after-whole k)) (blockRowCount (left l)) 262144 (ap blockRowCount e) (l .loop .inv .5),
       h .5,
-      l .loop .inv .6,
       l .loop .inv .7,
+      l .loop .inv .8,
     )
 
 enum-known-met-2 : tie.Need-enum-known-met-2 Inv-loop μ-loop
-enum-known-met-2 c = search needs
+enum-known-met-2 c = c .match .keys2
 
 cone-rows-requires : tie.Need-cone-rows-requires Inv-loop μ-loop
-cone-rows-requires c κs =
-    let h = met-cut c .1 in
-    (h .1, h .2)
+cone-rows-requires c κs = let h = knows-cut c in (h .1, h .2)
 
 slice-aggregate-join-cut : tie.Need-slice-aggregate-join-cut Inv-loop μ-loop
-slice-aggregate-join-cut c = search needs
+slice-aggregate-join-cut c = sym (loop-of2 (c .before .before .before .before .before) .loop .inv .7)
 
 slice-aggregate-join-cut-2 : tie.Need-slice-aggregate-join-cut-2 Inv-loop μ-loop
-slice-aggregate-join-cut-2 c = search needs
+slice-aggregate-join-cut-2 c = sym (loop-of2 (c .before .before .before .before .before .before) .loop .inv .8)
 
 join-cut-requires : tie.Need-join-cut-requires Inv-loop μ-loop
 join-cut-requires c κs =
     let r = c .before .before .before .before .before in
-    let k = r .before in
-    let l = k .before .before .before .before in
+    let k = met-of r in
+    let l = loop-of2 k in
     let s = start l in
     let a = s .args in
-    let h = met-cut k .1 in
-    let f = fits-cut k in
-    let n = r .cone-rows .ensures in (
-      (h .1, h .2, n),
+    let h = knows-cut k in
+    let n = r .cone-rows .result in (
+      (h .1, h .2, r .cone-rows .ensures),
       (
-        (omega (arith, n, f .0, l .loop .inv .0 .size, s .pre .1 .1), omega (arith, n, f .0, l .loop .inv .1 .size, s .pre .1 .1)),
+        (le-same (le-trans (rows-cut r) (s .pre .1 .0)) (l .loop .inv .0 .size), le-same (le-trans (rows-cut r) (s .pre .1 .1)) (l .loop .inv .1 .size)),
         (
-          (f .2, f .1, s .pre .1 .0 .1),
-          (counts-rows (a .standard) (a .m) (r .cone-rows .result) (a .cones .now) (a .counts .now) (l .loop .counts) (patternOf k) n (omega (arith, n, f .0)) (h .2) (l .loop .inv .2) (named-cut k) (s .pre .1 .1 .2), (omega (arith, l .loop .inv .6), omega (arith, l .loop .inv .7))),
+          (few-cut k, s-cut k (blockRows (patternOf k)) refl, z-same s),
+          (
+            counts-rows (a .standard) (a .m) n (a .cones .now) (a .counts .now) (l .loop .counts) (patternOf k) (r .cone-rows .ensures) (part-le (l .loop .row) n (a .m) (rows-cut r)) (h .2) (l .loop .inv .2)
+                (named-cut k) (s .pre .1 .2),
+            (le-of-eq (sym (l .loop .inv .7)), le-of-eq (sym (l .loop .inv .8))),
+          ),
         ),
       ),
     )
 
+abbrev joined-cut : tie.After-vertices2 Inv-loop μ-loop → tie.After-join-cut Inv-loop μ-loop
+joined-cut c = c .before .before .before .before .before .before .before .before
+
+abbrev sized : tie.After-join-cut Inv-loop μ-loop → tie.After-cone-rows Inv-loop μ-loop
+sized j = j .before .before .before .before .before .before
+
 add-t-2 : tie.Need-add-t-2 Inv-loop μ-loop
 add-t-2 c =
-    let j = c .before .before .before .before .before .before .before .before in
-    let k = j .before .before .before .before .before .before .before in
-    let s = start (k .before .before .before .before) in
-    omega (arith, j .join-cut .ensures .0, fits-cut k .1, s .pre .0 .1, s .pre .1 .0)
+    let j = joined-cut c in
+    let k = met-of (sized j) in
+    fits-count 8 (s-cut k (j .join-cut .result) (j .join-cut .ensures .0)) (start (loop-of2 k) .good .1 .1 .1 .1 .1 .1 .0)
 
 add-row-2 : tie.Need-add-row-2 Inv-loop μ-loop
 add-row-2 c =
-    let j = c .before .before .before .before .before .before .before .before in
-    let k = j .before .before .before .before .before .before .before in
-    omega (arith, j .before .before .before .before .before .before .cone-rows .ensures, fits-cut k .0, start (k .before .before .before .before) .pre .0 .0 .few)
+    let r = sized (joined-cut c) in
+    let s = start (loop-of2 (met-of r)) in
+    fits-count 8 (le-trans (rows-cut r) (s .pre .1 .0)) (s .good .1 .1 .1 .1 .1 .1 .1 .1 .0)
 
 loop-less-2 : tie.Need-loop-less-2 Inv-loop μ-loop
-loop-less-2 c =
-    let k = c .before .before .before .before .before .before .before .before .before .before .before .before .before .before .before in
-    omega (arith, ap length (met-cut k .0))
+loop-less-2 c = let k = met-of (sized (joined-cut c)) in shorter (cutOf k) (after-cut k) (left (loop-of2 k)) (met-cut k)
 
 loop-again-2 : tie.Need-loop-again-2 Inv-loop μ-loop
 loop-again-2 c =
-    let j = c .before .before .before .before .before .before .before .before in
-    let r = j .before .before .before .before .before .before in
-    let k = r .before in
-    let l = k .before .before .before .before in
+    let j = joined-cut c in
+    let r = sized j in
+    let k = met-of r in
+    let l = loop-of2 k in
     let s = start l in
     let a = s .args in
-    let x = cutOf k in
     let p = patternOf k in
-    let e = met-cut k .0 in
-    let h = met-cut k .1 in
-    let f = fits-cut k in
+    let e = met-cut k in
     let n = r .cone-rows .ensures in
     let w = j .join-cut in
-    let ps = joinedParts (a .cones .now) (a .count) (a .words .now) in
-    let q : List Part = ahead (a .cones .now) (a .words .now) (k .before .met2 .given .0 .1 .0) in
+    let row = l .loop .row in
     let t = l .loop .t in
-    let fits : l .loop .row + r .cone-rows .result ≤ a .m = omega (arith, n, f .0) in (
-      joins-more (sPart (a .standard)) (a .m) (a .s .now) (a .s-out .now) (s .pre .1 .1 .0) (valuesFrom (sPart (a .standard)) ps (a .s .now)) x q (left l) (l .loop .row) t
-          (r .cone-rows .result) (w .result) (l .loop .s-out) (w .last .1 .1 .1 .1 .1 .1 .1 .1 .0) (l .loop .inv .0) e fits (w .ensures .0)
+    let ps = joinedParts (a .cones .now) (a .count) (a .words .now) in (
+      joins-more (sPart (a .standard)) (a .m) (a .s .now) (a .s-out .now) (s .pre .1 .0) (valuesFrom (sPart (a .standard)) ps (drop (a .first) (a .s .now))) (cutOf k) (after-cut k) (left l) row t
+          (r .cone-rows .result) (w .result) (l .loop .s-out) (w .last .1 .1 .1 .1 .1 .1 .1 .1 .0) (l .loop .inv .0) e (rows-cut r) (w .ensures .0)
           (length-s-cut (a .standard) p (drop t (a .s .now)) ∙ sym n) (w .ensures .1 .0),
-      joins-more (zPart (a .standard)) (a .m) (a .z .now) (a .z-out .now) (s .pre .1 .1 .1) (valuesFrom (zPart (a .standard)) ps (a .z .now)) x q (left l) (l .loop .row) t
-          (r .cone-rows .result) (w .result) (l .loop .z-out) (w .last .1 .1 .1 .1 .1 .1 .1 .1 .1 .0) (l .loop .inv .1) e fits (w .ensures .0)
+      joins-more (zPart (a .standard)) (a .m) (a .z .now) (a .z-out .now) (s .pre .1 .1) (valuesFrom (zPart (a .standard)) ps (drop (a .first) (a .z .now))) (cutOf k) (after-cut k) (left l) row t
+          (r .cone-rows .result) (w .result) (l .loop .z-out) (w .last .1 .1 .1 .1 .1 .1 .1 .1 .1 .0) (l .loop .inv .1) e (rows-cut r) (w .ensures .0)
           (length-z-cut (a .standard) p (drop t (a .z .now)) ∙ sym n) (w .ensures .1 .1),
-      w .kept .1 .1 .1 .1 .1 .1 .1 .1 .1 .1 .0 ∙ l .loop .inv .2,
-      omega (arith, l .loop .inv .3, ap (λ (qs : List Part). sum (map coneRows qs)) e, n),
-      omega (arith, l .loop .inv .4, ap blockRowCount e, w .ensures .0),
-      h .6,
-      w .kept .1 .1 .1 .1 .1 .1 .1 .1 .1 .1 .1 .0 ∙ l .loop .inv .6,
-      w .kept .1 .1 .1 .1 .1 .1 .1 .1 .1 .1 .1 .1 .0 ∙ l .loop .inv .7,
+      _∙_ {b = length (l .loop .counts)} (w .kept .1 .1 .1 .1 .1 .1 .1 .1 .1 .1 .0) (l .loop .inv .2),
+      sum-next row (r .cone-rows .result) (triangle (p .vertexCount)) (rowsOf (after-cut k)) (rowsOf (left l)) (a .m) (l .loop .inv .3) (ap rowsOf e) n,
+      sum-next t (w .result) (blockRows p) (blockRowCount (after-cut k)) (blockRowCount (left l)) (length (a .s .now)) (l .loop .inv .4) (ap blockRowCount e) (w .ensures .0),
+      rest-few (blockRows p) (blockRowCount (after-cut k)) (blockRowCount (left l)) 262144 (ap blockRowCount e) (l .loop .inv .5),
+      knows-cut k .6,
+      _∙_ {b = length (l .loop .offsets)} (w .kept .1 .1 .1 .1 .1 .1 .1 .1 .1 .1 .1 .0) (l .loop .inv .7),
+      _∙_ {b = length (l .loop .vertices)} (w .kept .1 .1 .1 .1 .1 .1 .1 .1 .1 .1 .1 .1 .0) (l .loop .inv .8),
     )
 
 enum-told : tie.Need-enum-told Inv-loop μ-loop
-enum-told c = search needs
+enum-told c = c .match .keys3
 
 same-length : tie.Need-same-length Inv-loop μ-loop
 same-length c = c .before .before .before .loop .inv .0 .size
@@ -337,12 +388,17 @@ returns c =
     let s = start l in
     let a = s .args in
     let ps = joinedParts (a .cones .now) (a .count) (a .words .now) in
-    let none : left l ≡ [] = r .next .ensures .0 ∙ ap (meets (a .cones .now) (a .words .now) (l .loop .place)) (c .enum-told .given .1) in
-    let all : l .loop .row ≡ a .m = omega (arith, l .loop .inv .3, ap (λ (qs : List Part). sum (map coneRows qs)) none) in (
-      joins-done (sPart (a .standard)) (a .m) (a .s .now) (a .s-out .now) (s .pre .1 .1 .0) (valuesFrom (sPart (a .standard)) ps (a .s .now)) (left l) (l .loop .row) (l .loop .t)
-          (l .loop .s-out) (l .loop .inv .0) none all,
-      joins-done (zPart (a .standard)) (a .m) (a .z .now) (a .z-out .now) (s .pre .1 .1 .1) (valuesFrom (zPart (a .standard)) ps (a .z .now)) (left l) (l .loop .row) (l .loop .t)
-          (l .loop .z-out) (l .loop .inv .1) none all,
+    let none : left l ≡ [] = by-same (meets (a .cones .now) (a .words .now) (l .loop .place)) {r = left l} (r .next .ensures .0) (c .enum-told .given .1) in
+    let all : l .loop .row ≡ a .m = sum-done (l .loop .row) (rowsOf (left l)) (a .m) (l .loop .inv .3) (ap rowsOf none) in
+    let j = s .pre .0 .0 in (
+      by-same (λ (xs : List Float). written xs (a .s-out .now))
+          (joins-done (sPart (a .standard)) (a .m) (a .s .now) (a .s-out .now) (s .pre .1 .0) (valuesFrom (sPart (a .standard)) ps (drop (a .first) (a .s .now))) (left l) (l .loop .row) (l .loop .t)
+          (l .loop .s-out) (l .loop .inv .0) none all)
+          (ap (λ (k : ℕ). valuesFrom (sPart (a .standard)) ps (drop k (a .s .now))) (s .pre .0 .1) ∙ joined-s (a .standard) j),
+      by-same (λ (xs : List Float). written xs (a .z-out .now))
+          (joins-done (zPart (a .standard)) (a .m) (a .z .now) (a .z-out .now) (s .pre .1 .1) (valuesFrom (zPart (a .standard)) ps (drop (a .first) (a .z .now))) (left l) (l .loop .row) (l .loop .t)
+          (l .loop .z-out) (l .loop .inv .1) none all)
+          (ap (λ (k : ℕ). valuesFrom (zPart (a .standard)) ps (drop k (a .z .now))) (s .pre .0 .1) ∙ joined-z (a .standard) j),
     )
 
 pub join-parts-spec : {M : Type 1} → statement M

@@ -1,16 +1,17 @@
-use Prim.Native.Nat.{ℕ, suc, _≤_, _-_, _+_}
+use Prim.Native.Nat.{ℕ, suc, zero-le, _≤_, _<_, _-_, _+_}
+use native.Mathlib.Nat.{le-refl, le-trans}
 use mathlib.Core.Path.{_≡_, refl, ap, sym, subst, _∙_}
 use mathlib.Core.List.{List, _++_}
-use lib.ListN.{length, take, drop, length-take, length-drop}
+use lib.ListN.{length, getD}
 use Rattle.layout.specs.Triangle.{triangle}
 use Rattle.layout.specs.Blocks.{pairRow}
 use Rattle.layout.specs.Reverse.{addAt, addColumns}
 use Rattle.layout.proofs.Triangles.{triangle-suc, triangle-mono}
 use Rattle.blocks.proofs.Columns.{columnsBelow, columns-more, length-more, length-column}
 use Rattle.reverse_blocks.specs.Joins.{zAt, joinZ, Counts, Countable, columnRows}
-use Rattle.reverse_blocks.proofs.Laws.{walk-more, counts-none, counts-more, countable-left}
+use Rattle.reverse_blocks.proofs.Laws.{walk-joined, counts-none, counts-joined, countable-left, by-same}
+use Rattle.reverse_blocks.proofs.Room.{same-le, both-kept, begins, next-le, left-less, count-ends, fits-count, fits-next, fits-value, rest-past}
 use native.Mathlib.Omega.{arith}
-use borrow.Author.Needs.{needs}
 use Rattle.reverse_blocks.proofs.join_block.Statement.{statement}
 use Rattle.reverse_blocks.proofs.join_block.Tie as tie
 
@@ -24,6 +25,28 @@ Inv-loop standard vertices s z s-out₀ z-out₀ counts₀ t₀ j₀ s-out z-out
 abbrev μ-loop : tie.MeasureT-loop
 μ-loop standard vertices s z s-out₀ z-out₀ counts₀ t₀ j₀ s-out z-out counts t j = length vertices - j
 
+-- ---- numbers
+
+column-fits : (t j n : ℕ) → t ≡ triangle j → j < n → t + (j + 1) ≤ triangle n
+column-fits t j n e h = omega (arith, triangle-suc j, triangle-mono (suc j) n h)
+
+column-next : (t j : ℕ) → t ≡ triangle j → t + (j + 1) ≡ triangle (j + 1)
+column-next t j e = omega (arith, triangle-suc j)
+
+sum-as : (t k a b : ℕ) → t ≡ a → b ≡ a + k → t + k ≡ b
+sum-as t k a b e h = omega arith
+
+left-of : (t k n m : ℕ) → t ≡ m → t + (k + 1) ≤ n → m + suc k ≤ n
+left-of t k n m e h = omega arith
+
+column-left : (t k l n : ℕ) → l ≡ k + 1 → t + (k + 1) ≤ n → l ≤ n - t
+column-left t k l n e h = omega arith
+
+column-in : (k n m : ℕ) → 0 + k ≤ n → m ≡ n → k ≤ m
+column-in k n m h e = omega arith
+
+-- ---- a turn
+
 abbrev start : (l : tie.At-loop Inv-loop μ-loop) → tie.Start Inv-loop μ-loop
 start l = l .before .before .before .before .before .before .before
 
@@ -34,43 +57,57 @@ done l = columnsBelow (pairRow 0) (start l .args .vertices .now) (l .loop .j)
 abbrev column : (l : tie.At-loop Inv-loop μ-loop) → List ℕ
 column l = columnRows (start l .args .vertices .now) (l .loop .j)
 
-size : (l : tie.At-loop Inv-loop μ-loop) → length (column l) ≡ l .loop .j + 1
-size l = length-column (pairRow 0) (start l .args .vertices .now) (l .loop .j)
-
 -- there are values for column j
 fits : (i : tie.In-loop Inv-loop μ-loop) → i .before .loop .t + (i .before .loop .j + 1) ≤ triangle (length (start (i .before) .args .vertices .now))
-fits i =
-    let l = i .before in
-    omega (arith, triangle-suc (l .loop .j), triangle-mono (suc (l .loop .j)) (length (start l .args .vertices .now)) (i .loop-test .taken))
+fits i = let l = i .before in column-fits (l .loop .t) (l .loop .j) (length (start l .args .vertices .now)) (l .loop .inv .1) (i .loop-test .taken)
+
+s-fits : (i : tie.In-loop Inv-loop μ-loop) → i .before .loop .t + (i .before .loop .j + 1) ≤ length (start (i .before) .args .s .now)
+s-fits i = le-trans (fits i) (start (i .before) .pre .1 .0 .0)
+
+z-fits : (i : tie.In-loop Inv-loop μ-loop) → i .before .loop .t + (i .before .loop .j + 1) ≤ length (start (i .before) .args .z .now)
+z-fits i = le-trans (fits i) (start (i .before) .pre .1 .0 .1)
+
+s-begins : (i : tie.In-loop Inv-loop μ-loop) → i .before .loop .t ≤ length (start (i .before) .args .s .now)
+s-begins i = let l = i .before in begins (l .loop .t) (l .loop .j + 1) (length (start l .args .s .now)) (s-fits i)
+
+z-begins : (i : tie.In-loop Inv-loop μ-loop) → i .before .loop .t ≤ length (start (i .before) .args .z .now)
+z-begins i = let l = i .before in begins (l .loop .t) (l .loop .j + 1) (length (start l .args .z .now)) (z-fits i)
+
+-- where column j was joined
+abbrev turn : tie.After-slice-known6 Inv-loop μ-loop → tie.After-join-column Inv-loop μ-loop
+turn c = c .before .before .before .before .before .before
+
+abbrev inside : tie.After-join-column Inv-loop μ-loop → tie.In-loop Inv-loop μ-loop
+inside k = k .before .before .before .before .before .before
 
 loop-holds : tie.Need-loop-holds Inv-loop μ-loop
 loop-holds c =
     let a = c .before .before .before .before .before .before .args in
-    (omega arith, refl, refl, refl, refl, refl, refl, refl, counts-none (a .standard) (a .counts .now))
+    (zero-le, refl, refl, refl, refl, refl, refl, refl, counts-none (a .standard) (a .counts .now))
 
 mul-join-column : tie.Need-mul-join-column Inv-loop μ-loop
-mul-join-column c = omega (arith, fits c)
+mul-join-column c = fits-value (s-begins c) (start (c .before) .good .1 .1 .0)
 
 sub-join-column : tie.Need-sub-join-column Inv-loop μ-loop
-sub-join-column c = omega (arith, fits c)
+sub-join-column c = s-begins c
 
 part-join-column-start : tie.Need-part-join-column-start Inv-loop μ-loop
-part-join-column-start c = omega (arith, fits c)
+part-join-column-start c = s-begins c
 
 part-join-column-end : tie.Need-part-join-column-end Inv-loop μ-loop
-part-join-column-end c = omega (arith, fits c)
+part-join-column-end c = le-refl (length (start (c .before) .args .s .now))
 
 mul-join-column-2 : tie.Need-mul-join-column-2 Inv-loop μ-loop
-mul-join-column-2 c = omega (arith, fits (c .before))
+mul-join-column-2 c = fits-value (z-begins (c .before)) (start (c .before .before) .good .1 .1 .1 .0)
 
 sub-join-column-2 : tie.Need-sub-join-column-2 Inv-loop μ-loop
-sub-join-column-2 c = omega (arith, fits (c .before))
+sub-join-column-2 c = z-begins (c .before)
 
 part-join-column-start-2 : tie.Need-part-join-column-start-2 Inv-loop μ-loop
-part-join-column-start-2 c = omega (arith, fits (c .before))
+part-join-column-start-2 c = z-begins (c .before)
 
 part-join-column-end-2 : tie.Need-part-join-column-end-2 Inv-loop μ-loop
-part-join-column-end-2 c = omega (arith, fits (c .before))
+part-join-column-end-2 c = le-refl (length (start (c .before .before) .args .z .now))
 
 join-column-requires : tie.Need-join-column-requires Inv-loop μ-loop
 join-column-requires c κs =
@@ -80,57 +117,57 @@ join-column-requires c κs =
     let a = s .args in
     let j = l .loop .j in
     let k = l .loop .inv .3 in (
-      (s .pre .0 .0, i .loop-test .taken, simp (length-take, length-drop) (omega (arith, fits i, s .pre .1 .0)), simp (length-take, length-drop) (omega (arith, fits i, s .pre .1 .0))),
       (
-        (omega (arith, s .pre .0 .1 j (i .loop-test .taken), k), omega (arith, s .pre .1 .1 .0, l .loop .inv .4, k), omega (arith, s .pre .1 .1 .0, k)),
+        s .pre .0 .0,
+        i .loop-test .taken,
+        rest-past (l .loop .t) j (a .s .now) (s-fits i),
+        rest-past (l .loop .t) j (a .z .now) (z-fits i),
+      ),
+      (
+        (column-in (triangle (suc (getD (a .vertices .now) j 0))) (length (a .s-out .now)) (length (l .loop .s-out)) (s .pre .0 .1 j (i .loop-test .taken)) k, both-kept (l .loop .inv .4) (s .pre .1 .1 .0 .0) k, same-le k (s .pre .1 .1 .0 .1)),
         subst (λ (n : ℕ). Countable (a .standard) n (suc j) (l .loop .counts)) (sym k)
             (countable-left (a .standard) (length (a .s-out .now)) (triangle (length (a .vertices .now))) (suc j) (done l) (a .counts .now) (l .loop .counts) (l .loop .inv .5)
-            (omega (arith, fits i, l .loop .inv .2)) (l .loop .inv .8) (s .pre .1 .1 .1)),
+            (left-of (l .loop .t) j (triangle (length (a .vertices .now))) (length (done l)) (l .loop .inv .2) (fits i)) (l .loop .inv .8) (s .pre .1 .1 .1)),
       ),
     )
 
 add-t : tie.Need-add-t Inv-loop μ-loop
-add-t c = search needs
+add-t c = let i = inside (turn c) in fits-next 4 (i .loop-test .taken) (start (i .before) .good .1 .0)
 
 add-t-2 : tie.Need-add-t-2 Inv-loop μ-loop
-add-t-2 c =
-    let i = c .before .before .before .before .before .before .before .before .before .before .before .before in
-    omega (arith, fits i, start (i .before) .pre .1 .0)
+add-t-2 c = let i = inside (turn c) in fits-count 8 (s-fits i) (start (i .before) .good .1 .1 .0)
 
 add-j : tie.Need-add-j Inv-loop μ-loop
-add-j c = search needs
+add-j c = let i = inside (turn c) in fits-next 4 (i .loop-test .taken) (start (i .before) .good .1 .0)
 
 loop-less : tie.Need-loop-less Inv-loop μ-loop
-loop-less c = search needs
+loop-less c = left-less (inside (turn c) .loop-test .taken)
 
 loop-again : tie.Need-loop-again Inv-loop μ-loop
 loop-again c =
-    let k = c .before .before .before .before .before .before in
-    let l = k .before .before .before .before .before .before .before in
+    let k = turn c in
+    let i = inside k in
+    let l = i .before in
     let a = start l .args in
     let vs = a .vertices .now in
     let j = l .loop .j in
     let t = l .loop .t in
     let w = k .join-column in
-    let more : done l ++ column l ≡ columnsBelow (pairRow 0) vs (j + 1) = sym (columns-more (pairRow 0) vs j) in
-    let s-left : ℕ = length (a .s .now) - t in
-    let z-left : ℕ = length (a .z .now) - t in
-    let i = k .before .before .before .before .before .before in
-    let room = start l .pre .1 .0 in (
-      omega arith,
-      omega (arith, triangle-suc j),
-      omega (arith, length-more (pairRow 0) vs j, l .loop .inv .2),
+    let size : length (column l) ≡ j + 1 = length-column (pairRow 0) vs j in
+    let next : List ℕ = columnsBelow (pairRow 0) vs (j + 1) in
+    let more : done l ++ column l ≡ next = sym (columns-more (pairRow 0) vs j) in (
+      next-le (i .loop-test .taken),
+      column-next t j (l .loop .inv .1),
+      sum-as t (j + 1) (length (done l)) (length next) (l .loop .inv .2) (length-more (pairRow 0) vs j),
       w .kept .1 .1 .1 .1 .1 .0 ∙ l .loop .inv .3,
       w .kept .1 .1 .1 .1 .1 .1 .0 ∙ l .loop .inv .4,
       w .kept .1 .1 .1 .1 .1 .1 .1 .0 ∙ l .loop .inv .5,
-      w .ensures .0 ∙ ap (addColumns (column l) (take s-left (drop t (a .s .now)))) (l .loop .inv .6)
-          ∙ walk-more addAt (done l) (column l) (a .s .now) (a .s-out .now) t s-left (l .loop .inv .2) (omega (arith, size l, fits i, room))
-          ∙ ap (λ (os : List ℕ). addColumns os (a .s .now) (a .s-out .now)) more,
-      w .ensures .1 .0 ∙ ap (joinZ (a .standard) (column l) (take z-left (drop t (a .z .now)))) (l .loop .inv .7)
-          ∙ walk-more (zAt (a .standard)) (done l) (column l) (a .z .now) (a .z-out .now) t z-left (l .loop .inv .2) (omega (arith, size l, fits i, room))
-          ∙ ap (λ (os : List ℕ). joinZ (a .standard) os (a .z .now) (a .z-out .now)) more,
-      subst (λ (os : List ℕ). Counts (a .standard) os (a .counts .now) (w .last .1 .1 .1 .1 .1 .1 .1 .0)) more
-          (counts-more (a .standard) (done l) (column l) (a .counts .now) (l .loop .counts) (w .last .1 .1 .1 .1 .1 .1 .1 .0) (omega (arith, w .kept .1 .1 .1 .1 .1 .1 .1 .0)) (l .loop .inv .8) (w .ensures .1 .1)),
+      walk-joined addAt (done l) (column l) next (a .s .now) (a .s-out .now) t (length (a .s .now) - t) (w .ensures .0) (l .loop .inv .6) (l .loop .inv .2)
+          (column-left t j (length (column l)) (length (a .s .now)) size (s-fits i)) more,
+      walk-joined (zAt (a .standard)) (done l) (column l) next (a .z .now) (a .z-out .now) t (length (a .z .now) - t) (w .ensures .1 .0) (l .loop .inv .7) (l .loop .inv .2)
+          (column-left t j (length (column l)) (length (a .z .now)) size (z-fits i)) more,
+      counts-joined (a .standard) (done l) (column l) next (a .counts .now) (l .loop .counts) (w .last .1 .1 .1 .1 .1 .1 .1 .0) (w .kept .1 .1 .1 .1 .1 .1 .1 .0) (l .loop .inv .8)
+          (w .ensures .1 .1) more,
     )
 
 same-length : tie.Need-same-length Inv-loop μ-loop
@@ -146,14 +183,14 @@ returns : tie.Need-returns Inv-loop μ-loop
 returns c =
     let l = c .before in
     let a = start l .args in
-    let e : l .loop .j ≡ length (a .vertices .now) = omega arith in
-    let B = columnsBelow (pairRow 0) (a .vertices .now) in (
+    let e : l .loop .j ≡ length (a .vertices .now) = count-ends (l .loop .inv .0) (c .loop-test .left) in
+    let all : done l ≡ columnsBelow (pairRow 0) (a .vertices .now) (length (a .vertices .now)) = ap (columnsBelow (pairRow 0) (a .vertices .now)) e in (
       l .loop .inv .1 ∙ ap triangle e,
       (
-        l .loop .inv .6 ∙ ap (λ (n : ℕ). addColumns (B n) (a .s .now) (a .s-out .now)) e,
+        by-same (λ (os : List ℕ). addColumns os (a .s .now) (a .s-out .now)) (l .loop .inv .6) all,
         (
-          l .loop .inv .7 ∙ ap (λ (n : ℕ). joinZ (a .standard) (B n) (a .z .now) (a .z-out .now)) e,
-          subst (λ (n : ℕ). Counts (a .standard) (B n) (a .counts .now) (l .loop .counts)) e (l .loop .inv .8),
+          by-same (λ (os : List ℕ). joinZ (a .standard) os (a .z .now) (a .z-out .now)) (l .loop .inv .7) all,
+          subst (λ (os : List ℕ). Counts (a .standard) os (a .counts .now) (l .loop .counts)) all (l .loop .inv .8),
         ),
       ),
     )

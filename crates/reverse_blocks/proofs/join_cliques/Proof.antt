@@ -1,9 +1,9 @@
-use Prim.Native.Nat.{ℕ, _≤_, _<_, _-_, _+_}
+use Prim.Native.Nat.{ℕ, zero-le, _≤_, _<_, _-_, _+_}
+use native.Mathlib.Nat.{le-refl, le-trans}
 use mathlib.Core.Path.{_≡_, refl, ap, sym, subst, _∙_}
 use mathlib.Core.List.{List, [], _++_}
-use lib.ListN.{length, getD, take, drop, length-append, length-map, length-drop}
-use lib.Seq.{take-all, length-take-le}
-use lib.Ieee.{Float}
+use lib.ListN.{length, getD, take, length-append, length-map}
+use lib.Seq.{take-all}
 use lib.Dec.{T}
 use Rattle.layout.specs.Lists.{join, rises}
 use Rattle.layout.specs.Triangle.{triangle}
@@ -15,10 +15,11 @@ use Rattle.blocks.specs.Columns.{ColumnsFit}
 use Rattle.blocks.proofs.Cliques.{vertices-rise, vertices-few, vertices-fit}
 use Rattle.blocks.proofs.Orders.{up-more, up-room}
 use Rattle.layout.proofs.Buffers.{take-none}
-use Rattle.reverse_blocks.specs.Joins.{zAt, joinZ, Counts, Countable, blockRowsOf, inOrder}
-use Rattle.reverse_blocks.proofs.Laws.{walk-more, counts-none, counts-more, countable-left, length-order, standing-order}
+use Rattle.reverse_blocks.specs.Joins.{zAt, joinZ, Counts, Countable, blockRowsOf}
+use Rattle.reverse_standard.specs.Routes.{inOrder}
+use Rattle.reverse_blocks.proofs.Laws.{walk-joined, counts-none, counts-joined, countable-left, length-order, standing-order, by-same}
+use Rattle.reverse_blocks.proofs.Room.{same-le, le-same, lt-same, both-kept, begins, next-le, left-less, fits-count, fits-next, fits-value, rest-has}
 use native.Mathlib.Omega.{arith}
-use borrow.Author.Needs.{needs}
 use Rattle.reverse_blocks.proofs.join_cliques.Statement.{statement}
 use Rattle.reverse_blocks.proofs.join_cliques.Tie as tie
 
@@ -31,6 +32,25 @@ Inv-loop standard words ordering offsets s z s-out₀ z-out₀ counts₀ vertice
 
 abbrev μ-loop : tie.MeasureT-loop
 μ-loop standard words ordering offsets s z s-out₀ z-out₀ counts₀ vertices₀ t₀ i₀ s-out z-out counts vertices t i = length offsets - i
+
+-- ---- numbers
+
+rows-in : (k n m : ℕ) → k ≤ n → m ≡ n → 0 + k ≤ m
+rows-in k n m h e = omega arith
+
+rows-left : (t d k b n : ℕ) → t ≡ d → b ≡ k → t + k ≤ n → d + b ≤ n
+rows-left t d k b n e m h = omega arith
+
+rows-next : (t b d k n : ℕ) → t ≡ d → b ≡ k → n ≡ d + k → t + b ≡ n
+rows-next t b d k n e m h = omega arith
+
+values-left : (t b k n : ℕ) → b ≡ k → t + k ≤ n → b ≤ n - t
+values-left t b k n e h = omega arith
+
+sum-le : (t b k n : ℕ) → b ≡ k → t + k ≤ n → t + b ≤ n
+sum-le t b k n e h = omega arith
+
+-- ---- a turn
 
 abbrev start : (l : tie.At-loop Inv-loop μ-loop) → tie.Start Inv-loop μ-loop
 start l = l .before .before .before .before .before .before .before .before .before .before
@@ -50,13 +70,39 @@ abbrev here : (l : tie.At-loop Inv-loop μ-loop) → List ℕ
 here l = rowsAt (start l) (getD (order (start l)) (l .loop .i) 0)
 
 inside : (i : tie.In-loop Inv-loop μ-loop) → i .before .loop .i < length (order (start (i .before)))
-inside i = let a = start (i .before) .args in omega (arith, length-order (a .standard) (a .offsets .now))
+inside i = let a = start (i .before) .args in lt-same (i .loop-test .taken) (length-order (a .standard) (a .offsets .now))
 
 -- there are values for them
 fits : (i : tie.In-loop Inv-loop μ-loop) → i .before .loop .t + length (here (i .before)) ≤ length (join (rowsAt (start (i .before))) (order (start (i .before))))
 fits i =
     let l = i .before in
-    omega (arith, up-room (rowsAt (start l)) 0 (order (start l)) (l .loop .i) (inside i), l .loop .inv .1)
+    let s = start l in
+    subst (λ (t : ℕ). t + length (here l) ≤ length (join (rowsAt s) (order s))) (sym (l .loop .inv .1)) (up-room (rowsAt s) 0 (order s) (l .loop .i) (inside i))
+
+s-fits : (i : tie.In-loop Inv-loop μ-loop) → i .before .loop .t + length (here (i .before)) ≤ length (start (i .before) .args .s .now)
+s-fits i = le-trans (fits i) (start (i .before) .pre .1 .0 .0)
+
+z-fits : (i : tie.In-loop Inv-loop μ-loop) → i .before .loop .t + length (here (i .before)) ≤ length (start (i .before) .args .z .now)
+z-fits i = le-same (s-fits i) (start (i .before) .pre .1 .0 .1)
+
+s-begins : (i : tie.In-loop Inv-loop μ-loop) → i .before .loop .t ≤ length (start (i .before) .args .s .now)
+s-begins i = let l = i .before in begins (l .loop .t) (length (here l)) (length (start l .args .s .now)) (s-fits i)
+
+z-begins : (i : tie.In-loop Inv-loop μ-loop) → i .before .loop .t ≤ length (start (i .before) .args .z .now)
+z-begins i = le-same (s-begins i) (start (i .before) .pre .1 .0 .1)
+
+-- the clique stands at its offset
+stands : (o : tie.After-offset-at Inv-loop μ-loop) → let s = start (o .before .before) in Stands (s .args .words .now) (s .args .ordering .now) (o .offset-at .result)
+stands o =
+    let i = o .before in
+    let l = i .before in
+    let s = start l in
+    let a = s .args in
+    subst (Stands (a .words .now) (a .ordering .now)) (sym (o .offset-at .ensures))
+    (standing-order (a .standard) (a .words .now) (a .ordering .now) (a .offsets .now) (s .pre .0 .0) (l .loop .i) (inside i))
+
+buffer : (l : tie.At-loop Inv-loop μ-loop) → 256 ≤ length (l .loop .vertices)
+buffer l = le-same (start l .pre .1 .1 .1 .1) (l .loop .inv .2)
 
 -- the clique's vertices are those at the offset
 abbrev at-clique : tie.After-clique-vertices Inv-loop μ-loop → tie.In-loop Inv-loop μ-loop
@@ -74,12 +120,19 @@ block-is v =
 size : (v : tie.After-clique-vertices Inv-loop μ-loop) → triangle (length (found v)) ≡ length (here (at-clique v .before))
 size v = sym (length-map (pairs (found v)) (pairRow 0) ∙ length-pairs (found v)) ∙ ap length (block-is v)
 
+-- where its block was joined
+abbrev turn : tie.After-slice-known8 Inv-loop μ-loop → tie.After-join-block Inv-loop μ-loop
+turn c = c .before .before .before .before .before .before
+
+abbrev clique : tie.After-join-block Inv-loop μ-loop → tie.After-clique-vertices Inv-loop μ-loop
+clique k = k .before .before .before .before .before .before .before .before .before
+
 loop-holds : tie.Need-loop-holds Inv-loop μ-loop
 loop-holds c =
     let s = c .before .before .before .before .before .before .before .before .before in
     let a = s .args in
     let none : [] ≡ join (rowsAt s) (take 0 (order s)) = ap (join (rowsAt s)) (sym (take-none (order s))) in (
-      omega arith,
+      zero-le,
       ap length none,
       refl,
       refl,
@@ -91,33 +144,19 @@ loop-holds c =
     )
 
 offset-at-requires : tie.Need-offset-at-requires Inv-loop μ-loop
-offset-at-requires c κs = search needs
+offset-at-requires c κs = c .loop-test .taken
 
 clique-vertices-requires : tie.Need-clique-vertices-requires Inv-loop μ-loop
-clique-vertices-requires c κs =
-    let i = c .before .before in
-    let l = i .before in
-    let s = start l in
-    let a = s .args in (
-      subst (Stands (a .words .now) (a .ordering .now)) (sym (c .before .offset-at .ensures))
-          (standing-order (a .standard) (a .words .now) (a .ordering .now) (a .offsets .now) (s .pre .0 .0) (l .loop .i) (inside i)),
-      omega (arith, l .loop .inv .2, s .pre .1 .1 .1 .1),
-    )
+clique-vertices-requires c κs = (stands (c .before), buffer (c .before .before .before))
 
 slice-reshare-prefix-join-block : tie.Need-slice-reshare-prefix-join-block Inv-loop μ-loop
 slice-reshare-prefix-join-block c =
     let v = c .before .before in
+    let o = v .before .before in
     let l = at-clique v .before in
     let a = start l .args in
-    omega (
-      arith,
-      v .clique-vertices .ensures .0,
-      vertices-few (a .words .now) (a .ordering .now) (v .before .before .offset-at .result),
-      standing-order (a .standard) (a .words .now) (a .ordering .now) (a .offsets .now) (start l .pre .0 .0) (l .loop .i) (inside (at-clique v)) .sortable .few,
-      v .clique-vertices .kept .1 .1 .1 .0,
-      l .loop .inv .2,
-      start l .pre .1 .1 .1 .1,
-    )
+    same-le (v .clique-vertices .ensures .0)
+    (le-trans (vertices-few (a .words .now) (a .ordering .now) (o .offset-at .result)) (le-trans (stands o .sortable .few) (le-same (buffer l) (v .clique-vertices .kept .1 .1 .1 .0))))
 
 slice-aggregate-join-block : tie.Need-slice-aggregate-join-block Inv-loop μ-loop
 slice-aggregate-join-block c =
@@ -125,28 +164,28 @@ slice-aggregate-join-block c =
     v .clique-vertices .ensures .0 ∙ sym (ap length (v .clique-vertices .ensures .1))
 
 mul-join-block : tie.Need-mul-join-block Inv-loop μ-loop
-mul-join-block c = let v = c .before .before .before in omega (arith, fits (at-clique v), start (at-clique v .before) .pre .1 .0, start (at-clique v .before) .good)
+mul-join-block c = let i = at-clique (c .before .before .before) in fits-value (s-begins i) (start (i .before) .good .1 .1 .1 .1 .0)
 
 sub-join-block : tie.Need-sub-join-block Inv-loop μ-loop
-sub-join-block c = let v = c .before .before .before in omega (arith, fits (at-clique v), start (at-clique v .before) .pre .1 .0, start (at-clique v .before) .good)
+sub-join-block c = s-begins (at-clique (c .before .before .before))
 
 part-join-block-start : tie.Need-part-join-block-start Inv-loop μ-loop
-part-join-block-start c = let v = c .before .before .before in omega (arith, fits (at-clique v), start (at-clique v .before) .pre .1 .0, start (at-clique v .before) .good)
+part-join-block-start c = s-begins (at-clique (c .before .before .before))
 
 part-join-block-end : tie.Need-part-join-block-end Inv-loop μ-loop
-part-join-block-end c = let v = c .before .before .before in omega (arith, fits (at-clique v), start (at-clique v .before) .pre .1 .0, start (at-clique v .before) .good)
+part-join-block-end c = le-refl (length (start (at-clique (c .before .before .before) .before) .args .s .now))
 
 mul-join-block-2 : tie.Need-mul-join-block-2 Inv-loop μ-loop
-mul-join-block-2 c = let v = c .before .before .before .before in omega (arith, fits (at-clique v), start (at-clique v .before) .pre .1 .0, start (at-clique v .before) .good)
+mul-join-block-2 c = let i = at-clique (c .before .before .before .before) in fits-value (z-begins i) (start (i .before) .good .1 .1 .1 .1 .1 .0)
 
 sub-join-block-2 : tie.Need-sub-join-block-2 Inv-loop μ-loop
-sub-join-block-2 c = let v = c .before .before .before .before in omega (arith, fits (at-clique v), start (at-clique v .before) .pre .1 .0, start (at-clique v .before) .good)
+sub-join-block-2 c = z-begins (at-clique (c .before .before .before .before))
 
 part-join-block-start-2 : tie.Need-part-join-block-start-2 Inv-loop μ-loop
-part-join-block-start-2 c = let v = c .before .before .before .before in omega (arith, fits (at-clique v), start (at-clique v .before) .pre .1 .0, start (at-clique v .before) .good)
+part-join-block-start-2 c = z-begins (at-clique (c .before .before .before .before))
 
 part-join-block-end-2 : tie.Need-part-join-block-end-2 Inv-loop μ-loop
-part-join-block-end-2 c = let v = c .before .before .before .before in omega (arith, fits (at-clique v), start (at-clique v .before) .pre .1 .0, start (at-clique v .before) .good)
+part-join-block-end-2 c = le-refl (length (start (at-clique (c .before .before .before .before) .before) .args .z .now))
 
 join-block-requires : tie.Need-join-block-requires Inv-loop μ-loop
 join-block-requires c κs =
@@ -159,42 +198,41 @@ join-block-requires c κs =
     let o = a .ordering .now in
     let at = v .before .before .offset-at .result in
     let n = l .loop .inv .3 in
-    let left : (vs : List Float) → length (take (length vs - l .loop .t) (drop (l .loop .t) vs)) ≡ length vs - l .loop .t =
-    λ vs. length-take-le (length vs - l .loop .t) (drop (l .loop .t) vs) (omega (arith, length-drop (l .loop .t) vs)) in (
+    let all = length (join (rowsAt s) (order s)) in (
       (
         subst (λ (vs : List ℕ). T (rises vs)) (sym (v .clique-vertices .ensures .1)) (vertices-rise ws o at),
-        subst (λ (vs : List ℕ). ColumnsFit 0 vs (length (l .loop .s-out))) (sym (v .clique-vertices .ensures .1)) (vertices-fit ws o at 0 (length (l .loop .s-out)) (omega (arith, n, s .pre .0 .1))),
+        subst (λ (vs : List ℕ). ColumnsFit 0 vs (length (l .loop .s-out))) (sym (v .clique-vertices .ensures .1))
+            (vertices-fit ws o at 0 (length (l .loop .s-out)) (rows-in (triangle (length o)) (length (a .s-out .now)) (length (l .loop .s-out)) (s .pre .0 .1) n)),
       ),
       (
-        (omega (arith, size v, fits i, s .pre .1 .0, left (a .s .now)), omega (arith, size v, fits i, s .pre .1 .0, left (a .z .now))),
+        (same-le (size v) (rest-has (l .loop .t) (length (here l)) (a .s .now) (s-fits i)), same-le (size v) (rest-has (l .loop .t) (length (here l)) (a .z .now) (z-fits i))),
         (
-          (omega (arith, s .pre .1 .1 .0, l .loop .inv .4, n), omega (arith, s .pre .1 .1 .0, n)),
+          (both-kept (l .loop .inv .4) (s .pre .1 .1 .0 .0) n, same-le n (s .pre .1 .1 .0 .1)),
           subst (λ (m : ℕ). Countable (a .standard) m (triangle (length (found v))) (l .loop .counts)) (sym n)
-              (countable-left (a .standard) (length (a .s-out .now)) (length (join (rowsAt s) (order s))) (triangle (length (found v))) (done l) (a .counts .now) (l .loop .counts) (l .loop .inv .5)
-              (omega (arith, size v, fits i, l .loop .inv .1)) (l .loop .inv .8) (s .pre .1 .1 .1 .0)),
+              (countable-left (a .standard) (length (a .s-out .now)) all (triangle (length (found v))) (done l) (a .counts .now) (l .loop .counts) (l .loop .inv .5)
+              (rows-left (l .loop .t) (length (done l)) (length (here l)) (triangle (length (found v))) all (l .loop .inv .1) (size v) (fits i)) (l .loop .inv .8) (s .pre .1 .1 .1 .0)),
         ),
       ),
     )
 
 add-t : tie.Need-add-t Inv-loop μ-loop
 add-t c =
-    let k = c .before .before .before .before .before .before in
-    let v = k .before .before .before .before .before .before .before .before .before in
-    let s = start (at-clique v .before) in
-    omega (arith, k .join-block .ensures .0, size v, fits (at-clique v), s .pre .1 .0, s .good)
+    let k = turn c in
+    let v = clique k in
+    let i = at-clique v in
+    let l = i .before in
+    fits-count 8 (sum-le (l .loop .t) (k .join-block .result) (length (here l)) (length (start l .args .s .now)) (k .join-block .ensures .0 ∙ size v) (s-fits i)) (start l .good .1 .1 .1 .1 .0)
 
 add-i : tie.Need-add-i Inv-loop μ-loop
-add-i c =
-    let i = c .before .before .before .before .before .before .before .before .before .before .before .before .before .before .before .before .before .before in
-    omega (arith, i .loop-test .taken, start (i .before) .good)
+add-i c = let i = at-clique (clique (turn c)) in fits-next 8 (i .loop-test .taken) (start (i .before) .good .1 .1 .1 .0)
 
 loop-less : tie.Need-loop-less Inv-loop μ-loop
-loop-less c = search needs
+loop-less c = left-less (at-clique (clique (turn c)) .loop-test .taken)
 
 loop-again : tie.Need-loop-again Inv-loop μ-loop
 loop-again c =
-    let k = c .before .before .before .before .before .before in
-    let v = k .before .before .before .before .before .before .before .before .before in
+    let k = turn c in
+    let v = clique k in
     let i = at-clique v in
     let l = i .before in
     let s = start l in
@@ -203,25 +241,21 @@ loop-again c =
     let t = l .loop .t in
     let w = k .join-block in
     let B = blockRowsOf (found v) in
-    let more : done l ++ B ≡ join (rowsAt s) (take (n + 1) (order s)) =
-    ap (λ (os : List ℕ). done l ++ os) (block-is v) ∙ sym (up-more (rowsAt s) 0 (order s) n (inside i)) in
-    let s-left : ℕ = length (a .s .now) - t in
-    let z-left : ℕ = length (a .z .now) - t in
-    let room : length B ≤ s-left = omega (arith, ap length (block-is v), fits i, s .pre .1 .0) in (
-      omega (arith, i .loop-test .taken),
-      omega (arith, w .ensures .0, size v, ap length (block-is v), ap length more, length-append (done l) B, l .loop .inv .1),
+    let next : List ℕ = join (rowsAt s) (take (n + 1) (order s)) in
+    let as-next : done l ++ here l ≡ next = sym (up-more (rowsAt s) 0 (order s) n (inside i)) in
+    let more : done l ++ B ≡ next = ap (λ (os : List ℕ). done l ++ os) (block-is v) ∙ as-next in
+    let many : length B ≡ length (here l) = ap length (block-is v) in (
+      next-le (i .loop-test .taken),
+      rows-next t (w .result) (length (done l)) (length (here l)) (length next) (l .loop .inv .1) (w .ensures .0 ∙ size v) (sym (ap length as-next) ∙ length-append (done l) (here l)),
       v .clique-vertices .kept .1 .1 .1 .0 ∙ l .loop .inv .2,
       w .kept .1 .1 .1 .1 .0 ∙ l .loop .inv .3,
       w .kept .1 .1 .1 .1 .1 .0 ∙ l .loop .inv .4,
       w .kept .1 .1 .1 .1 .1 .1 .0 ∙ l .loop .inv .5,
-      w .ensures .1 .0 ∙ ap (addColumns B (take s-left (drop t (a .s .now)))) (l .loop .inv .6)
-          ∙ walk-more addAt (done l) B (a .s .now) (a .s-out .now) t s-left (l .loop .inv .1) room
-          ∙ ap (λ (os : List ℕ). addColumns os (a .s .now) (a .s-out .now)) more,
-      w .ensures .1 .1 .0 ∙ ap (joinZ (a .standard) B (take z-left (drop t (a .z .now)))) (l .loop .inv .7)
-          ∙ walk-more (zAt (a .standard)) (done l) B (a .z .now) (a .z-out .now) t z-left (l .loop .inv .1) (omega (arith, room, s .pre .1 .0))
-          ∙ ap (λ (os : List ℕ). joinZ (a .standard) os (a .z .now) (a .z-out .now)) more,
-      subst (λ (os : List ℕ). Counts (a .standard) os (a .counts .now) (w .last .1 .1 .1 .1 .1 .1 .0)) more
-          (counts-more (a .standard) (done l) B (a .counts .now) (l .loop .counts) (w .last .1 .1 .1 .1 .1 .1 .0) (omega (arith, w .kept .1 .1 .1 .1 .1 .1 .0)) (l .loop .inv .8) (w .ensures .1 .1 .1)),
+      walk-joined addAt (done l) B next (a .s .now) (a .s-out .now) t (length (a .s .now) - t) (w .ensures .1 .0) (l .loop .inv .6) (l .loop .inv .1)
+          (values-left t (length B) (length (here l)) (length (a .s .now)) many (s-fits i)) more,
+      walk-joined (zAt (a .standard)) (done l) B next (a .z .now) (a .z-out .now) t (length (a .z .now) - t) (w .ensures .1 .1 .0) (l .loop .inv .7) (l .loop .inv .1)
+          (values-left t (length B) (length (here l)) (length (a .z .now)) many (z-fits i)) more,
+      counts-joined (a .standard) (done l) B next (a .counts .now) (l .loop .counts) (w .last .1 .1 .1 .1 .1 .1 .0) (w .kept .1 .1 .1 .1 .1 .1 .0) (l .loop .inv .8) (w .ensures .1 .1 .1) more,
     )
 
 same-length : tie.Need-same-length Inv-loop μ-loop
@@ -242,12 +276,12 @@ returns c =
     let s = start l in
     let a = s .args in
     let all : done l ≡ join (rowsAt s) (order s) =
-    ap (join (rowsAt s)) (take-all (l .loop .i) (order s) (omega (arith, length-order (a .standard) (a .offsets .now)))) in (
-      l .loop .inv .1 ∙ ap length all,
+    ap (join (rowsAt s)) (take-all (l .loop .i) (order s) (same-le (length-order (a .standard) (a .offsets .now)) (c .loop-test .left))) in (
+      by-same length (l .loop .inv .1) all,
       (
-        l .loop .inv .6 ∙ ap (λ (os : List ℕ). addColumns os (a .s .now) (a .s-out .now)) all,
+        by-same (λ (os : List ℕ). addColumns os (a .s .now) (a .s-out .now)) (l .loop .inv .6) all,
         (
-          l .loop .inv .7 ∙ ap (λ (os : List ℕ). joinZ (a .standard) os (a .z .now) (a .z-out .now)) all,
+          by-same (λ (os : List ℕ). joinZ (a .standard) os (a .z .now) (a .z-out .now)) (l .loop .inv .7) all,
           subst (λ (os : List ℕ). Counts (a .standard) os (a .counts .now) (l .loop .counts)) all (l .loop .inv .8),
         ),
       ),

@@ -1,18 +1,22 @@
-use Prim.Native.Nat.{ℕ, suc, _≤_, _<_, _-_, _+_, _*_, _/_}
+use Prim.Native.Nat.{ℕ, suc, zero-le, _≤_, _<_, _-_, _+_, _*_, _/_}
+use native.Mathlib.Nat.{le-refl, le-of-lt, lt-of-le-of-lt}
 use mathlib.Core.Path.{_≡_, refl, ap, sym, subst, _∙_}
-use mathlib.Core.List.{List, [], _∷_, _++_}
-use native.Mathlib.Numerals.{add-one}
+use mathlib.Core.List.{List, [], _∷_}
 use lib.ListN.{length, getD, take, set, length-set}
-use lib.Seq.{take-suc, take-all, length-take-le}
+use lib.Seq.{take-all, length-take-le}
 use lib.Ieee.{nan, add, binary64}
+use mir.Syntax.{w32, w64}
+use mir.Val.{Fits}
+use mir.Facts.{fits-le, fits-lit}
+use Rattle.layout.specs.Triangle.{triangle}
 use Rattle.layout.specs.Reverse.{addAt, addColumns}
 use Rattle.layout.specs.Blocks.{pairRow}
 use Rattle.blocks.proofs.Columns.{rises-le, length-column, row-at}
 use Rattle.layout.proofs.Buffers.{take-none}
 use Rattle.reverse_blocks.specs.Joins.{zAt, joinZ, Counts, columnRows}
-use Rattle.reverse_blocks.proofs.Laws.{z-stored, walk-one, counts-none, counts-more, countable-less, countable-left}
+use Rattle.reverse_blocks.proofs.Laws.{z-stored, walk-stored, counts-none, counts-next, countable-less, countable-left, by-same}
+use Rattle.reverse_blocks.proofs.Room.{lt-same, fits-next, fits-value, fits-number, fits-row, fits-index}
 use native.Mathlib.Omega.{arith}
-use borrow.Author.Needs.{needs}
 use Rattle.reverse_blocks.proofs.join_column.Statement.{statement}
 use Rattle.reverse_blocks.proofs.join_column.Tie as tie
 
@@ -25,15 +29,43 @@ Inv-loop standard vertices j s z s-out₀ z-out₀ counts₀ c row i₀ s-out z-
 abbrev μ-loop : tie.MeasureT-loop
 μ-loop standard vertices j s z s-out₀ z-out₀ counts₀ c row i₀ s-out z-out counts i = j + 1 - i
 
+-- ---- numbers: c is the column's vertex, d the turn's, o the row
+
+vertex-next : (c n : ℕ) → triangle (suc c) ≤ n → n ≤ 65536 → Fits w32 (c + 1)
+vertex-next c n h l = let g : c + 1 ≤ 65536 = omega arith in fits-le g (fits-lit tt)
+
+vertex-square : (c n : ℕ) → triangle (suc c) ≤ n → n ≤ 65536 → Fits w32 (c * (c + 1))
+vertex-square c n h l = let g : c * (c + 1) ≤ 131072 = omega arith in fits-le g (fits-lit tt)
+
+row-inside : (c d n : ℕ) → d ≤ c → triangle (suc c) ≤ n → c * (c + 1) / 2 + d < n
+row-inside c d n h l = omega arith
+
+row-as : (a d o : ℕ) → o ≡ 0 + a + d → a + d ≡ o
+row-as a d o e = omega arith
+
+turn-next : (i j : ℕ) → i ≤ j → i + 1 ≤ j + 1
+turn-next i j h = omega arith
+
+turn-less : (i j : ℕ) → i ≤ j → j + 1 - (i + 1) < j + 1 - i
+turn-less i j h = omega arith
+
+turn-in : (i j n : ℕ) → n ≡ j + 1 → i ≤ j → i < n
+turn-in i j n e h = omega arith
+
+turns-all : (i j n : ℕ) → n ≡ j + 1 → j < i → n ≤ i
+turns-all i j n e h = omega arith
+
+turn-counts : (i j n : ℕ) → n ≡ i → i ≤ j → n + 1 ≤ suc j
+turn-counts i j n e h = omega arith
+
+-- ---- a turn
+
 abbrev start : (l : tie.At-loop Inv-loop μ-loop) → tie.Start Inv-loop μ-loop
 start l = l .before .before .before .before .before .before .before .before
 
 -- the column's rows, and the row of this turn
 abbrev rows : (l : tie.At-loop Inv-loop μ-loop) → List ℕ
 rows l = columnRows (start l .args .vertices .now) (start l .args .j)
-
-abbrev row : (l : tie.At-loop Inv-loop μ-loop) → ℕ
-row l = getD (rows l) (l .loop .i) 0
 
 -- the same as the code has it
 abbrev coded : (l : tie.At-loop Inv-loop μ-loop) → ℕ
@@ -42,43 +74,71 @@ coded l =
     let c = getD vs (start l .args .j) 0 in
     c * (c + 1) / 2 + getD vs (l .loop .i) 0
 
-row-is : (i : tie.In-loop Inv-loop μ-loop) → coded (i .before) ≡ row (i .before)
+row-is : (i : tie.In-loop Inv-loop μ-loop) → coded (i .before) ≡ getD (rows (i .before)) (i .before .loop .i) 0
 row-is i =
     let l = i .before in
     let s = start l in
-    omega (arith, row-at 0 (s .args .vertices .now) (s .args .j) (l .loop .i) (s .pre .0 .0) (omega arith) (s .pre .0 .1))
+    let vs = s .args .vertices .now in
+    let j = s .args .j in
+    let n = l .loop .i in
+    row-as (getD vs j 0 * (getD vs j 0 + 1) / 2) (getD vs n 0) (getD (rows l) n 0) (row-at 0 vs j n (s .pre .0 .0) (i .loop-test .taken) (s .pre .0 .1))
 
-inside : (i : tie.In-loop Inv-loop μ-loop) → row (i .before) < length (i .before .loop .s-out)
+inside : (i : tie.In-loop Inv-loop μ-loop) → coded (i .before) < length (start (i .before) .args .s-out .now)
 inside i =
     let l = i .before in
     let s = start l in
-    omega (arith, row-is i, rises-le (s .args .vertices .now) (l .loop .i) (s .args .j) (s .pre .0 .0) (omega arith) (s .pre .0 .1), s .pre .1 .0)
+    let vs = s .args .vertices .now in
+    let j = s .args .j in
+    let n = l .loop .i in
+    row-inside (getD vs j 0) (getD vs n 0) (length (s .args .s-out .now)) (rises-le vs n j (s .pre .0 .0) (i .loop-test .taken) (s .pre .0 .1)) (s .pre .1 .0 .0)
+
+s-inside : (i : tie.In-loop Inv-loop μ-loop) → coded (i .before) < length (i .before .loop .s-out)
+s-inside i = lt-same (inside i) (i .before .loop .inv .1)
+
+z-inside : (i : tie.In-loop Inv-loop μ-loop) → coded (i .before) < length (i .before .loop .z-out)
+z-inside i = lt-same (inside i) (i .before .loop .inv .2 ∙ start (i .before) .pre .1 .0 .1)
+
+o-fits : (i : tie.In-loop Inv-loop μ-loop) → Fits w64 (coded (i .before) * 8)
+o-fits i = fits-value (le-of-lt (inside i)) (start (i .before) .good .1 .1 .1 .1 .1 .0)
+
+-- the turn's vertex, and its values
+here : (i : tie.In-loop Inv-loop μ-loop) → i .before .loop .i < length (start (i .before) .args .vertices .now)
+here i = lt-of-le-of-lt (i .loop-test .taken) (start (i .before) .pre .0 .1)
+
+s-here : (i : tie.In-loop Inv-loop μ-loop) → i .before .loop .i < length (start (i .before) .args .s .now)
+s-here i = lt-of-le-of-lt (i .loop-test .taken) (start (i .before) .pre .0 .2)
+
+z-here : (i : tie.In-loop Inv-loop μ-loop) → i .before .loop .i < length (start (i .before) .args .z .now)
+z-here i = lt-of-le-of-lt (i .loop-test .taken) (start (i .before) .pre .0 .3)
 
 size : (l : tie.At-loop Inv-loop μ-loop) → length (rows l) ≡ start l .args .j + 1
 size l = length-column (pairRow 0) (start l .args .vertices .now) (start l .args .j)
 
--- one row more
-more : (i : tie.In-loop Inv-loop μ-loop) → take (i .before .loop .i + 1) (rows (i .before)) ≡ take (i .before .loop .i) (rows (i .before)) ++ (row (i .before) ∷ [])
-more i = let l = i .before in ap (λ (n : ℕ). take n (rows l)) (add-one (l .loop .i)) ∙ take-suc (rows l) (l .loop .i) 0 (omega (arith, size l))
+in-rows : (i : tie.In-loop Inv-loop μ-loop) → i .before .loop .i < length (rows (i .before))
+in-rows i = let l = i .before in turn-in (l .loop .i) (start l .args .j) (length (rows l)) (size l) (i .loop-test .taken)
 
 mul-c : tie.Need-mul-c Inv-loop μ-loop
-mul-c c = search needs
+mul-c c = let s = c .before .before .before .before .before .before in fits-number (le-of-lt (s .pre .0 .1)) (s .good .1 .0)
 
 shared-slice-read-c : tie.Need-shared-slice-read-c Inv-loop μ-loop
-shared-slice-read-c c = search needs
+shared-slice-read-c c = c .before .before .before .before .before .before .before .pre .0 .1
 
 add-row : tie.Need-add-row Inv-loop μ-loop
-add-row c = search needs
+add-row c =
+    let s = c .before .before .before .before .before .before .before in
+    vertex-next (getD (s .args .vertices .now) (s .args .j) 0) (length (s .args .s-out .now)) (s .pre .1 .0 .0) (s .pre .1 .0 .2)
 
 mul-row : tie.Need-mul-row Inv-loop μ-loop
-mul-row c = search needs
+mul-row c =
+    let s = c .before .before .before .before .before .before .before in
+    vertex-square (getD (s .args .vertices .now) (s .args .j) 0) (length (s .args .s-out .now)) (s .pre .1 .0 .0) (s .pre .1 .0 .2)
 
 loop-holds : tie.Need-loop-holds Inv-loop μ-loop
 loop-holds c =
     let a = c .before .before .before .before .before .before .before .args in
     let L = columnRows (a .vertices .now) (a .j) in
     let none = sym (take-none L) in (
-      omega arith,
+      zero-le,
       refl,
       refl,
       refl,
@@ -88,59 +148,55 @@ loop-holds c =
     )
 
 mul-o : tie.Need-mul-o Inv-loop μ-loop
-mul-o c = search needs
+mul-o c = fits-number (le-of-lt (here c)) (start (c .before) .good .1 .0)
 
 shared-slice-read-o : tie.Need-shared-slice-read-o Inv-loop μ-loop
-shared-slice-read-o c = search needs
+shared-slice-read-o c = here (c .before)
 
 add-o : tie.Need-add-o Inv-loop μ-loop
-add-o c = omega (arith, row-is (c .before), inside (c .before))
+add-o c = let i = c .before in fits-row (inside i) (start (i .before) .pre .1 .0 .2)
 
 cast-o : tie.Need-cast-o Inv-loop μ-loop
-cast-o c = omega (arith, row-is (c .before), inside (c .before))
+cast-o c = let i = c .before in fits-index (inside i) (start (i .before) .pre .1 .0 .2)
 
 mul-s-out : tie.Need-mul-s-out Inv-loop μ-loop
-mul-s-out c = omega (arith, row-is (c .before), inside (c .before))
+mul-s-out c = o-fits (c .before)
 
 slice-read-s-out : tie.Need-slice-read-s-out Inv-loop μ-loop
-slice-read-s-out c = omega (arith, row-is (c .before .before), inside (c .before .before))
+slice-read-s-out c = s-inside (c .before .before)
 
 mul-s-out-2 : tie.Need-mul-s-out-2 Inv-loop μ-loop
-mul-s-out-2 c = search needs
+mul-s-out-2 c = let i = c .before .before in fits-value (le-of-lt (s-here i)) (start (i .before) .good .1 .1 .1 .0)
 
 shared-slice-read-s-out : tie.Need-shared-slice-read-s-out Inv-loop μ-loop
-shared-slice-read-s-out c = search needs
+shared-slice-read-s-out c = s-here (c .before .before .before)
 
 mul-s-out-3 : tie.Need-mul-s-out-3 Inv-loop μ-loop
-mul-s-out-3 c = omega (arith, row-is (c .before .before .before), inside (c .before .before .before))
+mul-s-out-3 c = o-fits (c .before .before .before)
 
 slice-write-s-out : tie.Need-slice-write-s-out Inv-loop μ-loop
-slice-write-s-out c = omega (arith, row-is (c .before .before .before), inside (c .before .before .before))
+slice-write-s-out c = s-inside (c .before .before .before)
 
 mul-z-value : tie.Need-mul-z-value Inv-loop μ-loop
-mul-z-value c = omega (arith, row-is (c .before .before .before), inside (c .before .before .before))
+mul-z-value c = o-fits (c .before .before .before)
 
 slice-read-z-value : tie.Need-slice-read-z-value Inv-loop μ-loop
-slice-read-z-value c = omega (arith, row-is (c .before .before .before .before), inside (c .before .before .before .before))
+slice-read-z-value c = z-inside (c .before .before .before .before)
 
 mul-z-value-2 : tie.Need-mul-z-value-2 Inv-loop μ-loop
-mul-z-value-2 c = search needs
+mul-z-value-2 c = let i = c .before .before .before .before in fits-value (le-of-lt (z-here i)) (start (i .before) .good .1 .1 .1 .1 .0)
 
 shared-slice-read-z-value : tie.Need-shared-slice-read-z-value Inv-loop μ-loop
-shared-slice-read-z-value c = search needs
+shared-slice-read-z-value c = z-here (c .before .before .before .before .before)
 
 z-value-requires : tie.Need-z-value-requires Inv-loop μ-loop
-z-value-requires c κs = search needs
+z-value-requires c κs = tt
 
 mul-z-out : tie.Need-mul-z-out Inv-loop μ-loop
-mul-z-out c =
-    let i = c .before .before .before .before .before .before in
-    omega (arith, row-is i, inside i)
+mul-z-out c = o-fits (c .before .before .before .before .before .before)
 
 slice-write-z-out : tie.Need-slice-write-z-out Inv-loop μ-loop
-slice-write-z-out c =
-    let i = c .before .before .before .before .before .before in
-    omega (arith, row-is i, inside i)
+slice-write-z-out c = z-inside (c .before .before .before .before .before .before)
 
 count-column-requires : tie.Need-count-column-requires Inv-loop μ-loop
 count-column-requires c κs =
@@ -148,46 +204,45 @@ count-column-requires c κs =
     let l = i .before in
     let s = start l in
     let a = s .args in
-    let done : length (take (l .loop .i) (rows l)) ≡ l .loop .i = length-take-le (l .loop .i) (rows l) (omega (arith, size l)) in
-    countable-less (a .standard) (length (a .s-out .now)) (suc (coded l)) 1 1 (l .loop .counts) (omega (arith, row-is i, inside i)) (omega arith)
-    (countable-left (a .standard) (length (a .s-out .now)) (suc (a .j)) 1 (take (l .loop .i) (rows l)) (a .counts .now) (l .loop .counts) (l .loop .inv .3) (omega (arith, done))
-    (l .loop .inv .6) (s .pre .1 .1))
+    let n = l .loop .i in
+    let done : length (take n (rows l)) ≡ n = length-take-le n (rows l) (le-of-lt (in-rows i)) in
+    countable-less (a .standard) (length (a .s-out .now)) (suc (coded l)) 1 1 (l .loop .counts) (inside i) (le-refl 1)
+    (countable-left (a .standard) (length (a .s-out .now)) (suc (a .j)) 1 (take n (rows l)) (a .counts .now) (l .loop .counts) (l .loop .inv .3)
+    (turn-counts n (a .j) (length (take n (rows l))) done (i .loop-test .taken)) (l .loop .inv .6) (s .pre .1 .1))
+
+-- where the turn's column was counted
+abbrev counted : tie.After-slice-known6 Inv-loop μ-loop → tie.After-count-column Inv-loop μ-loop
+counted c = c .before .before
+
+abbrev turn : tie.After-count-column Inv-loop μ-loop → tie.In-loop Inv-loop μ-loop
+turn k = k .before .before .before .before .before .before .before .before
 
 add-i : tie.Need-add-i Inv-loop μ-loop
-add-i c = search needs
+add-i c = let i = turn (counted c) in fits-next 4 (here i) (start (i .before) .good .1 .0)
 
 loop-less : tie.Need-loop-less Inv-loop μ-loop
-loop-less c = search needs
+loop-less c = let i = turn (counted c) in turn-less (i .before .loop .i) (start (i .before) .args .j) (i .loop-test .taken)
 
 loop-again : tie.Need-loop-again Inv-loop μ-loop
 loop-again c =
-    let k = c .before .before in
+    let k = counted c in
     let v = k .before .before in
-    let i = v .before .before .before .before .before .before in
+    let i = turn k in
     let l = i .before in
     let a = start l .args in
     let n = l .loop .i in
-    let L = rows l in
     let so = l .loop .s-out in
     let zo = l .loop .z-out in
-    let x = getD (a .s .now) n nan in
-    let y = getD (a .z .now) n nan in
-    let o = coded l in
-    let inRows : n < length L = omega (arith, size l) in
-    let s-set = length-set so o (add binary64 (getD so o nan) x) in
-    let z-set = length-set zo o (v .z-value .result) in (
-      omega arith,
-      s-set ∙ l .loop .inv .1,
-      z-set ∙ l .loop .inv .2,
+    let o = coded l in (
+      turn-next n (a .j) (i .loop-test .taken),
+      length-set so o (add binary64 (getD so o nan) (getD (a .s .now) n nan)) ∙ l .loop .inv .1,
+      length-set zo o (v .z-value .result) ∙ l .loop .inv .2,
       k .count-column .kept .1 .0 ∙ l .loop .inv .3,
-      ap (λ (q : ℕ). addAt q x so) (row-is i) ∙ ap (addAt (row l) x) (l .loop .inv .4)
-          ∙ walk-one addAt L (a .s .now) (a .s-out .now) n 0 nan inRows (omega (arith, start l .pre .0)),
-      ap (set zo o) (v .z-value .ensures) ∙ z-stored (a .standard) o y zo ∙ ap (λ (q : ℕ). zAt (a .standard) q y zo) (row-is i)
-          ∙ ap (zAt (a .standard) (row l) y) (l .loop .inv .5)
-          ∙ walk-one (zAt (a .standard)) L (a .z .now) (a .z-out .now) n 0 nan inRows (omega (arith, start l .pre .0)),
-      subst (λ (os : List ℕ). Counts (a .standard) os (a .counts .now) (k .count-column .last .1 .0))
-          (ap (λ (q : ℕ). take n L ++ (q ∷ [])) (row-is i) ∙ sym (more i))
-          (counts-more (a .standard) (take n L) (o ∷ []) (a .counts .now) (l .loop .counts) (k .count-column .last .1 .0) (omega (arith, k .count-column .kept .1 .0)) (l .loop .inv .6) (k .count-column .ensures)),
+      walk-stored addAt (rows l) (a .s .now) (a .s-out .now) n o 0 nan refl (l .loop .inv .4) (row-is i) (in-rows i) (s-here i),
+      walk-stored (zAt (a .standard)) (rows l) (a .z .now) (a .z-out .now) n o 0 nan (ap (set zo o) (v .z-value .ensures) ∙ z-stored (a .standard) o (getD (a .z .now) n nan) zo)
+          (l .loop .inv .5) (row-is i) (in-rows i) (z-here i),
+      counts-next (a .standard) (rows l) n o (a .counts .now) (l .loop .counts) (k .count-column .last .1 .0) (in-rows i) (row-is i) (k .count-column .kept .1 .0) (l .loop .inv .6)
+          (k .count-column .ensures),
     )
 
 same-length : tie.Need-same-length Inv-loop μ-loop
@@ -203,10 +258,10 @@ returns : tie.Need-returns Inv-loop μ-loop
 returns c =
     let l = c .before in
     let a = start l .args in
-    let all : take (l .loop .i) (rows l) ≡ rows l = take-all (l .loop .i) (rows l) (omega (arith, size l)) in (
-      l .loop .inv .4 ∙ ap (λ (os : List ℕ). addColumns os (a .s .now) (a .s-out .now)) all,
+    let all : take (l .loop .i) (rows l) ≡ rows l = take-all (l .loop .i) (rows l) (turns-all (l .loop .i) (a .j) (length (rows l)) (size l) (c .loop-test .left)) in (
+      by-same (λ (os : List ℕ). addColumns os (a .s .now) (a .s-out .now)) (l .loop .inv .4) all,
       (
-        l .loop .inv .5 ∙ ap (λ (os : List ℕ). joinZ (a .standard) os (a .z .now) (a .z-out .now)) all,
+        by-same (λ (os : List ℕ). joinZ (a .standard) os (a .z .now) (a .z-out .now)) (l .loop .inv .5) all,
         subst (λ (os : List ℕ). Counts (a .standard) os (a .counts .now) (l .loop .counts)) all (l .loop .inv .6),
       ),
     )

@@ -1,173 +1,178 @@
 use Prim.Native.Nat.{ℕ, _≤_, _-_}
-use mathlib.Core.Path.{_≡_, ap, sym, subst, _∙_}
+use native.Mathlib.Nat.{le-trans}
+use mathlib.Core.Path.{_≡_, refl, ap, sym, subst, _∙_}
 use mathlib.Core.List.{List}
 use lib.ListN.{length, take, drop}
 use lib.Seq.{length-take-le}
+use mir.Facts.{fits-le, fits-lit}
 use Rattle.layout.specs.Lists.{join}
 use Rattle.layout.specs.Triangle.{triangle}
 use Rattle.layout.specs.Patterns.{Pattern, cliqueCount}
 use Rattle.layout.specs.Blocks.{blockRows}
 use Rattle.layout.specs.Reverse.{addColumns}
-use Rattle.supernode_tree.specs.Reads.{patternAt, PatternInside}
+use Rattle.supernode_tree.specs.Reads.{patternAt}
+use Rattle.supernode_tree.specs.declared.Pattern.{Pattern as Head}
 use Rattle.supernode_tree.specs.declared.PatternRead.the-variants.{Pattern as Found}
 use Rattle.blocks.specs.Cliques.{rowsHere}
-use Rattle.blocks.proofs.Offsets.{StandAt, not-short, cliques-here, cliques-count, count-few, ordering-part, stand-here, all-stand}
-use Rattle.reverse_blocks.specs.Joins.{joinZ, Counts, Countable, inOrder, ownRows}
-use Rattle.reverse_blocks.proofs.Laws.{rows-order, length-own}
-use native.Mathlib.Omega.{arith}
-use borrow.Author.Needs.{needs}
+use Rattle.blocks.proofs.Offsets.{StandAt, cliques-here, cliques-count, count-few, ordering-part, stand-here, all-stand}
+use Rattle.reverse_blocks.specs.Joins.{joinZ, Counts, Countable, ownRows}
+use Rattle.reverse_standard.specs.Routes.{inOrder}
+use Rattle.reverse_blocks.proofs.Laws.{rows-order, length-own, by-same}
+use Rattle.reverse_blocks.proofs.Room.{fits-number, sum-above}
 use Rattle.reverse_blocks.proofs.join_pattern.Statement.{statement}
 use Rattle.reverse_blocks.proofs.join_pattern.Tie as tie
 
-abbrev start : tie.After-known-told → tie.Start
-start k = k .before .before .before .before .before .before .before .before .before .before .before .before
+abbrev start : tie.After-pattern-here → tie.Start
+start h = h .before .before .before .before .before .before .before .before .before
 
 abbrev here : tie.Start → Pattern
 here s = patternAt (s .args .words .now) (s .args .at)
 
--- the pattern's head lies in the words
-inside : (k : tie.After-known-told) → PatternInside (length (start k .args .words .now)) (start k .args .at) (Found (k .before .p .given .0 .0))
-inside k = rw (k .before .p .given .1) at (k .before .before .before .read .ensures .1)
+abbrev head : tie.After-pattern-here → Head
+head h = h .pattern-here .result
 
 -- as many cliques as were read, and few
-count : (k : tie.After-known-told) → cliqueCount (here (start k)) ≡ k .before .p .given .0 .0 .«clique_count»
-count k =
-    let s = start k in
-    cliques-count (s .args .words .now) (s .args .at) _ (s .pre .0 .0) (k .before .before .before .read .ensures .0) (k .before .p .given .0 .0) (k .before .p .given .1)
+count : (h : tie.After-pattern-here) → cliqueCount (here (start h)) ≡ head h .«clique_count»
+count h =
+    let s = start h in
+    cliques-count (s .args .words .now) (s .args .at) (Found (head h)) (s .pre .0 .0) (h .pattern-here .ensures .0) (head h) refl
 
-few : (k : tie.After-known-told) → k .before .p .given .0 .0 .«clique_count» ≤ 256
-few k =
-    let s = start k in
-    count-few (s .args .words .now) (s .args .at) _ (s .pre .0 .0) (k .before .before .before .read .ensures .0) (k .before .p .given .0 .0) (k .before .p .given .1) (s .pre .0 .1)
+few : (h : tie.After-pattern-here) → head h .«clique_count» ≤ 256
+few h =
+    let s = start h in
+    count-few (s .args .words .now) (s .args .at) (Found (head h)) (s .pre .0 .0) (h .pattern-here .ensures .0) (head h) refl (s .pre .0 .1)
 
-ordering-here : (k : tie.After-known-told)
-    → let q = k .before .p .given .0 .0 in
-    take (q .cliques - q .ordering) (drop (q .ordering) (start k .args .words .now)) ≡ here (start k) .ordering
-ordering-here k =
-    let s = start k in
-    ordering-part (s .args .words .now) (s .args .at) _ (s .pre .0 .0) (k .before .before .before .read .ensures .0) (k .before .p .given .0 .0) (k .before .p .given .1) (inside k)
+-- the ordering is a part of the words
+ordering-ends : (h : tie.After-pattern-here) → head h .ordering ≤ head h .cliques
+ordering-ends h = sum-above (head h .ordering) (head h .cliques) (head h .«vertex_count») (h .pattern-here .ensures .1 .1)
+
+ordering-here : (h : tie.After-pattern-here) → take (head h .cliques - head h .ordering) (drop (head h .ordering) (start h .args .words .now)) ≡ here (start h) .ordering
+ordering-here h =
+    let s = start h in
+    ordering-part (s .args .words .now) (s .args .at) (Found (head h)) (s .pre .0 .0) (h .pattern-here .ensures .0) (head h) refl (h .pattern-here .ensures .1)
 
 -- the table of offsets
+abbrev read : tie.After-clique-offsets → tie.After-pattern-here
+read o = o .before .before
+
 abbrev offsets : tie.After-clique-offsets → List ℕ
 offsets o = o .clique-offsets .last .1 .1 .1 .0
 
-room : (o : tie.After-clique-offsets) → o .before .before .before .p .given .0 .0 .«clique_count» ≤ length (offsets o)
-room o = omega (arith, few (o .before .before), o .clique-offsets .kept .1 .1 .1 .0, start (o .before .before) .pre .1 .1 .1 .1 .0)
+room : (o : tie.After-clique-offsets) → head (read o) .«clique_count» ≤ length (offsets o)
+room o =
+    subst (λ (n : ℕ). head (read o) .«clique_count» ≤ n) (sym (o .clique-offsets .kept .1 .1 .1 .0)) (le-trans (few (read o)) (start (read o) .pre .1 .1 .1 .1 .0))
 
-standing : (o : tie.After-clique-offsets) → let s = start (o .before .before) in StandAt (s .args .words .now) (here s .cliques) (offsets o)
+standing : (o : tie.After-clique-offsets) → let s = start (read o) in StandAt (s .args .words .now) (here s .cliques) (offsets o)
 standing o =
-    let k = o .before .before in
-    let s = start k in
-    stand-here (s .args .words .now) (s .args .at) _ (s .pre .0 .0) (k .before .before .before .read .ensures .0) (k .before .p .given .0 .0) (k .before .p .given .1) (offsets o) (o .clique-offsets .ensures)
+    let h = read o in
+    let s = start h in
+    stand-here (s .args .words .now) (s .args .at) (Found (head h)) (s .pre .0 .0) (h .pattern-here .ensures .0) (head h) refl (offsets o) (o .clique-offsets .ensures)
 
 -- the rows of the cliques at the offsets are the pattern's
 abbrev joined : tie.After-clique-offsets → List ℕ
 joined o =
-    let k = o .before .before in
-    let s = start k in
-    let q = k .before .p .given .0 .0 in
-    join (rowsHere 0 (s .args .words .now) (take (q .cliques - q .ordering) (drop (q .ordering) (s .args .words .now)))) (inOrder (s .args .standard) (take (q .«clique_count») (offsets o)))
+    let h = read o in
+    let s = start h in
+    join (rowsHere 0 (s .args .words .now) (take (head h .cliques - head h .ordering) (drop (head h .ordering) (s .args .words .now)))) (inOrder (s .args .standard) (take (head h .«clique_count») (offsets o)))
 
-rows : (o : tie.After-clique-offsets) → let s = start (o .before .before) in joined o ≡ ownRows (s .args .standard) (here s)
+rows : (o : tie.After-clique-offsets) → let s = start (read o) in joined o ≡ ownRows (s .args .standard) (here s)
 rows o =
-    let k = o .before .before in
-    let s = start k in
-    let n = k .before .p .given .0 .0 .«clique_count» in
-    ap (λ (ordering : List ℕ). join (rowsHere 0 (s .args .words .now) ordering) (inOrder (s .args .standard) (take n (offsets o)))) (ordering-here k)
-    ∙ rows-order (s .args .standard) (here s) (s .pre .0 .0) (s .args .words .now) (offsets o) n (count k) (room o) (standing o)
+    let h = read o in
+    let s = start h in
+    let n = head h .«clique_count» in
+    ap (λ (ordering : List ℕ). join (rowsHere 0 (s .args .words .now) ordering) (inOrder (s .args .standard) (take n (offsets o)))) (ordering-here h)
+    ∙ rows-order (s .args .standard) (here s) (s .pre .0 .0) (s .args .words .now) (offsets o) n (count h) (room o) (standing o)
 
-size : (o : tie.After-clique-offsets) → length (joined o) ≡ blockRows (here (start (o .before .before)))
-size o = let s = start (o .before .before) in ap length (rows o) ∙ length-own (s .args .standard) (here s) (s .pre .0 .0)
+size : (o : tie.After-clique-offsets) → length (joined o) ≡ blockRows (here (start (read o)))
+size o = let s = start (read o) in ap length (rows o) ∙ length-own (s .args .standard) (here s) (s .pre .0 .0)
 
-read-requires : tie.Need-read-requires
-read-requires c κs = search needs
-
-enum-known-p : tie.Need-enum-known-p
-enum-known-p c = search needs
-
-enum-told : tie.Need-enum-told
-enum-told c = search needs
-
-returns : tie.Need-returns
-returns c =
-    let s = c .before .before .before .before .before .before .before .before .before .before .before in
-    absurd (not-short (s .args .words .now) (s .args .at) _ (s .pre .0 .0) (c .before .before .read .ensures .0) (c .enum-told .given .1))
+pattern-here-requires : tie.Need-pattern-here-requires
+pattern-here-requires c κs = c .before .before .before .before .before .before .before .before .pre .0 .0
 
 clique-offsets-requires : tie.Need-clique-offsets-requires
 clique-offsets-requires c κs =
-    let k = c .before in
-    let s = start k in (
-      cliques-here (s .args .words .now) (s .args .at) _ (s .pre .0 .0) (k .before .before .before .read .ensures .0) (k .before .p .given .0 .0) (k .before .p .given .1),
-      omega (arith, few k, s .pre .1 .1 .1 .1 .0),
+    let h = c .before in
+    let s = start h in (
+      cliques-here (s .args .words .now) (s .args .at) (Found (head h)) (s .pre .0 .0) (h .pattern-here .ensures .0) (head h) refl,
+      le-trans (few h) (s .pre .1 .1 .1 .1 .0),
     )
 
 cast-k : tie.Need-cast-k
-cast-k c = search needs
+cast-k c = fits-le (few (c .before .before .before .before .before)) (fits-lit tt)
 
 mul-join-cliques : tie.Need-mul-join-cliques
-mul-join-cliques c = let i = inside (c .before .before .before .before .before) in omega arith
+mul-join-cliques c =
+    let h = c .before .before .before .before .before in
+    fits-number (le-trans (ordering-ends h) (h .pattern-here .ensures .1 .2)) (start h .good .1 .0)
 
 sub-join-cliques : tie.Need-sub-join-cliques
-sub-join-cliques c = let i = inside (c .before .before .before .before .before) in omega arith
+sub-join-cliques c = ordering-ends (c .before .before .before .before .before)
 
 part-join-cliques-start : tie.Need-part-join-cliques-start
-part-join-cliques-start c = let i = inside (c .before .before .before .before .before) in omega arith
+part-join-cliques-start c = ordering-ends (c .before .before .before .before .before)
 
 part-join-cliques-end : tie.Need-part-join-cliques-end
-part-join-cliques-end c = let i = inside (c .before .before .before .before .before) in omega arith
+part-join-cliques-end c = c .before .before .before .before .before .pattern-here .ensures .1 .2
 
 slice-reshare-prefix-join-cliques : tie.Need-slice-reshare-prefix-join-cliques
-slice-reshare-prefix-join-cliques c = omega (arith, room (c .before .before .before .before))
+slice-reshare-prefix-join-cliques c = room (c .before .before .before .before)
 
 slice-aggregate-join-cliques : tie.Need-slice-aggregate-join-cliques
 slice-aggregate-join-cliques c =
     let o = c .before .before .before .before .before in
-    sym (length-take-le _ (offsets o) (omega (arith, room o)))
+    sym (length-take-le (head (read o) .«clique_count») (offsets o) (room o))
 
 join-cliques-requires : tie.Need-join-cliques-requires
 join-cliques-requires c κs =
     let o = c .before .before .before .before .before .before .before .before .before in
-    let k = o .before .before in
-    let s = start k in
+    let h = read o in
+    let s = start h in
     let a = s .args in
     let p = here s in (
       (
-        rw (ordering-here k)
-            (all-stand p (s .pre .0 .0) (a .words .now) (offsets o) _ (count k) (room o) (standing o) (s .pre .0 .1)),
-        omega (arith, ap (λ (os : List ℕ). triangle (length os)) (ordering-here k), ap triangle (s .pre .0 .0 .ordered .vertices), s .pre .1 .0),
+        rw (ordering-here h)
+            (all-stand p (s .pre .0 .0) (a .words .now) (offsets o) (head h .«clique_count») (count h) (room o) (standing o) (s .pre .0 .1)),
+        subst (λ (n : ℕ). triangle n ≤ length (a .s-out .now)) (sym (ap length (ordering-here h) ∙ s .pre .0 .0 .ordered .vertices)) (s .pre .1 .0 .0),
       ),
       (
-        (omega (arith, size o, s .pre .1 .1 .0), s .pre .1 .1 .0 .1),
+        (subst (λ (n : ℕ). n ≤ length (a .s .now)) (sym (size o)) (s .pre .1 .1 .0 .0), s .pre .1 .1 .0 .1),
         ((s .pre .1 .0 .1, s .pre .1 .0 .2), (subst (λ (n : ℕ). Countable (a .standard) (length (a .s-out .now)) n (a .counts .now)) (sym (size o)) (s .pre .1 .1 .1 .0), s .pre .1 .1 .1 .1 .1)),
       ),
     )
 
+-- where the cliques were joined
+abbrev end : tie.After-slice-known10 → tie.After-join-cliques
+end c = c .before .before .before .before .before .before .before .before
+
+abbrev filled : tie.After-join-cliques → tie.After-clique-offsets
+filled j = j .before .before .before .before .before .before .before .before .before .before
+
 same-length : tie.Need-same-length
-same-length c = search needs
+same-length c = end c .join-cliques .kept .1 .1 .1 .1 .1 .1 .0
 
 same-length-2 : tie.Need-same-length-2
-same-length-2 c = search needs
+same-length-2 c = end c .join-cliques .kept .1 .1 .1 .1 .1 .1 .1 .0
 
 same-length-3 : tie.Need-same-length-3
-same-length-3 c = search needs
+same-length-3 c = end c .join-cliques .kept .1 .1 .1 .1 .1 .1 .1 .1 .0
 
 same-length-4 : tie.Need-same-length-4
-same-length-4 c = search needs
+same-length-4 c = filled (end c) .clique-offsets .kept .1 .1 .1 .0
 
 same-length-5 : tie.Need-same-length-5
-same-length-5 c = search needs
+same-length-5 c = end c .join-cliques .kept .1 .1 .1 .1 .1 .1 .1 .1 .1 .0
 
-returns-2 : tie.Need-returns-2
-returns-2 c =
-    let j = c .before .before .before .before .before .before .before .before in
-    let o = j .before .before .before .before .before .before .before .before .before .before in
-    let a = start (o .before .before) .args in
+returns : tie.Need-returns
+returns c =
+    let j = end c in
+    let o = filled j in
+    let a = start (read o) .args in
     let w = j .join-cliques .ensures in (
-      w .0 ∙ size o,
+      by-same length (w .0) (rows o) ∙ length-own (a .standard) (here (start (read o))) (start (read o) .pre .0 .0),
       (
-        w .1 .0 ∙ ap (λ (os : List ℕ). addColumns os (a .s .now) (a .s-out .now)) (rows o),
+        by-same (λ (os : List ℕ). addColumns os (a .s .now) (a .s-out .now)) (w .1 .0) (rows o),
         (
-          w .1 .1 .0 ∙ ap (λ (os : List ℕ). joinZ (a .standard) os (a .z .now) (a .z-out .now)) (rows o),
+          by-same (λ (os : List ℕ). joinZ (a .standard) os (a .z .now) (a .z-out .now)) (w .1 .1 .0) (rows o),
           subst (λ (os : List ℕ). Counts (a .standard) os (a .counts .now) (j .join-cliques .last .1 .1 .1 .1 .1 .1 .1 .1 .0)) (rows o) (w .1 .1 .1),
         ),
       ),
@@ -177,10 +182,7 @@ pub join-pattern-spec : {M : Type 1} → statement M
 join-pattern-spec =
     tie.close
     (tie.spec
-    read-requires
-    enum-known-p
-    enum-told
-    returns
+    pattern-here-requires
     clique-offsets-requires
     cast-k
     mul-join-cliques
@@ -195,4 +197,4 @@ join-pattern-spec =
     same-length-3
     same-length-4
     same-length-5
-    returns-2)
+    returns)

@@ -1,129 +1,147 @@
 use Prim.Native.Nat.{ℕ, _+_, _-_, _≤_}
-use mathlib.Core.Path.{_≡_, refl, ap, _∙_}
-use mathlib.Core.List.{List, _++_}
-use lib.ListN.{length, take, drop, length-drop}
-use lib.Seq.{length-take-le}
+use native.Mathlib.Nat.{le-refl, le-of-eq, le-add-right}
+use mathlib.Core.Path.{_≡_, refl, _∙_}
+use mathlib.Core.List.{List}
+use lib.ListN.{length, take, drop}
 use lib.Ieee.{Float}
 use Rattle.layout.specs.Patterns.{Pattern}
+use Rattle.layout.specs.Blocks.{blockRows}
 use Rattle.supernode_tree.specs.Reads.{patternAt}
+use Rattle.reverse_blocks.proofs.Room.{le-same, begins, fits-count, fits-value, length-part, rest-has, length-put}
 use Rattle.reverse_cones.specs.Parts.{sCut, zCut}
-use Rattle.reverse_cones.proofs.Laws.{rest-whole, replaced, rows-kept}
-use native.Mathlib.Omega.{arith}
-use borrow.Author.Needs.{needs}
+use Rattle.reverse_cones.proofs.Laws.{rests-same, put-made, rows-kept}
 use Rattle.reverse_cones.proofs.join_cut.Statement.{statement}
 use Rattle.reverse_cones.proofs.join_cut.Tie as tie
 
 abbrev here : tie.Start → Pattern
 here s = patternAt (s .args .words .now) (s .args .at)
 
--- a part of an output that was lent
-lent : (s : tie.Start) (out : List Float) → s .args .row + s .args .n ≤ length out
-    → length (take (s .args .row + s .args .n - s .args .row) (drop (s .args .row) out)) ≡ s .args .n
-lent s out h =
-    length-take-le (s .args .row + s .args .n - s .args .row) (drop (s .args .row) out) (omega (arith, length-drop (s .args .row) out)) ∙ omega arith
+-- the values and the rows begin in their slices
+s-begins : (s : tie.Start) → s .args .t ≤ length (s .args .s .now)
+s-begins s = begins (s .args .t) (blockRows (here s)) (length (s .args .s .now)) (s .pre .1 .1 .0 .1)
+
+z-begins : (s : tie.Start) → s .args .t ≤ length (s .args .z .now)
+z-begins s = le-same (s-begins s) (s .pre .1 .1 .0 .2)
+
+s-rows : (s : tie.Start) → s .args .row ≤ length (s .args .s-out .now)
+s-rows s = begins (s .args .row) (s .args .n) (length (s .args .s-out .now)) (s .pre .1 .0 .0)
+
+z-rows : (s : tie.Start) → s .args .row ≤ length (s .args .z-out .now)
+z-rows s = begins (s .args .row) (s .args .n) (length (s .args .z-out .now)) (s .pre .1 .0 .1)
+
+-- where each part is lent
+abbrev start : tie.After-slice-known5 → tie.Start
+start c = c .before .before .before .before .before .before .before .before
+
+abbrev lent : tie.After-join-rows-arg3 → tie.After-slice-known5
+lent c = c .before .before .before
 
 add-e : tie.Need-add-e
-add-e c = search needs
+add-e c = fits-count 8 (start c .pre .1 .0 .0) (start c .good .1 .1 .1 .1 .1 .1 .1 .1 .0)
 
 mul-join-rows : tie.Need-mul-join-rows
-mul-join-rows c = search needs
+mul-join-rows c = fits-value (s-begins (start c)) (start c .good .1 .1 .1 .1 .1 .1 .0)
 
 sub-join-rows : tie.Need-sub-join-rows
-sub-join-rows c = search needs
+sub-join-rows c = s-begins (start c)
 
 part-join-rows-start : tie.Need-part-join-rows-start
-part-join-rows-start c = search needs
+part-join-rows-start c = s-begins (start c)
 
 part-join-rows-end : tie.Need-part-join-rows-end
-part-join-rows-end c = search needs
+part-join-rows-end c = le-refl (length (start c .args .s .now))
 
 mul-join-rows-2 : tie.Need-mul-join-rows-2
-mul-join-rows-2 c = search needs
+mul-join-rows-2 c = let s = start (c .before) in fits-value (z-begins s) (s .good .1 .1 .1 .1 .1 .1 .1 .0)
 
 sub-join-rows-2 : tie.Need-sub-join-rows-2
-sub-join-rows-2 c = search needs
+sub-join-rows-2 c = z-begins (start (c .before))
 
 part-join-rows-start-2 : tie.Need-part-join-rows-start-2
-part-join-rows-start-2 c = search needs
+part-join-rows-start-2 c = z-begins (start (c .before))
 
 part-join-rows-end-2 : tie.Need-part-join-rows-end-2
-part-join-rows-end-2 c = search needs
+part-join-rows-end-2 c = le-refl (length (start (c .before) .args .z .now))
 
 mul-join-rows-3 : tie.Need-mul-join-rows-3
-mul-join-rows-3 c = search needs
+mul-join-rows-3 c = let s = start (c .before .before) in fits-value (s-rows s) (s .good .1 .1 .1 .1 .1 .1 .1 .1 .0)
 
 sub-join-rows-3 : tie.Need-sub-join-rows-3
-sub-join-rows-3 c = search needs
+sub-join-rows-3 c = let a = start (c .before .before) .args in le-add-right (a .row) (a .n)
 
 part-join-rows-start-3 : tie.Need-part-join-rows-start-3
-part-join-rows-start-3 c = search needs
+part-join-rows-start-3 c = let a = start (c .before .before) .args in le-add-right (a .row) (a .n)
 
 part-join-rows-end-3 : tie.Need-part-join-rows-end-3
-part-join-rows-end-3 c = search needs
+part-join-rows-end-3 c = start (c .before .before) .pre .1 .0 .0
 
 mul-join-rows-4 : tie.Need-mul-join-rows-4
-mul-join-rows-4 c = search needs
+mul-join-rows-4 c = let s = start (lent c) in fits-value (z-rows s) (s .good .1 .1 .1 .1 .1 .1 .1 .1 .1 .0)
 
 sub-join-rows-4 : tie.Need-sub-join-rows-4
-sub-join-rows-4 c = search needs
+sub-join-rows-4 c = let a = start (lent c) .args in le-add-right (a .row) (a .n)
 
 part-join-rows-start-4 : tie.Need-part-join-rows-start-4
-part-join-rows-start-4 c = search needs
+part-join-rows-start-4 c = let a = start (lent c) .args in le-add-right (a .row) (a .n)
 
 part-join-rows-end-4 : tie.Need-part-join-rows-end-4
-part-join-rows-end-4 c = search needs
+part-join-rows-end-4 c = start (lent c) .pre .1 .0 .1
 
 join-rows-requires : tie.Need-join-rows-requires
 join-rows-requires c κs =
-    let s = c .before .before .before .before .before .before .before .before .before .before .before .before .before .before .before in
+    let s = start (lent (c .before .before .before .before)) in
     let a = s .args in
-    let s-lent = lent s (a .s-out .now) (s .pre .1 .0 .0) in
-    let z-lent = lent s (a .z-out .now) (s .pre .1 .0 .1) in
-    let s-left = ap length (rest-whole (a .t) (a .s .now)) ∙ length-drop (a .t) (a .s .now) in
-    let z-left = ap length (rest-whole (a .t) (a .z .now)) ∙ length-drop (a .t) (a .z .now) in (
+    let s-part : List Float = take (a .row + a .n - a .row) (drop (a .row) (a .s-out .now)) in
+    let s-lent : length s-part ≡ a .n = length-part (a .row) (a .n) (a .s-out .now) (s .pre .1 .0 .0) in
+    let z-lent = length-part (a .row) (a .n) (a .z-out .now) (s .pre .1 .0 .1) in (
       (s .pre .0 .0, s .pre .0 .1),
       (
         (s-lent ∙ s .pre .0 .2, z-lent ∙ s .pre .0 .2),
         (
-          (s .pre .1 .1 .0 .0, omega (arith, s-left, s .pre .1 .1 .0), omega (arith, s-left, z-left, s .pre .1 .1 .0)),
-          (rows-kept (a .standard) (a .n) (length (take (a .row + a .n - a .row) (drop (a .row) (a .s-out .now)))) (a .counts .now) (a .counts .now) (omega (arith, s-lent)) refl (s .pre .1 .1 .1 .0), s .pre .1 .1 .1 .1),
+          (s .pre .1 .1 .0 .0, rest-has (a .t) (blockRows (here s)) (a .s .now) (s .pre .1 .1 .0 .1), rests-same (a .t) (a .s .now) (a .z .now) (s .pre .1 .1 .0 .2)),
+          (rows-kept (a .standard) (a .n) (length s-part) (a .counts .now) (a .counts .now) (le-of-eq s-lent) refl (s .pre .1 .1 .1 .0), s .pre .1 .1 .1 .1),
         ),
       ),
     )
 
+-- after the rows were joined
+abbrev end : tie.After-slice-known10 → tie.After-join-rows
+end c = c .before .before .before .before .before .before .before .before .before .before
+
+abbrev first : tie.After-join-rows → tie.Start
+first j = start (lent (j .before .before .before .before .before))
+
 same-length : tie.Need-same-length
-same-length c = search needs
+same-length c =
+    let j = end c in
+    let a = first j .args in
+    length-put (a .row) (a .row + a .n - a .row) (a .s-out .now) (j .join-rows .last .1 .1 .1 .1 .1 .0) (s-rows (first j)) (j .join-rows .kept .1 .1 .1 .1 .1 .0)
 
 same-length-2 : tie.Need-same-length-2
-same-length-2 c = search needs
+same-length-2 c =
+    let j = end c in
+    let a = first j .args in
+    length-put (a .row) (a .row + a .n - a .row) (a .z-out .now) (j .join-rows .last .1 .1 .1 .1 .1 .1 .0) (z-rows (first j)) (j .join-rows .kept .1 .1 .1 .1 .1 .1 .0)
 
 same-length-3 : tie.Need-same-length-3
-same-length-3 c = search needs
+same-length-3 c = end c .join-rows .kept .1 .1 .1 .1 .1 .1 .1 .0
 
 same-length-4 : tie.Need-same-length-4
-same-length-4 c = search needs
+same-length-4 c = end c .join-rows .kept .1 .1 .1 .1 .1 .1 .1 .1 .0
 
 same-length-5 : tie.Need-same-length-5
-same-length-5 c = search needs
+same-length-5 c = end c .join-rows .kept .1 .1 .1 .1 .1 .1 .1 .1 .1 .0
 
 returns : tie.Need-returns
 returns c =
-    let j = c .before .before .before .before .before .before .before .before .before .before in
-    let s = j .before .before .before .before .before .before .before .before .before .before .before .before .before .before .before .before in
+    let j = end c in
+    let s = first j in
     let a = s .args in
-    let p = here s in
-    let w = j .join-rows in
-    let k : ℕ = a .row + a .n - a .row in
-    let s-lent = lent s (a .s-out .now) (s .pre .1 .0 .0) in
-    let z-lent = lent s (a .z-out .now) (s .pre .1 .0 .1) in
-    let s-is = w .ensures .1 .0 ∙ ap (sCut (a .standard) p) (rest-whole (a .t) (a .s .now)) in
-    let z-is = w .ensures .1 .1 ∙ ap (zCut (a .standard) p) (rest-whole (a .t) (a .z .now)) in (
+    let w = j .join-rows in (
       w .ensures .0,
       (
-        ap (λ (r : List Float). take (a .row) (a .s-out .now) ++ (r ++ drop k (drop (a .row) (a .s-out .now)))) s-is
-            ∙ replaced (sCut (a .standard) p (drop (a .t) (a .s .now))) (a .s-out .now) (a .row) k (omega (arith, ap length s-is, w .kept .1 .1 .1 .1 .1 .0, s-lent)),
-        ap (λ (r : List Float). take (a .row) (a .z-out .now) ++ (r ++ drop k (drop (a .row) (a .z-out .now)))) z-is
-            ∙ replaced (zCut (a .standard) p (drop (a .t) (a .z .now))) (a .z-out .now) (a .row) k (omega (arith, ap length z-is, w .kept .1 .1 .1 .1 .1 .1 .0, z-lent)),
+        put-made (sCut (a .standard) (here s)) (a .s .now) (w .last .1 .1 .1 .1 .1 .0) (a .s-out .now) (a .t) (a .row) (a .n) (s .pre .1 .0 .0) (w .ensures .1 .0) (w .kept .1 .1 .1 .1 .1 .0),
+        put-made (zCut (a .standard) (here s)) (a .z .now) (w .last .1 .1 .1 .1 .1 .1 .0) (a .z-out .now) (a .t) (a .row) (a .n) (s .pre .1 .0 .1) (w .ensures .1 .1) (w .kept .1 .1 .1 .1 .1 .1 .0),
       ),
     )
 

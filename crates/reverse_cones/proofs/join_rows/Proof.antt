@@ -1,21 +1,22 @@
 use Prim.Native.Nat.{ℕ}
+use native.Mathlib.Nat.{le-refl, le-of-eq}
 use mathlib.Core.Path.{_≡_, refl, ap, sym, subst, _∙_}
 use mathlib.Core.List.{List}
 use lib.ListN.{length, replicate}
 use lib.Ieee.{Float, ofBits}
+use Rattle.layout.specs.Lists.{written}
 use Rattle.layout.specs.Triangle.{triangle}
 use Rattle.layout.specs.Problem.{zero64}
 use Rattle.layout.specs.Patterns.{Pattern}
 use Rattle.layout.specs.Blocks.{blockRows}
 use Rattle.layout.specs.Reverse.{addColumns}
-use Rattle.layout.proofs.Triangles.{triangle-mono}
 use Rattle.supernode_tree.specs.Reads.{patternAt}
 use Rattle.layout.proofs.Buffers.{filled}
-use Rattle.reverse_blocks.specs.Joins.{Countable, joinZ, ownRows}
-use Rattle.reverse_cones.specs.Parts.{zAveraged, CountsRows, Cleared}
-use Rattle.reverse_cones.proofs.Laws.{rows-kept, countable, averaged-by}
-use native.Mathlib.Omega.{arith}
-use borrow.Author.Needs.{needs}
+use Rattle.reverse_blocks.specs.Joins.{Countable, ownRows}
+use Rattle.reverse_blocks.proofs.Laws.{by-same}
+use Rattle.reverse_blocks.proofs.Room.{same-le, both-kept, kept-twice}
+use Rattle.reverse_cones.specs.Parts.{CountsRows, Cleared}
+use Rattle.reverse_cones.proofs.Laws.{rows-kept, countable, few-rows, averaged-cut}
 use Rattle.reverse_cones.proofs.join_rows.Statement.{statement}
 use Rattle.reverse_cones.proofs.join_rows.Tie as tie
 
@@ -24,6 +25,12 @@ here s = patternAt (s .args .words .now) (s .args .at)
 
 abbrev zeros : tie.Start → List Float
 zeros s = replicate (triangle (here s .vertexCount)) zero64
+
+zeros-as : (old new : List Float) (k n : ℕ) → new ≡ written (replicate k zero64) old → k ≡ length old → length old ≡ n → new ≡ replicate n zero64
+zeros-as old new k n e h l = e ∙ filled old k zero64 h ∙ ap (λ (m : ℕ). replicate m zero64) l
+
+sizes : (s : tie.Start) → length (s .args .s-out .now) ≡ length (s .args .z-out .now)
+sizes s = s .pre .1 .0 .0 ∙ sym (s .pre .1 .0 .1)
 
 -- where the outputs were filled, and the counts cleared
 abbrev start : tie.After-fill-values → tie.Start
@@ -36,17 +43,20 @@ s-zeros : (f : tie.After-fill-values) → f .fill-values .last .0 ≡ zeros (sta
 unfolding ofBits
 s-zeros f =
     let s = start f in
-    f .fill-values .ensures ∙ filled (s .args .s-out .now) (length (s .args .s-out .now)) zero64 refl ∙ ap (λ (n : ℕ). replicate n zero64) (s .pre .1 .0 .0)
+    zeros-as (s .args .s-out .now) (f .fill-values .last .0) (length (s .args .s-out .now)) (triangle (here s .vertexCount)) (f .fill-values .ensures) refl (s .pre .1 .0 .0)
 
 z-zeros : (f : tie.After-fill-values2) → f .fill-values2 .last .0 ≡ zeros (start (f .before .before .before .before))
 unfolding ofBits
 z-zeros f =
     let s = start (f .before .before .before .before) in
-    f .fill-values2 .ensures ∙ filled (s .args .z-out .now) (length (s .args .s-out .now)) zero64 (omega (arith, s .pre .1 .0)) ∙ ap (λ (n : ℕ). replicate n zero64) (s .pre .1 .0 .1)
+    zeros-as (s .args .z-out .now) (f .fill-values2 .last .0) (length (s .args .s-out .now)) (triangle (here s .vertexCount)) (f .fill-values2 .ensures) (sizes s) (s .pre .1 .0 .1)
 
 -- after the pattern was joined: as many rows as the cone has, and the counts
 abbrev cleared : tie.After-join-pattern → tie.After-clear-counts
 cleared j = j .before .before .before .before .before .before .before .before
+
+abbrev z-filled : tie.After-clear-counts → tie.After-fill-values2
+z-filled k = k .before .before .before .before
 
 abbrev z-joined : tie.After-join-pattern → List Float
 z-joined j = j .join-pattern .last .1 .1 .1 .1 .1 .1 .0
@@ -57,25 +67,30 @@ counted j = j .join-pattern .last .1 .1 .1 .1 .1 .1 .1 .0
 size : (j : tie.After-join-pattern) → length (z-joined j) ≡ length (start (s-filled (cleared j)) .args .s-out .now)
 size j =
     let k = cleared j in
+    kept-twice (j .join-pattern .kept .1 .1 .1 .1 .1 .1 .0) (z-filled k .fill-values2 .kept .0) (sym (sizes (start (s-filled k))))
+
+-- the counts have room
+s-room : (k : tie.After-clear-counts) → let a = start (s-filled k) .args in CountsRows (a .standard) (length (a .s-out .now)) (k .clear-counts .last .1 .1 .0)
+s-room k =
     let s = start (s-filled k) in
-    omega (arith, j .join-pattern .kept .1 .1 .1 .1 .1 .1 .0, k .before .before .before .before .fill-values2 .kept .0, s .pre .1 .0)
+    let a = s .args in
+    let n = length (a .s-out .now) in
+    rows-kept (a .standard) n n (a .counts .now) (k .clear-counts .last .1 .1 .0) (le-refl n) (k .clear-counts .kept .1 .1 .0) (s .pre .1 .1 .1 .0)
 
 room : (j : tie.After-join-pattern) → CountsRows (start (s-filled (cleared j)) .args .standard) (length (z-joined j)) (counted j)
 room j =
     let k = cleared j in
-    let s = start (s-filled k) in
-    let a = s .args in
-    rows-kept (a .standard) (length (a .s-out .now)) (length (z-joined j)) (a .counts .now) (counted j) (omega (arith, size j))
-    (j .join-pattern .kept .1 .1 .1 .1 .1 .1 .1 .0 ∙ k .clear-counts .kept .1 .1 .0) (s .pre .1 .1 .1 .0)
+    let a = start (s-filled k) .args in
+    rows-kept (a .standard) (length (a .s-out .now)) (length (z-joined j)) (k .clear-counts .last .1 .1 .0) (counted j) (le-of-eq (size j)) (j .join-pattern .kept .1 .1 .1 .1 .1 .1 .1 .0) (s-room k)
 
 fill-values-requires : tie.Need-fill-values-requires
-fill-values-requires c κs = search needs
+fill-values-requires c κs = le-refl (length (c .before .before .before .before .before .before .before .before .before .args .s-out .now))
 
 fill-values-requires-2 : tie.Need-fill-values-requires-2
-fill-values-requires-2 c κs = search needs
+fill-values-requires-2 c κs = le-of-eq (sizes (start (c .before .before .before)))
 
 clear-counts-requires : tie.Need-clear-counts-requires
-clear-counts-requires c κs = search needs
+clear-counts-requires c κs = start (c .before .before .before .before .before .before .before) .pre .1 .1 .1 .0
 
 join-pattern-requires : tie.Need-join-pattern-requires
 join-pattern-requires c κs =
@@ -85,18 +100,15 @@ join-pattern-requires c κs =
     let a = s .args in
     let p = here s in
     let n = f .fill-values .kept .0 in
-    let m = k .before .before .before .before .fill-values2 .kept .0 in
-    let small = triangle-mono (p .vertexCount) 256 (s .pre .0 .1) in (
+    let rows : length (f .fill-values .last .0) ≡ triangle (p .vertexCount) = n ∙ s .pre .1 .0 .0 in (
       s .pre .0,
       (
-        (omega (arith, n, s .pre .1 .0), omega (arith, n, m, s .pre .1 .0), omega (arith, n, s .pre .1 .0, small)),
+        (le-of-eq (sym rows), both-kept (z-filled k .fill-values2 .kept .0) (sym (sizes s)) n, same-le rows (few-rows (p .vertexCount) (s .pre .0 .1))),
         (
           (s .pre .1 .1 .0 .1, s .pre .1 .1 .0 .2),
           (
             subst (λ (q : ℕ). Countable (a .standard) q (blockRows p) (k .clear-counts .last .1 .1 .0)) (sym n)
-                (countable (a .standard) (length (a .s-out .now)) (blockRows p) (k .clear-counts .last .1 .1 .0) (s .pre .1 .1 .0 .0)
-                (rows-kept (a .standard) (length (a .s-out .now)) (length (a .s-out .now)) (a .counts .now) (k .clear-counts .last .1 .1 .0) (omega arith) (k .clear-counts .kept .1 .1 .0) (s .pre .1 .1 .1 .0))
-                (k .clear-counts .ensures)),
+                (countable (a .standard) (length (a .s-out .now)) (blockRows p) (k .clear-counts .last .1 .1 .0) (s .pre .1 .1 .0 .0) (s-room k) (k .clear-counts .ensures)),
             s .pre .1 .1 .1 .1,
           ),
         ),
@@ -106,38 +118,48 @@ join-pattern-requires c κs =
 average-requires : tie.Need-average-requires
 average-requires c κs = room (c .before .before .before .before .before .before .before .before .before .before .before .before)
 
+-- after the averages
+abbrev averaged : tie.After-slice-known14 → tie.After-average
+averaged c = c .before .before
+
+abbrev joined : tie.After-average → tie.After-join-pattern
+joined v = v .before .before .before .before .before .before .before .before .before .before .before .before .before
+
 same-length : tie.Need-same-length
-same-length c = search needs
+same-length c = let j = joined (averaged c) in j .join-pattern .kept .1 .1 .1 .1 .1 .0 ∙ s-filled (cleared j) .fill-values .kept .0
 
 same-length-2 : tie.Need-same-length-2
-same-length-2 c = search needs
+same-length-2 c =
+    let v = averaged c in
+    let j = joined v in
+    kept-twice (v .average .kept .1 .0) (j .join-pattern .kept .1 .1 .1 .1 .1 .1 .0) (z-filled (cleared j) .fill-values2 .kept .0)
 
 same-length-3 : tie.Need-same-length-3
-same-length-3 c = search needs
+same-length-3 c = let j = joined (averaged c) in j .join-pattern .kept .1 .1 .1 .1 .1 .1 .1 .0 ∙ cleared j .clear-counts .kept .1 .1 .0
 
 same-length-4 : tie.Need-same-length-4
-same-length-4 c = search needs
+same-length-4 c = joined (averaged c) .join-pattern .kept .1 .1 .1 .1 .1 .1 .1 .1 .0
 
 same-length-5 : tie.Need-same-length-5
-same-length-5 c = search needs
+same-length-5 c = joined (averaged c) .join-pattern .kept .1 .1 .1 .1 .1 .1 .1 .1 .1 .0
 
 returns : tie.Need-returns
 returns c =
-    let v = c .before .before in
-    let j = v .before .before .before .before .before .before .before .before .before .before .before .before .before in
+    let v = averaged c in
+    let j = joined v in
     let k = cleared j in
     let f = s-filled k in
     let s = start f in
     let a = s .args in
     let os = ownRows (a .standard) (here s) in
     let e = j .join-pattern .ensures in
-    let clear : Cleared (a .standard) (length (z-joined j)) (k .clear-counts .last .1 .1 .0) =
-    subst (λ (n : ℕ). Cleared (a .standard) n (k .clear-counts .last .1 .1 .0)) (sym (size j)) (k .clear-counts .ensures) in (
+    let before = k .clear-counts .last .1 .1 .0 in
+    let clear : Cleared (a .standard) (length (z-joined j)) before = subst (λ (n : ℕ). Cleared (a .standard) n before) (sym (size j)) (k .clear-counts .ensures) in (
       e .0,
       (
-        e .1 .0 ∙ ap (addColumns os (a .s .now)) (s-zeros f),
-        v .average .ensures ∙ averaged-by (a .standard) os (k .clear-counts .last .1 .1 .0) (counted j) (z-joined j) (room j) clear (e .1 .1 .1)
-            ∙ ap (zAveraged (a .standard) os) (e .1 .1 .0 ∙ ap (joinZ (a .standard) os (a .z .now)) (z-zeros (k .before .before .before .before))),
+        by-same (addColumns os (a .s .now)) (e .1 .0) (s-zeros f),
+        averaged-cut (a .standard) os before (counted j) (a .z .now) (zeros s) (z-filled k .fill-values2 .last .0) (z-joined j) (v .average .last .1 .0) (room j) clear (e .1 .1 .1)
+            (v .average .ensures) (e .1 .1 .0) (z-zeros (z-filled k)),
       ),
     )
 

@@ -3,10 +3,9 @@ use native.Mathlib.Nat.{le-trans}
 use native.Mathlib.Omega.{arith}
 use mathlib.Core.Path.{_≡_, refl, ap, ap₂, _∙_}
 use mathlib.Core.List.{List, [], _∷_}
-use lib.ListN.{length, set}
+use lib.ListN.{length, set, length-set}
 use lib.Dec.{lit≤}
 use borrow.Author.Tests.{le-leb, lt-leb}
-use borrow.Author.Needs.{needs}
 use Rattle.layout.specs.Lists.{written}
 use Rattle.layout.specs.Triangle.{indexRow, indexColumn}
 use Rattle.layout.proofs.Buffers.{set-written}
@@ -29,16 +28,21 @@ returns-2 c =
     simp (le-leb (s .args .index) 32895 (omega arith), lt-leb 2 (length (s .args .out .now)) (omega arith)) (refl, refl)
 
 upper-triangular-index-to-coord-requires : tie.Need-upper-triangular-index-to-coord-requires
-upper-triangular-index-to-coord-requires c κs = search needs
+upper-triangular-index-to-coord-requires c κs = within c
 
 slice-write-out : tie.Need-slice-write-out
 slice-write-out c = le-trans (lit≤ tt) (room (c .before))
 
 slice-write-out-2 : tie.Need-slice-write-out-2
-slice-write-out-2 c = search needs
+slice-write-out-2 c =
+    let out = c .before .before .before .before .args .out .now in
+    rw (length-set out 0 (c .upper-triangular-index-to-coord .result .row)) (room (c .before))
 
 same-length : tie.Need-same-length
-same-length c = search needs
+same-length c =
+    let out = c .before .before .before .before .args .out .now in
+    let at = c .upper-triangular-index-to-coord .result in
+    length-set (set out 0 (at .row)) 1 (at .col) ∙ length-set out 0 (at .row)
 
 returns-3 : tie.Need-returns-3
 returns-3 c =

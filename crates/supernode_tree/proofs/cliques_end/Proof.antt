@@ -1,9 +1,10 @@
-use Rattle.supernode_tree.proofs.Many.{ended-short, ended-next, ended-none}
-use Rattle.supernode_tree.proofs.Words.{clique-found}
-use Rattle.supernode_tree.specs.Reads.{cliqueRead, ended}
+use Rattle.supernode_tree.proofs.Many.{ended-short, ended-next, ended-none, not-whole}
+use Rattle.supernode_tree.specs.Reads.{ended}
 use Rattle.layout.specs.Patterns.{readClique, readCliques}
 use lib.ListN.{drop}
+use borrow.Author.Tests.{not-true, not-false}
 use mathlib.Core.Path.{_≡_, refl, sym, ap, _∙_}
+use native.Mathlib.Omega.{arith}
 use borrow.Author.Needs.{needs}
 use Rattle.supernode_tree.proofs.cliques_end.Statement.{statement}
 use Rattle.supernode_tree.proofs.cliques_end.Tie as tie
@@ -15,38 +16,34 @@ abbrev μ-loop : tie.MeasureT-loop
 μ-loop words first count at₀ left₀ at left = left
 
 loop-holds : tie.Need-loop-holds Inv-loop μ-loop
-loop-holds c = search needs
+loop-holds c = refl
 
-read-requires : tie.Need-read-requires Inv-loop μ-loop
-read-requires c κs = search needs
-
-enum-known-q : tie.Need-enum-known-q Inv-loop μ-loop
-enum-known-q c = search needs
-
-enum-told : tie.Need-enum-told Inv-loop μ-loop
-enum-told c = search needs
+stands-requires : tie.Need-stands-requires Inv-loop μ-loop
+stands-requires c κs = search needs
 
 returns : tie.Need-returns Inv-loop μ-loop
 returns c =
-    let l = c .before .before .before .before in
-    let ws = l .before .before .args .words .now in
-    sym (ended-short readClique (l .loop .left) (drop (l .loop .at) ws) (c .before .before .before .loop-test .taken) _
-    (ap ended (sym (c .before .before .read .ensures .0) ∙ ap (cliqueRead ws) (c .enum-told .given .1))) refl) ∙ l .loop .inv
+    let i = c .before .before in
+    let l = i .before in
+    let here = drop (l .loop .at) (l .before .before .args .words .now) in
+    sym (ended-short readClique (l .loop .left) here (i .loop-test .taken) _
+    (ap ended (not-whole (readClique here) (sym (c .before .stands .ensures) ∙ not-true _ (c .if1 .taken)))) refl) ∙ l .loop .inv
+
+here-requires : tie.Need-here-requires Inv-loop μ-loop
+here-requires c κs = sym (c .before .stands .ensures) ∙ not-false _ (c .if1 .left)
 
 sub-left : tie.Need-sub-left Inv-loop μ-loop
-sub-left c = search needs
+sub-left c = c .before .before .before .loop-test .taken
 
 loop-less : tie.Need-loop-less Inv-loop μ-loop
-loop-less c = search needs
+loop-less c = omega arith
 
 loop-again : tie.Need-loop-again Inv-loop μ-loop
 loop-again c =
-    let l = c .before .before .before .before .before in
-    let ws = l .before .before .args .words .now in
-    let g = c .before .q .given in
-    let r = c .before .before .before in
-    sym (ended-next readClique (l .loop .left) (drop (l .loop .at) ws) (r .before .loop-test .taken) _
-    (ap ended (clique-found ws (l .loop .at) _ (g .0 .0) (r .read .ensures .0) (g .1))) _ refl) ∙ l .loop .inv
+    let i = c .before .before .before in
+    let l = i .before in
+    sym (ended-next readClique (l .loop .left) (drop (l .loop .at) (l .before .before .args .words .now)) (i .loop-test .taken) _
+    (ap ended (sym (c .here .ensures .0))) _ refl) ∙ l .loop .inv
 
 returns-2 : tie.Need-returns-2 Inv-loop μ-loop
 returns-2 c =
@@ -60,10 +57,9 @@ cliques-end-spec =
     Inv-loop
     μ-loop
     loop-holds
-    read-requires
-    enum-known-q
-    enum-told
+    stands-requires
     returns
+    here-requires
     sub-left
     loop-less
     loop-again

@@ -1,11 +1,12 @@
 use native.Mathlib.Nat.{div-le-self, div-mul-le-self, lt-of-mul-lt-mul-right}
-use Prim.Native.Nat.{_*_, _/_, _≤_, _<_}
+use Prim.Native.Nat.{_+_, _-_, _*_, _/_, _≤_, _<_}
 use mathlib.Core.Path.{_≡_, sym, ap, _∙_}
 use lib.ListN.{length, getD, drop, List·getD-eq-default}
 use Rattle.layout.specs.Patterns.{noClique, members, readClique}
-use Rattle.supernode_tree.specs.Reads.{cliquesFrom}
+use Rattle.supernode_tree.specs.Reads.{valueOr, cliquesFrom}
 use Rattle.supernode_tree.proofs.Many.{many-length}
-use Rattle.supernode_tree.proofs.Offsets.{after-whole, after-at}
+use Rattle.supernode_tree.proofs.Cliques.{first-whole, members-part}
+use Rattle.supernode_tree.proofs.Offsets.{after, whole-front, after-whole, after-more, after-clique}
 use native.Mathlib.Omega.{arith}
 use borrow.Author.Needs.{needs}
 use Rattle.supernode_tree.proofs.members_by.Statement.{statement}
@@ -14,6 +15,10 @@ use Rattle.supernode_tree.proofs.members_by.Tie as tie
 -- as many cliques are passed as the offset is away from the first
 passed-le : (c : tie.Else1) → let s = c .before .before .before in s .args .c / s .args .step * s .args .step ≤ s .args .c
 passed-le c = let s = c .before .before .before in div-mul-le-self (s .args .c) (s .args .step)
+
+-- and that offset is one of the table
+passed-less : (c : tie.Else1) → let s = c .before .before .before in s .args .c / s .args .step * s .args .step < s .args .count
+passed-less c = omega (arith, passed-le c)
 
 offset-inside : (c : tie.Else1) → let s = c .before .before .before in s .args .c / s .args .step < length (s .args .offsets .now)
 offset-inside c = let s = c .before .before .before in lt-of-mul-lt-mul-right (s .args .step) (omega (arith, passed-le c))
@@ -28,43 +33,65 @@ returns c =
 div-i : tie.Need-div-i
 div-i c = search needs
 
-mul-passed : tie.Need-mul-passed
-mul-passed c = omega (arith, passed-le c)
+cast-cliques-next : tie.Need-cast-cliques-next
+cast-cliques-next c = omega (arith, div-le-self (c .before .before .before .args .c) (c .before .before .before .args .step))
 
-cast-members-of : tie.Need-cast-members-of
-cast-members-of c = omega (arith, div-le-self (c .before .before .before .args .c) (c .before .before .before .args .step))
+mul-cliques-next : tie.Need-mul-cliques-next
+mul-cliques-next c = omega (arith, offset-inside c)
 
-mul-members-of : tie.Need-mul-members-of
-mul-members-of c = omega (arith, offset-inside c)
+shared-slice-read-cliques-next : tie.Need-shared-slice-read-cliques-next
+shared-slice-read-cliques-next c = offset-inside (c .before)
 
-shared-slice-read-members-of : tie.Need-shared-slice-read-members-of
-shared-slice-read-members-of c = offset-inside (c .before)
+mul-cliques-next-2 : tie.Need-mul-cliques-next-2
+mul-cliques-next-2 c = omega (arith, passed-le (c .before))
 
-sub-members-of : tie.Need-sub-members-of
-sub-members-of c = omega (arith, passed-le (c .before))
+sub-cliques-next : tie.Need-sub-cliques-next
+sub-cliques-next c = passed-le (c .before)
 
-sub-members-of-2 : tie.Need-sub-members-of-2
-sub-members-of-2 c = omega (arith, passed-le (c .before))
-
-members-of-requires : tie.Need-members-of-requires
-members-of-requires c κs =
-    let s = c .before .before .before .before in
+cliques-next-requires : tie.Need-cliques-next-requires
+cliques-next-requires c κs =
+    let e = c .before in
+    let s = e .before .before .before in
     let i = s .args .c / s .args .step in
-    after-whole (s .args .words .now) (s .args .first) (s .args .count) (s .pre .0) (i * s .args .step) (getD (s .args .offsets .now) i 0) (omega (arith, passed-le (c .before)))
-    (s .pre .1 .1 i (omega (arith, passed-le (c .before))))
+    let at = getD (s .args .offsets .now) i 0 in
+    whole-front (s .args .words .now) at (s .args .c - i * s .args .step) (s .args .count - i * s .args .step) (omega (arith, passed-le e))
+    (after-whole (s .args .words .now) (s .args .first) (s .args .count) (s .pre .0) (i * s .args .step) at (omega (arith, passed-less e))
+    (s .pre .1 .1 i (passed-less e)))
 
-returns-2 : tie.Need-returns-2
-returns-2 c =
+-- the clique is found
+found : (c : tie.After-cliques-next) → let s = c .before .before .before .before .before in
+    drop (c .cliques-next .result) (s .args .words .now) ≡ after (s .args .words .now) (s .args .first) (s .args .c)
+found c =
     let e = c .before .before in
     let s = e .before .before .before in
     let ws = s .args .words .now in
     let i = s .args .c / s .args .step in
-    let r = c .members-of .ensures in (
-      r .0
-          ∙ ap members (sym (after-at ws (s .args .first) (s .args .count) (s .pre .0) (i * s .args .step) (getD (s .args .offsets .now) i 0) (omega (arith, passed-le e))
-          (s .pre .1 .1 i (omega (arith, passed-le e))) (s .args .c) (passed-le e))),
-      r .1,
-      r .2,
+    let q : i * s .args .step + (s .args .c - i * s .args .step) ≡ s .args .c = omega (arith, passed-le e) in
+    rw q at (after-more ws (s .args .first) (s .args .count) (s .pre .0) (i * s .args .step) (getD (s .args .offsets .now) i 0) (omega (arith, passed-less e))
+    (s .pre .1 .1 i (passed-less e)) (s .args .c - i * s .args .step) (c .cliques-next .result) (omega (arith, passed-le e)) (c .cliques-next .ensures))
+
+-- it is one of those that stand whole
+less : (c : tie.After-cliques-next) → let s = c .before .before .before .before .before in s .args .c < s .args .count
+less c = c .before .before .if1 .left
+
+here-requires : tie.Need-here-requires
+here-requires c κs =
+    let s = c .before .before .before .before .before in
+    let ws = s .args .words .now in
+    first-whole ws (c .cliques-next .result) (s .args .count - s .args .c) (omega arith)
+    (after-whole ws (s .args .first) (s .args .count) (s .pre .0) (s .args .c) (c .cliques-next .result) (omega arith) (found c))
+
+returns-2 : tie.Need-returns-2
+returns-2 c =
+    let f = c .before in
+    let s = f .before .before .before .before .before in
+    let ws = s .args .words .now in
+    let q = c .here .result in
+    let at = f .cliques-next .result in (
+      members-part ws at q (c .here .ensures .1)
+          ∙ ap members (ap (valueOr noClique) (c .here .ensures .0 ∙ after-clique ws (s .args .first) (s .args .count) (s .pre .0) (s .args .c) at (less f) (found f))),
+      omega (arith, c .here .ensures .1),
+      c .here .ensures .1 .3,
     )
 
 pub members-by-spec : {M : Type 1} → statement M
@@ -73,11 +100,11 @@ members-by-spec =
     (tie.spec
     returns
     div-i
-    mul-passed
-    cast-members-of
-    mul-members-of
-    shared-slice-read-members-of
-    sub-members-of
-    sub-members-of-2
-    members-of-requires
+    cast-cliques-next
+    mul-cliques-next
+    shared-slice-read-cliques-next
+    mul-cliques-next-2
+    sub-cliques-next
+    cliques-next-requires
+    here-requires
     returns-2)

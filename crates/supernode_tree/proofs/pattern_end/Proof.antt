@@ -1,38 +1,34 @@
 use Rattle.supernode_tree.proofs.Cliques.{no-pattern, ended-by-cliques}
-use Rattle.supernode_tree.proofs.Words.{head-found}
-use Rattle.supernode_tree.specs.Reads.{patternRead, headOf, ended}
+use Rattle.supernode_tree.proofs.Many.{not-whole}
+use Rattle.supernode_tree.specs.Reads.{headOf, ended}
 use lib.ListN.{drop}
+use borrow.Author.Tests.{not-true, not-false}
 use mathlib.Core.Path.{sym, ap, _∙_}
 use borrow.Author.Needs.{needs}
 use Rattle.supernode_tree.proofs.pattern_end.Statement.{statement}
 use Rattle.supernode_tree.proofs.pattern_end.Tie as tie
 
-read-requires : tie.Need-read-requires
-read-requires c κs = search needs
-
-enum-known-p : tie.Need-enum-known-p
-enum-known-p c = search needs
-
-enum-told : tie.Need-enum-told
-enum-told c = search needs
+stands-requires : tie.Need-stands-requires
+stands-requires c κs = search needs
 
 returns : tie.Need-returns
 returns c =
-    let s = c .before .before .before .before in
-    let ws = s .args .words .now in
-    sym (ap ended (no-pattern (drop (s .args .at) ws) (sym (c .before .before .read .ensures .0) ∙ ap (patternRead ws) (c .enum-told .given .1))))
+    let s = c .before .before .before in
+    let here = drop (s .args .at) (s .args .words .now) in
+    sym (ap ended (no-pattern here (not-whole _ (sym (c .before .stands .ensures) ∙ not-true _ (c .if1 .taken)))))
+
+here-requires : tie.Need-here-requires
+here-requires c κs = sym (c .before .stands .ensures) ∙ not-false _ (c .if1 .left)
 
 cliques-end-requires : tie.Need-cliques-end-requires
 cliques-end-requires c κs = search needs
 
 returns-2 : tie.Need-returns-2
 returns-2 c =
-    let k = c .before in
-    let s = k .before .before .before .before .before in
+    let h = c .before in
+    let s = h .before .before .before .before in
     let ws = s .args .words .now in
-    let g = k .before .p .given in
-    let head = head-found ws (s .args .at) _ (g .0 .0) (k .before .before .before .read .ensures .0) (g .1) in
-    c .cliques-end .ensures ∙ sym (ended-by-cliques (drop (s .args .at) ws) (headOf ws (g .0 .0)) _ head)
+    c .cliques-end .ensures ∙ sym (ended-by-cliques (drop (s .args .at) ws) (headOf ws (h .here .result)) _ (sym (h .here .ensures .0)))
 
 pub pattern-end-spec : {M : Type 1} → statement M
-pattern-end-spec = tie.close (tie.spec read-requires enum-known-p enum-told returns cliques-end-requires returns-2)
+pattern-end-spec = tie.close (tie.spec stands-requires returns here-requires cliques-end-requires returns-2)

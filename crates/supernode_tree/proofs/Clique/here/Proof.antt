@@ -1,8 +1,8 @@
 use Prim.Native.Nat.{_+_, _≤_}
 use native.Mathlib.Omega.{arith}
-use mathlib.Core.Path.{refl, sym}
+use mathlib.Core.Path.{refl}
 use lib.ListN.{length, getD}
-use Rattle.supernode_tree.proofs.Words.{clique-fits, clique-whole}
+use Rattle.supernode_tree.proofs.Words.{clique-fits, clique-made}
 use Rattle.supernode_tree.proofs.Clique.here.Statement.{statement}
 use Rattle.supernode_tree.proofs.Clique.here.Tie as tie
 
@@ -10,48 +10,40 @@ fits : (s : tie.Start) → let ws = s .args .words .now in let at = s .args .at 
 fits s = clique-fits (s .args .words .now) (s .args .at) (s .pre)
 
 mul-parent : tie.Need-mul-parent
-mul-parent c = omega (arith, fits c)
+mul-parent c = omega (arith, fits (c .before))
 
 shared-slice-read-parent : tie.Need-shared-slice-read-parent
-shared-slice-read-parent c = omega (arith, fits (c .before))
+shared-slice-read-parent c = omega (arith, fits (c .before .before))
 
-add-snode-count : tie.Need-add-snode-count
-add-snode-count c = omega (arith, fits (c .before))
+add-word : tie.Need-add-word
+add-word c = omega (arith, fits (c .before .before))
 
-mul-snode-count : tie.Need-mul-snode-count
-mul-snode-count c = omega (arith, fits (c .before))
+word-requires : tie.Need-word-requires
+word-requires c κs = omega (arith, fits (c .before .before))
 
-shared-slice-read-snode-count : tie.Need-shared-slice-read-snode-count
-shared-slice-read-snode-count c = omega (arith, fits (c .before .before))
+add-word-2 : tie.Need-add-word-2
+add-word-2 c = omega (arith, fits (c .before .before .before))
 
-cast-snode-count : tie.Need-cast-snode-count
-cast-snode-count c = omega (arith, c .shared-slice-known2 .given (c .before .before .args .at + 1))
+word-requires-2 : tie.Need-word-requires-2
+word-requires-2 c κs = omega (arith, fits (c .before .before .before))
 
-add-separator-count : tie.Need-add-separator-count
-add-separator-count c = omega (arith, fits (c .before .before))
-
-mul-separator-count : tie.Need-mul-separator-count
-mul-separator-count c = omega (arith, fits (c .before .before))
-
-shared-slice-read-separator-count : tie.Need-shared-slice-read-separator-count
-shared-slice-read-separator-count c = omega (arith, fits (c .before .before .before))
-
-cast-separator-count : tie.Need-cast-separator-count
-cast-separator-count c = omega (arith, c .shared-slice-known3 .given (c .before .before .before .args .at + 2))
+-- the end, by the counts that were read
+fits-read : (c : tie.After-word2) → let s = c .before .before .before .before in s .args .at + 3 + c .before .word .result + c .word2 .result ≤ length (s .args .words .now)
+fits-read c = omega (arith, fits (c .before .before .before .before))
 
 add-snode : tie.Need-add-snode
-add-snode c = omega (arith, fits (c .before .before .before))
+add-snode c = omega (arith, fits-read c)
 
 add-separator : tie.Need-add-separator
-add-separator c = omega (arith, fits (c .before .before .before))
+add-separator c = omega (arith, fits-read c)
 
 add-t8 : tie.Need-add-t8
-add-t8 c = omega (arith, fits (c .before .before .before))
+add-t8 c = omega (arith, fits-read c)
 
 returns : tie.Need-returns
 returns c =
-    let s = c .before .before .before in
-    (sym (clique-whole (s .args .words .now) (s .args .at) (fits s)), (refl, refl, refl, fits s))
+    let s = c .before .before .before .before in
+    (clique-made (s .args .words .now) (s .args .at) _ _ (c .before .word .ensures .0) (c .word2 .ensures .0) (fits s), (refl, refl, refl, fits-read c))
 
 pub here-spec : {M : Type 1} → statement M
 here-spec =
@@ -59,14 +51,10 @@ here-spec =
     (tie.spec
     mul-parent
     shared-slice-read-parent
-    add-snode-count
-    mul-snode-count
-    shared-slice-read-snode-count
-    cast-snode-count
-    add-separator-count
-    mul-separator-count
-    shared-slice-read-separator-count
-    cast-separator-count
+    add-word
+    word-requires
+    add-word-2
+    word-requires-2
     add-snode
     add-separator
     add-t8

@@ -1,0 +1,46 @@
+-- What the checks say of constraints that a route accepts, as the writers ask it.
+use Prim.Native.Nat.{ℕ, suc, _+_, _*_, _≤_}
+use native.Mathlib.Omega.{arith}
+use mathlib.Core.Path.{_≡_, ap, _∙_}
+use mathlib.Core.List.{List}
+use lib.ListN.{length}
+use lib.Dec.{T}
+use mir.Syntax.{w32}
+use mir.Val.{Fits}
+use Rattle.layout.specs.Lists.{written}
+use Rattle.layout.specs.Problem.{Problem, Route}
+use Rattle.layout.specs.Checks.{Sound, startsRight}
+use Rattle.layout.proofs.Accepted.{accepted-sound, accepted-checked}
+use Rattle.layout.proofs.Columns.{right-A}
+use Rattle.augment_standard.specs.Constraints.{completed, Accepted}
+
+-- what was written, by an equal list
+pub renamed : {A : Type 0} {out xs ys : List A} (old : List A) → xs ≡ ys → out ≡ written xs old → out ≡ written ys old
+renamed old e w = w ∙ ap (λ zs. written zs old) e
+
+-- a count of entries fits a u32
+pub fits-u32 : (k : ℕ) → k ≤ 262144 → Fits w32 k
+fits-u32 k few = omega arith
+
+module _ {route : Route} {p : Problem} (h : Accepted route p) where
+  abbrev pub whole : Problem
+  whole = completed (h .P) (h .q) (h .alphas) p
+
+  pub sound : Sound (p .m) (p .cones) (p .patternCount) (p .patternWords)
+  sound = accepted-sound route whole (h .accepted)
+
+  pub few-entries : length (p .A .values) ≤ 262144
+  few-entries = accepted-checked route whole (h .accepted) .fewEntriesA
+
+  pub starts-right : T (startsRight (p .n) (p .A))
+  starts-right = accepted-checked route whole (h .accepted) .startsA
+
+  pub same-b : length (p .b) ≡ p .m
+  same-b = accepted-checked route whole (h .accepted) .lengthB
+
+  pub even-A : length (p .A .rows) ≡ length (p .A .values)
+  even-A = right-A route whole (h .accepted) .even
+
+  -- room for the starts of A and of k columns more
+  pub room-starts : (k room : ℕ) → suc (p .n + k) ≤ room → length (p .A .starts) + k ≤ room
+  room-starts k room r = omega (arith, right-A route whole (h .accepted) .count, r)

@@ -1,0 +1,155 @@
+// A, b, the cones and the cone map of a whole problem that a route accepts, and the counts that its writers take.
+ghost use mathlib.Core.Path.{_≡_};
+ghost use Prim.Native.Nat.{suc, _+_, _*_, _≤_};
+ghost use lib.ListN.{length};
+ghost use Rattle.layout.specs.Lists.{written};
+ghost use Rattle.layout.specs.Problem.{compact};
+ghost use Rattle.layout.specs.Blocks.{blockRowCount, overlapCount};
+ghost use Rattle.layout.specs.Checks.{Sound};
+ghost use Rattle.layout.specs.Compact.{compactA, compactB, compactCones};
+ghost use Rattle.layout.specs.Answers.{joinedParts, routeOf, augmented, addedCount, slackCount};
+ghost use Rattle.augment_standard.specs.Constraints.{constraints, Accepted};
+use tables::Table;
+
+// How many rows the blocks of a cut have, and how many columns the route adds.
+pub struct Added {
+    pub rows: usize,
+    pub columns: usize,
+}
+
+pub fn count_added(route: u32, m: u32, cones: &[u32], count: u32, words: &[u32]) -> Added
+    requires { ⌜ Sound m (now cones) count (now words) ⌝ }
+    ensures { λ r. ⌜ (r .rows ≡ blockRowCount (joinedParts (now (cones .entry)) count (now (words .entry)))) × (r .columns ≡ addedCount (routeOf route) (joinedParts (now (cones .entry)) count (now (words .entry)))) ⌝ }
+{
+    let d = parts::get_decomposed_dim_and_overlaps(m, cones, count, words);
+    if route == 0 {
+        return Added {
+            rows: d.rows as usize,
+            columns: d.rows as usize,
+        };
+    }
+    Added {
+        rows: d.rows as usize,
+        columns: d.overlaps as usize,
+    }
+}
+
+// Writes A, b and the cones of the compact cut: of constraints that the route accepts, with `rows` augmented rows and k overlaps.
+pub fn decomp_augment_compact(
+    n: u32,
+    m: u32,
+    a_starts: &[u32],
+    a_rows: &[u32],
+    a_values: &[f64],
+    b: &[f64],
+    cones: &[u32],
+    count: u32,
+    words: &[u32],
+    rows: usize,
+    k: usize,
+    a_starts_out: &mut [u32],
+    a_rows_out: &mut [u32],
+    a_values_out: &mut [f64],
+    b_out: &mut [f64],
+    cones_out: &mut [u32],
+)
+    requires { ⌜ Accepted compact (constraints n m (now «a_starts») (now «a_rows») (now «a_values») (now b) (now cones) count (now words)) ⌝ }
+    requires { ⌜ (rows ≡ blockRowCount (joinedParts (now cones) count (now words))) × (k ≡ overlapCount (joinedParts (now cones) count (now words))) ⌝ }
+    requires { ⌜ (suc (n + k) ≤ length (now «a_starts_out»)) × (length (now «a_values») + 2 * k ≤ length (now «a_rows_out»)) × (length (now «a_values») + 2 * k ≤ length (now «a_values_out»)) × (rows ≤ length (now «b_out»)) × (length (compactCones (constraints n m (now «a_starts») (now «a_rows») (now «a_values») (now b) (now cones) count (now words))) ≤ length (now «cones_out»)) ⌝ }
+    ensures { λ _. ⌜ now («a_starts_out» .exit) ≡ written (compactA (constraints n m (now («a_starts» .entry)) (now («a_rows» .entry)) (now («a_values» .entry)) (now (b .entry)) (now (cones .entry)) count (now (words .entry))) .starts) (now («a_starts_out» .entry)) ⌝ }
+    ensures { λ _. ⌜ now («a_rows_out» .exit) ≡ written (compactA (constraints n m (now («a_starts» .entry)) (now («a_rows» .entry)) (now («a_values» .entry)) (now (b .entry)) (now (cones .entry)) count (now (words .entry))) .rows) (now («a_rows_out» .entry)) ⌝ }
+    ensures { λ _. ⌜ now («a_values_out» .exit) ≡ written (compactA (constraints n m (now («a_starts» .entry)) (now («a_rows» .entry)) (now («a_values» .entry)) (now (b .entry)) (now (cones .entry)) count (now (words .entry))) .values) (now («a_values_out» .entry)) ⌝ }
+    ensures { λ _. ⌜ now («b_out» .exit) ≡ written (compactB (constraints n m (now («a_starts» .entry)) (now («a_rows» .entry)) (now («a_values» .entry)) (now (b .entry)) (now (cones .entry)) count (now (words .entry)))) (now («b_out» .entry)) ⌝ }
+    ensures { λ _. ⌜ now («cones_out» .exit) ≡ written (compactCones (constraints n m (now («a_starts» .entry)) (now («a_rows» .entry)) (now («a_values» .entry)) (now (b .entry)) (now (cones .entry)) count (now (words .entry)))) (now («cones_out» .entry)) ⌝ }
+{
+    compact_constraints::write_compact_a(
+        n,
+        m,
+        a_starts,
+        a_rows,
+        a_values,
+        b,
+        cones,
+        count,
+        words,
+        rows,
+        k,
+        a_starts_out,
+        a_rows_out,
+        a_values_out,
+        b_out,
+    );
+    tables::write_table(Table::CompactCones, m, cones, count, words, cones_out);
+}
+
+// Writes A, b, the cones and the cone map on a route that adds k columns, where the blocks have `rows` rows. The standard route has no map.
+pub fn write_constraints(
+    route: u32,
+    n: u32,
+    m: u32,
+    a_starts: &[u32],
+    a_rows: &[u32],
+    a_values: &[f64],
+    b: &[f64],
+    cones: &[u32],
+    count: u32,
+    words: &[u32],
+    rows: usize,
+    k: usize,
+    a_starts_out: &mut [u32],
+    a_rows_out: &mut [u32],
+    a_values_out: &mut [f64],
+    b_out: &mut [f64],
+    cones_out: &mut [u32],
+    map_out: &mut [u32],
+)
+    requires { ⌜ Accepted (routeOf route) (constraints n m (now «a_starts») (now «a_rows») (now «a_values») (now b) (now cones) count (now words)) ⌝ }
+    requires { ⌜ (rows ≡ blockRowCount (joinedParts (now cones) count (now words))) × (k ≡ addedCount (routeOf route) (joinedParts (now cones) count (now words))) ⌝ }
+    requires { ⌜ (suc (n + k) ≤ length (now «a_starts_out»)) × (length (now «a_values») + 2 * k ≤ length (now «a_rows_out»)) × (length (now «a_values») + 2 * k ≤ length (now «a_values_out»)) × (slackCount (routeOf route) m (joinedParts (now cones) count (now words)) ≤ length (now «b_out»)) × (length (augmented (routeOf route) (constraints n m (now «a_starts») (now «a_rows») (now «a_values») (now b) (now cones) count (now words)) .cones) ≤ length (now «cones_out»)) × (length (augmented (routeOf route) (constraints n m (now «a_starts») (now «a_rows») (now «a_values») (now b) (now cones) count (now words)) .map) ≤ length (now «map_out»)) ⌝ }
+    ensures { λ _. ⌜ now («a_starts_out» .exit) ≡ written (augmented (routeOf route) (constraints n m (now («a_starts» .entry)) (now («a_rows» .entry)) (now («a_values» .entry)) (now (b .entry)) (now (cones .entry)) count (now (words .entry))) .A .starts) (now («a_starts_out» .entry)) ⌝ }
+    ensures { λ _. ⌜ now («a_rows_out» .exit) ≡ written (augmented (routeOf route) (constraints n m (now («a_starts» .entry)) (now («a_rows» .entry)) (now («a_values» .entry)) (now (b .entry)) (now (cones .entry)) count (now (words .entry))) .A .rows) (now («a_rows_out» .entry)) ⌝ }
+    ensures { λ _. ⌜ now («a_values_out» .exit) ≡ written (augmented (routeOf route) (constraints n m (now («a_starts» .entry)) (now («a_rows» .entry)) (now («a_values» .entry)) (now (b .entry)) (now (cones .entry)) count (now (words .entry))) .A .values) (now («a_values_out» .entry)) ⌝ }
+    ensures { λ _. ⌜ now («b_out» .exit) ≡ written (augmented (routeOf route) (constraints n m (now («a_starts» .entry)) (now («a_rows» .entry)) (now («a_values» .entry)) (now (b .entry)) (now (cones .entry)) count (now (words .entry))) .b) (now («b_out» .entry)) ⌝ }
+    ensures { λ _. ⌜ now («cones_out» .exit) ≡ written (augmented (routeOf route) (constraints n m (now («a_starts» .entry)) (now («a_rows» .entry)) (now («a_values» .entry)) (now (b .entry)) (now (cones .entry)) count (now (words .entry))) .cones) (now («cones_out» .entry)) ⌝ }
+    ensures { λ _. ⌜ now («map_out» .exit) ≡ written (augmented (routeOf route) (constraints n m (now («a_starts» .entry)) (now («a_rows» .entry)) (now («a_values» .entry)) (now (b .entry)) (now (cones .entry)) count (now (words .entry))) .map) (now («map_out» .entry)) ⌝ }
+{
+    if route == 0 {
+        augment::decomp_augment_standard(
+            n,
+            m,
+            a_starts,
+            a_rows,
+            a_values,
+            b,
+            cones,
+            count,
+            words,
+            k,
+            a_starts_out,
+            a_rows_out,
+            a_values_out,
+            b_out,
+            cones_out,
+        );
+        return;
+    }
+    decomp_augment_compact(
+        n,
+        m,
+        a_starts,
+        a_rows,
+        a_values,
+        b,
+        cones,
+        count,
+        words,
+        rows,
+        k,
+        a_starts_out,
+        a_rows_out,
+        a_values_out,
+        b_out,
+        cones_out,
+    );
+    tables::write_table(Table::ConeMap, m, cones, count, words, map_out);
+}

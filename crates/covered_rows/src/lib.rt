@@ -1,0 +1,207 @@
+// Check 9: on the compact route, the stored entries of A and the values of b unequal to zero stand on rows that a clique covers.
+ghost use mathlib.Core.Path.{_≡_};
+ghost use Prim.Native.Nat.{suc, _+_, _≤_, _<_};
+ghost use mathlib.Core.Bool.{true, false};
+ghost use lib.ListN.{length, getD, replicate};
+ghost use lib.Dec.{T, ltb};
+ghost use mathlib.Core.List.{map, reverse};
+ghost use Rattle.layout.specs.Lists.{all, rises, upFrom, join, Below};
+ghost use Rattle.layout.specs.Cones.{records};
+ghost use Rattle.layout.specs.Patterns.{patterns};
+ghost use Rattle.layout.specs.Blocks.{pairs, pairRow, parts};
+ghost use Rattle.layout.specs.Checks.{Sound, RightPattern, coveredRows};
+ghost use Rattle.supernode_tree.specs.Reads.{patternAt};
+ghost use Rattle.blocks.specs.Vertices.{marked};
+ghost use Rattle.blocks.specs.Columns.{columnPairs, ColumnsFit};
+ghost use Rattle.blocks.specs.Cliques.{Stands as CliqueStands, Standing, rowsHere};
+ghost use Rattle.covered_rows.specs.Covered.{BlockFits, MarksPattern, rowsMarked, valuesMarked, entriesRight};
+use blocks::clique_vertices;
+use parts::Met;
+use parts::Place;
+use supernode_tree::Pattern;
+use supernode_tree::PatternRead;
+use supernode_tree::clique_offsets;
+
+// ---- the rows that stand on an augmented row are marked, in a table by original row
+
+// Marks the rows of a cone that no pattern cuts.
+fn mark_range(first: u32, count: u32, covered: &mut [bool])
+    requires { ⌜ (first + count ≤ length (now covered)) × (first + count < 4294967296) ⌝ }
+    ensures { λ _. ⌜ now (covered .exit) ≡ marked true (upFrom first count) (now (covered .entry)) ⌝ }
+{
+    let mut i = 0;
+    while i < count {
+        covered[(first + i) as usize] = true;
+        i += 1;
+    }
+}
+
+// Marks the rows of a block's column j.
+fn mark_column(vertices: &[u32], j: usize, base: u32, covered: &mut [bool])
+    requires { ⌜ (j < length (now vertices)) × T (rises (now vertices)) ⌝ }
+    requires { ⌜ BlockFits base (suc (getD (now vertices) j 0)) (length (now covered)) ⌝ }
+    ensures { λ _. ⌜ now (covered .exit) ≡ marked true (map (pairRow base) (columnPairs (now (vertices .entry)) j)) (now (covered .entry)) ⌝ }
+{
+    let c = vertices[j];
+    let row = base + c * (c + 1) / 2;
+    let mut i = 0;
+    while i <= j {
+        covered[(row + vertices[i]) as usize] = true;
+        i += 1;
+    }
+}
+
+// Marks the rows of a block, column by column.
+fn mark_block(vertices: &[u32], base: u32, covered: &mut [bool])
+    requires { ⌜ T (rises (now vertices)) × ColumnsFit base (now vertices) 65536 × ColumnsFit base (now vertices) (length (now covered)) ⌝ }
+    ensures { λ _. ⌜ now (covered .exit) ≡ marked true (map (pairRow base) (pairs (now (vertices .entry)))) (now (covered .entry)) ⌝ }
+{
+    let mut j = 0;
+    while j < vertices.len() {
+        mark_column(vertices, j, base, &mut *covered);
+        j += 1;
+    }
+}
+
+// Marks the rows of the block of the clique at an offset.
+fn mark_clique(words: &[u32], ordering: &[u32], at: usize, base: u32, covered: &mut [bool])
+    requires { ⌜ CliqueStands (now words) (now ordering) at ⌝ }
+    requires { ⌜ BlockFits base (length (now ordering)) (length (now covered)) ⌝ }
+    ensures { λ _. ⌜ now (covered .exit) ≡ marked true (rowsHere base (now (words .entry)) (now (ordering .entry)) at) (now (covered .entry)) ⌝ }
+{
+    let mut vertices = [0u32; 256];
+    let k = clique_vertices(words, ordering, at, &mut vertices);
+    mark_block(&vertices[..k], base, covered);
+}
+
+// The same of the cliques at some offsets, from last to first.
+fn mark_cliques(words: &[u32], ordering: &[u32], offsets: &[usize], base: u32, covered: &mut [bool])
+    requires { ⌜ Standing (now words) (now ordering) (now offsets) ⌝ }
+    requires { ⌜ BlockFits base (length (now ordering)) (length (now covered)) ⌝ }
+    ensures { λ _. ⌜ now (covered .exit) ≡ marked true (join (rowsHere base (now (words .entry)) (now (ordering .entry))) (reverse (now (offsets .entry)))) (now (covered .entry)) ⌝ }
+{
+    let mut c = offsets.len();
+    while 0 < c {
+        c -= 1;
+        mark_clique(words, ordering, offsets[c], base, &mut *covered);
+    }
+}
+
+// Marks the rows of the blocks of the pattern at an offset.
+fn mark_pattern(words: &[u32], at: usize, base: u32, covered: &mut [bool])
+    requires { ⌜ RightPattern (patternAt (now words) at) × (patternAt (now words) at .vertexCount ≤ 256) ⌝ }
+    requires { ⌜ BlockFits base (patternAt (now words) at .vertexCount) (length (now covered)) ⌝ }
+    ensures { λ _. ⌜ MarksPattern (patternAt (now (words .entry)) at) base (now (covered .entry)) (now (covered .exit)) ⌝ }
+{
+    let PatternRead::Pattern(p) = Pattern::read(words, at) else {
+        return;
+    };
+    let mut offsets = [0usize; 256];
+    clique_offsets(words, p.cliques, p.clique_count, &mut offsets);
+    let a = p.ordering;
+    let e = p.cliques;
+    let k = p.clique_count as usize;
+    mark_cliques(words, &words[a..e], &offsets[..k], base, covered);
+}
+
+// Marks every row that stands on an augmented row.
+fn mark_covered(m: u32, cones: &[u32], count: u32, words: &[u32], covered: &mut [bool])
+    requires { ⌜ Sound m (now cones) count (now words) ⌝ }
+    requires { ⌜ m ≤ length (now covered) ⌝ }
+    ensures { λ _. ⌜ now (covered .exit) ≡ marked true (coveredRows (parts (records (now (cones .entry))) (patterns count (now (words .entry))))) (now (covered .entry)) ⌝ }
+{
+    let mut place = Place::start(m, cones, count, words);
+    loop {
+        let met = place.next(m, cones, words);
+        match met {
+            Met::Whole(size, next) => {
+                mark_range(place.row, size, &mut *covered);
+                place = next;
+            }
+            Met::Cut(at, next) => {
+                mark_pattern(words, at, place.row, &mut *covered);
+                place = next;
+            }
+            Met::Done => {
+                return;
+            }
+        }
+    }
+}
+
+// The stored entries stand on marked rows.
+fn entries_covered(covered: &[bool], rows: &[u32]) -> bool
+    requires { ⌜ Below (length (now covered)) (now rows) ⌝ }
+    ensures { λ r. ⌜ r ≡ rowsMarked (now (covered .entry)) (now (rows .entry)) ⌝ }
+{
+    let mut i = 0;
+    while i < rows.len() {
+        if !covered[rows[i] as usize] {
+            return false;
+        }
+        i += 1;
+    }
+    true
+}
+
+// The values unequal to zero stand on marked rows; a NaN is unequal to zero.
+fn values_covered(covered: &[bool], b: &[f64]) -> bool
+    requires { ⌜ length (now b) ≤ length (now covered) ⌝ }
+    ensures { λ r. ⌜ r ≡ valuesMarked (now (covered .entry)) (now (b .entry)) ⌝ }
+{
+    let mut i = 0;
+    while i < b.len() {
+        if b[i] == 0.0 {
+            i += 1;
+            continue;
+        }
+        if !covered[i] {
+            return false;
+        }
+        i += 1;
+    }
+    true
+}
+
+// Check 9 on the compact route, over a cleared table.
+fn entries_right_by(
+    m: u32,
+    cones: &[u32],
+    count: u32,
+    words: &[u32],
+    a_rows: &[u32],
+    b: &[f64],
+    covered: &mut [bool],
+) -> bool
+    requires { ⌜ Sound m (now cones) count (now words) ⌝ }
+    requires { ⌜ T (all (λ r. ltb r m) (now «a_rows»)) × (length (now b) ≡ m) ⌝ }
+    requires { ⌜ (m ≤ length (now covered)) × (now covered ≡ replicate (length (now covered)) false) ⌝ }
+    ensures { λ r. ⌜ r ≡ entriesRight m (now («a_rows» .entry)) (now (b .entry)) (parts (records (now (cones .entry))) (patterns count (now (words .entry)))) ⌝ }
+{
+    mark_covered(m, cones, count, words, &mut *covered);
+    if !entries_covered(covered, a_rows) {
+        return false;
+    }
+    values_covered(covered, b)
+}
+
+// Check 9 on the compact route: a small problem has a small table.
+pub fn entries_right(
+    m: u32,
+    cones: &[u32],
+    count: u32,
+    words: &[u32],
+    a_rows: &[u32],
+    b: &[f64],
+) -> bool
+    requires { ⌜ Sound m (now cones) count (now words) ⌝ }
+    requires { ⌜ T (all (λ r. ltb r m) (now «a_rows»)) × (length (now b) ≡ m) ⌝ }
+    ensures { λ r. ⌜ r ≡ entriesRight m (now («a_rows» .entry)) (now (b .entry)) (parts (records (now (cones .entry))) (patterns count (now (words .entry)))) ⌝ }
+{
+    if m <= 4096 {
+        let mut covered = [false; 4096];
+        return entries_right_by(m, cones, count, words, a_rows, b, &mut covered);
+    }
+    let mut covered = [false; 65536];
+    entries_right_by(m, cones, count, words, a_rows, b, &mut covered)
+}

@@ -1,0 +1,59 @@
+-- The number of the sizes, as checks 1 to 7, those of the route and the room give it, and what an accepted problem's counts say.
+use Prim.Native.Nat.{ℕ, _≤_}
+use mathlib.Core.Path.{_≡_, sym, ap, _∙_}
+use mathlib.Core.Bool.{Bool}
+use mathlib.Core.List.{List, [], _∷_}
+use lib.ListN.{length}
+use Rattle.layout.specs.Problem.{Problem, Route}
+use Rattle.layout.specs.Blocks.{blockRowCount, overlapCount, coneCount}
+use Rattle.layout.specs.Checks.{layout, check8, check9, check10, firstFailing, refusal}
+use Rattle.layout.specs.Answers.{orElse, roomRefusal, routeOf, onRoute, problemRefusal, sizesRefusal, sizes}
+use Rattle.checks.proofs.Order.{problem-then-route, first-given}
+use Rattle.chordal_info.specs.Sizes.{Fitting, routeSizes}
+use Rattle.chordal_info.specs.Routes.{routeChecks}
+use Rattle.chordal_info.proofs.Routes.{entries-check}
+use Rattle.chordal_info.proofs.Sizes.{route-sizes}
+use Rattle.chordal_info.proofs.Counts.{accepted-fitting}
+use Rattle.decomp.proofs.Answers.{on-route}
+
+-- what checks 8 to 10 answer
+abbrev pub later : Route → Problem → ℕ
+later route p = firstFailing 8 (routeChecks route (p .n) (p .m) (p .A .rows) (p .b) (layout p))
+
+in-order : (route : Route) (p : Problem) → refusal route p ≡ orElse (problemRefusal p) (later route p)
+in-order route p =
+    problem-then-route route p
+    ∙ ap (λ (t : Bool). orElse (problemRefusal p) (firstFailing 8 (check8 route (p .n) ∷ t ∷ check10 route (p .m) (layout p) ∷ []))) (entries-check route p)
+
+refused-late : (route : Route) (p : Problem) → problemRefusal p ≡ 0 → refusal route p ≡ later route p
+refused-late route p e = in-order route p ∙ ap (λ (k : ℕ). orElse k (later route p)) e
+
+module _ (k : ℕ) (p : Problem) (room : ℕ) (l : k ≤ 1) where
+  stopped : (x : ℕ) → refusal (routeOf k) p ≡ x → (x ≡ 0 → ⊥) → x ≡ onRoute k (λ rt. sizesRefusal rt p room)
+  stopped x e h =
+      sym (on-route k (λ rt. sizesRefusal rt p room) l ∙ ap (λ (r : ℕ). orElse r (roomRefusal 11 room)) e ∙ first-given x (roomRefusal 11 room) h)
+
+  -- one of checks 1 to 7 fails
+  pub stopped-early : (x : ℕ) → x ≡ problemRefusal p → (x ≡ 0 → ⊥) → x ≡ onRoute k (λ rt. sizesRefusal rt p room)
+  stopped-early x e h =
+      stopped x (in-order (routeOf k) p ∙ first-given (problemRefusal p) (later (routeOf k) p) (λ z. h (e ∙ z)) ∙ sym e) h
+
+  -- one of checks 8 to 10 fails
+  pub stopped-late : (x : ℕ) → problemRefusal p ≡ 0 → x ≡ later (routeOf k) p → (x ≡ 0 → ⊥) → x ≡ onRoute k (λ rt. sizesRefusal rt p room)
+  stopped-late x z e h = stopped x (refused-late (routeOf k) p z ∙ sym e) h
+
+  -- none does
+  pub by-room : refusal (routeOf k) p ≡ 0 → onRoute k (λ rt. sizesRefusal rt p room) ≡ roomRefusal 11 room
+  by-room e = on-route k (λ rt. sizesRefusal rt p room) l ∙ ap (λ (r : ℕ). orElse r (roomRefusal 11 room)) e
+
+pub accepted : (route : Route) (p : Problem) (x : ℕ) → problemRefusal p ≡ 0 → x ≡ later route p → x ≡ 0 → refusal route p ≡ 0
+accepted route p x z e h = refused-late route p z ∙ sym e ∙ h
+
+-- counts of the blocks' rows, their overlaps and the new cones
+module _ (route : Route) (p : Problem) (ok : refusal route p ≡ 0) (rows overlaps cones : ℕ)
+    (e : rows ≡ blockRowCount (layout p)) (f : overlaps ≡ overlapCount (layout p)) (g : cones ≡ coneCount (layout p)) where
+  pub counts-fit : Fitting route (p .n) (p .m) (length (p .A .values)) rows overlaps cones
+  counts-fit = rw (e, f, g) (accepted-fitting route p ok)
+
+  pub counts-sizes : routeSizes route (p .n) (p .m) (length (p .P .values)) (length (p .A .values)) (length (p .alphas)) rows overlaps cones ≡ sizes route p
+  counts-sizes = rw (e, f, g) (sym (route-sizes route p ok))
