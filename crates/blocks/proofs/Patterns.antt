@@ -2,14 +2,13 @@
 use Prim.Native.Nat.{ℕ, zero, suc, _≤_, _<_}
 use native.Mathlib.Omega.{arith}
 use mathlib.Core.Path.{_≡_, refl, ap, sym, _∙_}
-use mathlib.Core.Logic.{inl, inr}
 use mathlib.Core.List.{List, [], _∷_, _++_, map, reverse, append-nil, map-append}
 use lib.ListN.{length, getD, length-append, length-map}
 use Rattle.layout.specs.Lists.{has, keep, below, join, Below}
 use Rattle.layout.specs.Patterns.{Pattern, Clique, cliqueAt, cliqueCount, members, noClique}
 use Rattle.layout.specs.Blocks.{Pair, pair, originalRow, pairRow, sorted, block, rowOf, patternRows, blockRows, cut}
 use Rattle.layout.specs.Checks.{RightPattern}
-use Rattle.layout.proofs.Members.{has-getD, has-append}
+use Rattle.layout.proofs.Members.{has-getD}
 use Rattle.layout.proofs.Distinct.{permutation-has}
 use Rattle.layout.proofs.Tree.{cliques-right}
 use Rattle.layout.proofs.Joins.{reverse-below}
@@ -51,17 +50,16 @@ module _ (p : Pattern) (ok : RightPattern p) where
   pub ordering-below : Below (length (p .ordering)) (p .ordering)
   ordering-below k l = permutation-has (p .ordering) (ok .ordered .permutation) (getD (p .ordering) k 0) .0 (has-getD (p .ordering) k 0 l)
 
-  pub clique-sortable : p .vertexCount ≤ 256 → (c : ℕ) → c < cliqueCount p → Sortable (p .ordering) (cliqueAt p c .snode) (cliqueAt p c .separator)
+  pub clique-sortable : p .vertexCount ≤ 256 → (c : ℕ) → c < cliqueCount p → Sortable (p .ordering) (members (cliqueAt p c))
   clique-sortable few c l =
-      let q = cliqueAt p c in
-      let vertices : Vertices p (members q) = clique-vertices p ok c l in
+      let us = members (cliqueAt p c) in
+      let vertices : Vertices p us = clique-vertices p ok c l in
       let count = ok .ordered .vertices in
       record {
         few = omega arith;
         ordered = ordering-below;
-        snodeBelow = λ k m. omega (arith, vertices (getD (q .snode) k 0) (has-append (getD (q .snode) k 0) (q .snode) (q .separator) .1 (inl (has-getD (q .snode) k 0 m))));
-        separatorBelow = λ k m. omega (arith, vertices (getD (q .separator) k 0) (has-append (getD (q .separator) k 0) (q .snode) (q .separator) .1 (inr (has-getD (q .separator) k 0 m))));
-        once = originals-distinct p (ok .ordered) (members q) vertices (clique-distinct p ok c l);
+        inner = λ k m. omega (arith, vertices (getD us k 0) (has-getD us k 0 m));
+        once = originals-distinct p (ok .ordered) us vertices (clique-distinct p ok c l);
       }
 
   -- the vertices are as many as the ordering has numbers

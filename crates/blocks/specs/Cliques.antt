@@ -23,7 +23,7 @@ rowsHere base ws ordering at = map (pairRow base) (pairs (verticesHere ws orderi
 -- it stands there whole, and can be sorted
 pub record Stands (ws ordering : List ℕ) (at : ℕ) : Type 0 where
   pub found : whole (readClique (drop at ws)) ≡ true
-  pub sortable : Sortable ordering (cliqueHere ws at .snode) (cliqueHere ws at .separator)
+  pub sortable : Sortable ordering (members (cliqueHere ws at))
 
 -- one at each offset
 abbrev pub Standing : List ℕ → List ℕ → List ℕ → Type 0
