@@ -24,7 +24,8 @@ use Rattle.layout.specs.Checks.{Laid}
 use Rattle.reverse_standard.specs.Averages.{shared}
 use Rattle.reverse_blocks.specs.Joins.{zAt, joinZ, ownRows}
 use Rattle.reverse_cones.specs.Parts.{sPart, zPart, sCut, valuesFrom}
-use Rattle.reverse.proofs.Stretch.{rows-shifted, rows-inside}
+use Rattle.reverse_cones.proofs.Inside.{rows-inside}
+use Rattle.reverse.proofs.Stretch.{rows-shifted}
 use Rattle.reverse.proofs.Parts.{zeros, laid-first, laid-rest, standardPart, standard-more, s-size, length-s-cut}
 
 -- ---- numbers from a on

@@ -1,8 +1,8 @@
 -- The cones that patterns cut have few rows.
-use Prim.Native.Nat.{ℕ, _≤_}
+use Prim.Native.Nat.{ℕ, zero, suc, _≤_}
 use native.Mathlib.Nat.{le-trans}
 use native.Mathlib.Omega.{arith}
-use mathlib.Core.Path.{_≡_, ap, sym, subst}
+use mathlib.Core.Path.{_≡_, refl, ap, sym, subst}
 use mathlib.Core.Logic.{⊎-elim}
 use mathlib.Core.Bool.{Bool, true, false, cond, not, _||_}
 use mathlib.Core.List.{List, [], _∷_}
@@ -40,9 +40,14 @@ within-rows k m cones h p named fits few = le-trans fits h
 pub within-all : (m : ℕ) (cones : List ℕ) → RowsWithin 32896 m cones
 within-all m cones p named fits few = triangle-mono (p .vertexCount) 256 few
 
--- k counts are enough for cones of at most k rows
+all-zero : (k o : ℕ) → getD (replicate {A = ℕ} k 0) o 0 ≡ 0
+all-zero zero o = refl
+all-zero (suc k) zero = refl
+all-zero (suc k) (suc o) = all-zero k o
+
+-- the counts of a fresh table: room for cones of at most k rows, and none above 0
 pub counts-within : (k m : ℕ) (cones : List ℕ) → RowsWithin k m cones → CountsCones true m cones (replicate k 0)
-counts-within k m cones h p named fits few = subst (λ (n : ℕ). triangle (p .vertexCount) ≤ n) (sym (length-replicate {A = ℕ} k 0)) (h p named fits few)
+counts-within k m cones h = (λ p named fits few. subst (λ (n : ℕ). triangle (p .vertexCount) ≤ n) (sym (length-replicate {A = ℕ} k 0)) (h p named fits few), all-zero k)
 
 -- ---- the pattern of a cut part is one of the patterns
 

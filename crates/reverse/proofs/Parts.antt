@@ -23,7 +23,8 @@ use Rattle.blocks.proofs.Patterns.{original-rows, standard-rows-count}
 use Rattle.reverse_blocks.specs.Joins.{joinZ, ownRows}
 use Rattle.reverse_cones.specs.Parts.{sCut, zCut, sPart, zPart, valuesFrom}
 use Rattle.reverse_cones.proofs.Laws.{length-whole}
-use Rattle.reverse.proofs.Stretch.{joinAt, shifted, fresh, pairRows, rows-shifted, rows-inside, adds-all}
+use Rattle.reverse_cones.proofs.Inside.{pairRows, rows-inside}
+use Rattle.reverse.proofs.Stretch.{joinAt, shifted, fresh, rows-shifted, adds-all}
 
 -- ---- any joining that goes part by part
 

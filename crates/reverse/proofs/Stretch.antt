@@ -7,19 +7,14 @@ use mathlib.Core.Bool.{Bool, true, false, cond}
 use mathlib.Core.List.{List, [], _∷_, _++_, map, append-assoc, map-append}
 use lib.ListN.{length, getD, set, take, drop, replicate, length-append, length-map, length-set, List·getD-append}
 use lib.Seq.{getD-append-add, getD-append-seam, set-append-seam, set-append-left}
-use lib.Dec.{T}
 use lib.Ieee.{Float, nan}
-use Rattle.layout.specs.Lists.{has, join, upFrom, walk}
-use Rattle.layout.specs.Triangle.{triangle, pairIndex}
-use Rattle.layout.specs.Patterns.{Pattern, cliqueAt, members}
+use Rattle.layout.specs.Lists.{join, upFrom, walk}
+use Rattle.layout.specs.Triangle.{pairIndex}
+use Rattle.layout.specs.Patterns.{Pattern, cliqueAt}
 use Rattle.layout.specs.Blocks.{Pair, pair, owned, overlap, pairRow, block, rowOf, inSeparator, parentRow}
 use Rattle.layout.specs.Reverse.{addAt, addRow}
-use Rattle.layout.proofs.Members.{has-getD, has-join, has-map}
 use Rattle.layout.proofs.Walks.{walk-append, walk-as}
-use Rattle.layout.proofs.Triangles.{triangle-column, pairIndex-le}
-use Rattle.layout.proofs.Originals.{sorted-rises, sorted-bounded}
-use Rattle.layout.proofs.Cliques.{cliqueVertices}
-use Rattle.layout.proofs.Pairs.{pair-entry}
+use Rattle.reverse_cones.proofs.Inside.{pairRows}
 
 -- ---- a value joined by g with what stands on its row
 
@@ -71,14 +66,11 @@ module _ (g : Float → Float → Float) where
 -- ---- a pattern's rows
 
 module _ (p : Pattern) where
-  abbrev pub pairRows : ℕ → List ℕ → List ℕ
-  pairRows base cs = join (λ c. map (pairRow base) (block p c)) cs
-
   -- they follow the first row of the cone
-  pub rows-shifted : (base : ℕ) (cs : List ℕ) → pairRows base cs ≡ map (λ o. base + o) (pairRows 0 cs)
+  pub rows-shifted : (base : ℕ) (cs : List ℕ) → pairRows p base cs ≡ map (λ o. base + o) (pairRows p 0 cs)
   rows-shifted base [] = refl
   rows-shifted base (c ∷ cs) =
-      ap₂ _++_ (by-pair (block p c)) (rows-shifted base cs) ∙ sym (map-append (λ o. base + o) (map (pairRow 0) (block p c)) (pairRows 0 cs))
+      ap₂ _++_ (by-pair (block p c)) (rows-shifted base cs) ∙ sym (map-append (λ o. base + o) (map (pairRow 0) (block p c)) (pairRows p 0 cs))
     where
       by-pair : (xs : List Pair) → map (pairRow base) xs ≡ map (λ o. base + o) (map (pairRow 0) xs)
       by-pair [] = refl
@@ -86,24 +78,6 @@ module _ (p : Pattern) where
         where
           zero-first : (k : ℕ) → k ≡ 0 + k
           zero-first k = omega arith
-
-  -- and lie in it
-  pub rows-inside : (cs : List ℕ) (k : ℕ) → k < length (pairRows 0 cs) → getD (pairRows 0 cs) k 0 < triangle (p .vertexCount)
-  rows-inside cs k l =
-      let o = getD (pairRows 0 cs) k 0 in
-      let (n, _, here) = has-join 0 (λ c. map (pairRow 0) (block p c)) o cs .0 (has-getD (pairRows 0 cs) k 0 l) in
-      at-clique o (getD cs n 0) here
-    where
-      at-clique : (o c : ℕ) → T (has o (map (pairRow 0) (block p c))) → o < triangle (p .vertexCount)
-      at-clique o c here =
-          let (t, l, e) = has-map (pair 0 0) (pairRow 0) o (block p c) .0 here in
-          let (i, j, hi, hj, le, q, _) = pair-entry (cliqueVertices p c) t (pair 0 0) (sorted-rises p (members (cliqueAt p c))) l in
-          omega (
-            arith,
-            e ∙ ap (pairRow 0) q,
-            pairIndex-le i j le,
-            triangle-column i j (p .vertexCount) le (sorted-bounded p (members (cliqueAt p c)) j hj),
-          )
 
   -- no row of a block is copied: s adds on each
   module _ (base first : ℕ) where
@@ -120,7 +94,7 @@ module _ (p : Pattern) where
         one (pair i j) v s = pick (inSeparator p c (pair i j)) (base + pairIndex i j) (parentRow p first (cliqueAt p c .parent) (pair i j)) v s
 
     pub adds-all : (cs : List ℕ) (vs ws : List Float)
-        → walk addRow (join (λ c. map (rowOf p base first c) (block p c)) cs) vs ws ≡ walk addAt (pairRows base cs) vs ws
+        → walk addRow (join (λ c. map (rowOf p base first c) (block p c)) cs) vs ws ≡ walk addAt (pairRows p base cs) vs ws
     adds-all [] vs ws = refl
     adds-all (c ∷ cs) vs ws =
         let X = map (rowOf p base first c) (block p c) in
@@ -128,5 +102,5 @@ module _ (p : Pattern) where
         let same : length X ≡ length Y = length-map (block p c) (rowOf p base first c) ∙ sym (length-map (block p c) (pairRow base)) in
         walk-append addRow X (join (λ c. map (rowOf p base first c) (block p c)) cs) vs ws
         ∙ adds-all cs (drop (length X) vs) (walk addRow X vs ws)
-        ∙ ap₂ (λ (n : ℕ) (s : List Float). walk addAt (pairRows base cs) (drop n vs) s) same (adds c (block p c) vs ws)
-        ∙ sym (walk-append addAt Y (pairRows base cs) vs ws)
+        ∙ ap₂ (λ (n : ℕ) (s : List Float). walk addAt (pairRows p base cs) (drop n vs) s) same (adds c (block p c) vs ws)
+        ∙ sym (walk-append addAt Y (pairRows p base cs) vs ws)

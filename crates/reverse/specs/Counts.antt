@@ -9,6 +9,7 @@ use Rattle.layout.specs.Triangle.{triangle}
 use Rattle.layout.specs.Cones.{records}
 use Rattle.layout.specs.Patterns.{Pattern}
 use Rattle.layout.specs.Checks.{namesItsCone}
+use Rattle.reverse_cones.specs.Parts.{Cleared}
 
 -- a PSD cone's side is at most 90, and so its rows at most 4,095
 abbrev pub sideFew : ℕ → ℕ → Bool
@@ -22,7 +23,7 @@ abbrev pub RowsWithin : ℕ → ℕ → List ℕ → Type 0
 RowsWithin k m cones =
     (p : Pattern) → T (namesItsCone (records cones) p) → triangle (p .vertexCount) ≤ m → p .vertexCount ≤ 256 → triangle (p .vertexCount) ≤ k
 
--- there are counts for each: true stands for the standard route, and the compact one counts nothing
+-- there are counts for each, and none is above 0: true stands for the standard route, and the compact one counts nothing
 abbrev pub CountsCones : Bool → ℕ → List ℕ → List ℕ → Type 0
-CountsCones true m cones counts = RowsWithin (length counts) m cones
+CountsCones true m cones counts = RowsWithin (length counts) m cones × Cleared true counts
 CountsCones false m cones counts = Unit {0}

@@ -3,16 +3,14 @@
 ghost use mathlib.Core.Path.{_≡_};
 ghost use mathlib.Core.List.{[], _∷_};
 ghost use Prim.Native.Nat.{suc, _≤_, _<_};
-ghost use lib.ListN.{length, getD, drop};
+ghost use lib.ListN.{length, getD};
 ghost use lib.Dec.{T};
 ghost use Rattle.layout.specs.Lists.{join, rises};
 ghost use Rattle.layout.specs.Triangle.{triangle};
 ghost use Rattle.layout.specs.Blocks.{blockRows};
-ghost use Rattle.layout.specs.Patterns.{readHead};
 ghost use Rattle.layout.specs.Checks.{RightPattern};
 ghost use Rattle.layout.specs.Reverse.{addColumns};
-ghost use Rattle.supernode_tree.specs.Reads.{patternAt, patternRead, PatternInside};
-ghost use Rattle.supernode_tree.specs.declared.PatternRead.the-variants.{Pattern as Found};
+ghost use Rattle.supernode_tree.specs.Reads.{patternAt};
 ghost use Rattle.blocks.specs.Columns.{ColumnsFit};
 ghost use Rattle.blocks.specs.Cliques.{Standing, rowsHere};
 ghost use Rattle.reverse_standard.specs.Routes.{inOrder};
@@ -20,7 +18,6 @@ ghost use Rattle.reverse_blocks.specs.Joins.{joinZ, Counts, Countable, c
 use reverse_standard::offset_at;
 use reverse_standard::z_value;
 use supernode_tree::Pattern;
-use supernode_tree::PatternRead;
 use supernode_tree::clique_offsets;
 
 // ---- a block
@@ -105,24 +102,6 @@ fn join_block(
 
 // ---- a pattern
 
-// The pattern at an offset, which stands whole.
-pub fn pattern_here(words: &[u32], at: usize) -> Pattern
-    requires { ⌜ RightPattern (patternAt (now words) at) ⌝ }
-    ensures { λ r. ⌜ patternRead (now (words .entry)) (Found r) ≡ readHead (drop at (now (words .entry))) ⌝ }
-    ensures { λ r. ⌜ PatternInside (length (now (words .entry))) at (Found r) ⌝ }
-{
-    let PatternRead::Pattern(p) = Pattern::read(words, at) else {
-        return Pattern {
-            orig_index: 0,
-            vertex_count: 0,
-            clique_count: 0,
-            ordering: 0,
-            cliques: 0,
-        };
-    };
-    p
-}
-
 // The blocks of the cliques at some offsets, in the order of the route; how many entries. Each clique's vertices are written to a buffer first.
 fn join_cliques(
     standard: bool,
@@ -188,7 +167,7 @@ pub fn join_pattern(
     ensures { λ _. ⌜ now («z_out» .exit) ≡ joinZ standard (ownRows standard (patternAt (now (words .entry)) at)) (now (z .entry)) (now («z_out» .entry)) ⌝ }
     ensures { λ _. ⌜ Counts standard (ownRows standard (patternAt (now (words .entry)) at)) (now (counts .entry)) (now (counts .exit)) ⌝ }
 {
-    let p = pattern_here(words, at);
+    let p = Pattern::here(words, at);
     clique_offsets(words, p.cliques, p.clique_count, &mut *offsets);
     let a = p.ordering;
     let e = p.cliques;

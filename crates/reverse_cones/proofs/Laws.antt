@@ -2,20 +2,24 @@
 use Prim.Native.Nat.{ℕ, _+_, _-_, _≤_}
 use native.Mathlib.Nat.{add-sub-cancel-left}
 use native.Mathlib.Omega.{arith}
-use mathlib.Core.Path.{_≡_, refl, sym, ap, _∙_}
+use mathlib.Core.Path.{_≡_, refl, sym, ap, subst, _∙_}
+use mathlib.Core.Logic.{inl, inr}
 use mathlib.Core.Bool.{Bool, true, false}
 use mathlib.Core.List.{List, _++_}
-use lib.ListN.{length, take, drop, length-drop, length-map}
+use lib.ListN.{length, take, drop, length-drop, length-map, List·getD-eq-default}
 use lib.Seq.{take-all}
 use lib.Ieee.{Float, add, binary64}
 use Rattle.layout.specs.Triangle.{triangle}
+use Rattle.layout.specs.Patterns.{Pattern}
 use Rattle.layout.specs.Problem.{zero64}
+use Rattle.layout.proofs.Tests.{lt-or-le}
 use Rattle.layout.proofs.Triangles.{triangle-mono}
 use Rattle.layout.proofs.Buffers.{length-tail}
 use Rattle.reverse_standard.proofs.Laws.{averages}
-use Rattle.reverse_blocks.specs.Joins.{joinZ, Counts, Countable}
+use Rattle.reverse_blocks.specs.Joins.{joinZ, Counts, Countable, ownRows}
 use Rattle.reverse_blocks.proofs.Room.{length-part}
-use Rattle.reverse_cones.specs.Parts.{wholeValues, zAveraged, zAveragedBy, writtenAt, CountsRows, Cleared}
+use Rattle.reverse_cones.specs.Parts.{wholeValues, zAveraged, zAveragedBy, writtenAt, CountsRows, Cleared, ClearsRows}
+use Rattle.reverse_cones.proofs.Inside.{no-column}
 
 -- ---- parts of buffers
 
@@ -53,8 +57,8 @@ pub rows-kept : (standard : Bool) (n m : ℕ) (a b : List ℕ) → m ≤ n → l
 rows-kept true n m a b h e room = omega (arith, room)
 rows-kept false n m a b h e room = tt
 
-pub countable : (standard : Bool) (n k : ℕ) (counts : List ℕ) → k ≤ 262144 → CountsRows standard n counts → Cleared standard n counts → Countable standard n k counts
-countable true n k counts h room clear = (room, λ o l. omega (arith, clear o l))
+pub countable : (standard : Bool) (n k : ℕ) (counts : List ℕ) → k ≤ 262144 → CountsRows standard n counts → Cleared standard counts → Countable standard n k counts
+countable true n k counts h room clear = (room, λ o l. omega (arith, clear o))
 countable false n k counts h room clear = tt
 
 -- a cone has few rows
@@ -62,14 +66,26 @@ pub few-rows : (v : ℕ) → v ≤ 256 → triangle v ≤ 65536
 few-rows v h = omega (arith, triangle-mono v 256 h)
 
 -- the counts of os are in the table
-pub averaged-by : (standard : Bool) (os before counts : List ℕ) (ws : List Float) → CountsRows standard (length ws) counts → Cleared standard (length ws) before
+averaged-by : (standard : Bool) (os before counts : List ℕ) (ws : List Float) → CountsRows standard (length ws) counts → Cleared standard before
     → Counts standard os before counts → zAveragedBy standard counts ws ≡ zAveraged standard os ws
-averaged-by true os before counts ws room clear c = averages os counts ws (λ o l. omega (arith, c o (omega (arith, room)), clear o l))
+averaged-by true os before counts ws room clear c = averages os counts ws (λ o l. omega (arith, c o (omega (arith, room)), clear o))
 averaged-by false os before counts ws room clear c = refl
 
 -- z of a cut cone, from what the calls left
-pub averaged-cut : (standard : Bool) (os before counts : List ℕ) (vs zeros new ws out : List Float) → CountsRows standard (length ws) counts → Cleared standard (length ws) before
+pub averaged-cut : (standard : Bool) (os before counts : List ℕ) (vs zeros new ws out : List Float) → CountsRows standard (length ws) counts → Cleared standard before
     → Counts standard os before counts → out ≡ zAveragedBy standard counts ws → ws ≡ joinZ standard os vs new → new ≡ zeros
     → out ≡ zAveraged standard os (joinZ standard os vs zeros)
 averaged-cut standard os before counts vs zeros new ws out room clear c e w z =
     e ∙ averaged-by standard os before counts ws room clear c ∙ ap (zAveraged standard os) (w ∙ ap (joinZ standard os vs) z)
+
+-- no row of the pattern is behind its cone's n, so that nothing stays counted
+pub cleared-again : (standard : Bool) (p : Pattern) (n : ℕ) (before counts after : List ℕ) → n ≡ triangle (p .vertexCount) → Cleared standard before
+    → Counts standard (ownRows standard p) before counts → ClearsRows standard n counts after → Cleared standard after
+cleared-again true p n before counts after e clear c gone = λ o. elim (lt-or-le o n) [
+  | inl l ↦ gone o .0 l
+  | inr g ↦ gone o .1 g ∙ elim (lt-or-le o (length counts)) [
+    | inl l ↦ omega (arith, c o l, clear o, no-column p o (subst (λ (m : ℕ). m ≤ o) e g))
+    | inr h ↦ List·getD-eq-default counts 0 h
+  ]
+]
+cleared-again false p n before counts after e clear c gone = tt

@@ -1,6 +1,6 @@
 -- What the rows of each part hold once they are joined, part after part: true stands for the standard route, false for the
 -- compact one. A part's values are those from its first on.
-use Prim.Native.Nat.{ℕ, _≤_, _<_}
+use Prim.Native.Nat.{ℕ, _≤_}
 use mathlib.Core.Path.{_≡_}
 use mathlib.Core.Bool.{Bool, true, false}
 use mathlib.Core.List.{List, [], _∷_, _++_, map}
@@ -13,7 +13,7 @@ use Rattle.layout.specs.Cones.{rowCount}
 use Rattle.layout.specs.Patterns.{Pattern}
 use Rattle.layout.specs.Blocks.{Part, whole, cut, partRows}
 use Rattle.layout.specs.Reverse.{addColumns, averaged}
-use Rattle.reverse_standard.specs.Averages.{averagedBy}
+use Rattle.reverse_standard.specs.Averages.{averagedBy, Clears}
 use Rattle.reverse_blocks.specs.Joins.{joinZ, ownRows}
 
 -- a whole cone's values: the standard route sums them from +0.0
@@ -60,7 +60,12 @@ abbrev pub CountsRows : Bool → ℕ → List ℕ → Type 0
 CountsRows true n counts = n ≤ length counts
 CountsRows false n counts = Unit {0}
 
--- and has counted none of them
-abbrev pub Cleared : Bool → ℕ → List ℕ → Type 0
-Cleared true n counts = (o : ℕ) → o < n → getD counts o 0 ≡ 0
-Cleared false n counts = Unit {0}
+-- between cones none is counted
+abbrev pub Cleared : Bool → List ℕ → Type 0
+Cleared true counts = (o : ℕ) → getD counts o 0 ≡ 0
+Cleared false counts = Unit {0}
+
+-- the counts of n rows are cleared
+abbrev pub ClearsRows : Bool → ℕ → List ℕ → List ℕ → Type 0
+ClearsRows true n old new = Clears n old new
+ClearsRows false n old new = Unit {0}

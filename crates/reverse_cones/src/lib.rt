@@ -8,7 +8,8 @@ ghost use Rattle.layout.specs.Triangle.{triangle};
 ghost use Rattle.layout.specs.Blocks.{blockRows};
 ghost use Rattle.layout.specs.Checks.{RightPattern};
 ghost use Rattle.supernode_tree.specs.Reads.{patternAt};
-ghost use Rattle.reverse_cones.specs.Parts.{wholeValues, zAveragedBy, sCut, zCut, writtenAt, CountsRows, Cleared};
+ghost use Rattle.reverse_cones.specs.Parts.{wholeValues, zAveragedBy, sCut, zCut, writtenAt, CountsRows, Cleared, ClearsRows};
+use supernode_tree::Pattern;
 
 // ---- a whole cone
 
@@ -41,32 +42,23 @@ pub fn cone_rows(words: &[u32], at: usize) -> usize
     requires { ⌜ RightPattern (patternAt (now words) at) × (patternAt (now words) at .vertexCount ≤ 256) ⌝ }
     ensures { λ r. ⌜ r ≡ triangle (patternAt (now (words .entry)) at .vertexCount) ⌝ }
 {
-    let p = reverse_blocks::pattern_here(words, at);
+    let p = Pattern::here(words, at);
     let k = p.vertex_count;
     k * (k + 1) / 2
 }
 
-// No column is counted yet on the first n rows.
-fn clear_counts(standard: bool, n: usize, counts: &mut [u32])
-    requires { ⌜ CountsRows standard n (now counts) ⌝ }
-    ensures { λ _. ⌜ Cleared standard n (now (counts .exit)) ⌝ }
-{
-    if standard {
-        csc::fill_numbers(counts, n, 0);
-    }
-}
-
-// On the standard route z is divided by each row's count where that is above 1; on the compact one it stays.
-fn average(standard: bool, z: &mut [f64], counts: &[u32])
+// On the standard route z is divided by each row's count where that is above 1, and nothing stays counted; on the compact one z stays.
+fn average(standard: bool, z: &mut [f64], counts: &mut [u32])
     requires { ⌜ CountsRows standard (length (now z)) (now counts) ⌝ }
     ensures { λ _. ⌜ now (z .exit) ≡ zAveragedBy standard (now (counts .entry)) (now (z .entry)) ⌝ }
+    ensures { λ _. ⌜ ClearsRows standard (length (now (z .entry))) (now (counts .entry)) (now (counts .exit)) ⌝ }
 {
     if standard {
         reverse_standard::take_averages(z, counts);
     }
 }
 
-// s and z on the rows of the cone; how many entries the blocks have.
+// s and z on the rows of the cone; how many entries the blocks have. No count is above 0 before and after.
 fn join_rows(
     standard: bool,
     words: &[u32],
@@ -82,16 +74,16 @@ fn join_rows(
     requires { ⌜ RightPattern (patternAt (now words) at) × (patternAt (now words) at .vertexCount ≤ 256) ⌝ }
     requires { ⌜ (length (now «s_out») ≡ triangle (patternAt (now words) at .vertexCount)) × (length (now «z_out») ≡ triangle (patternAt (now words) at .vertexCount)) ⌝ }
     requires { ⌜ (blockRows (patternAt (now words) at) ≤ 262144) × (blockRows (patternAt (now words) at) ≤ length (now s)) × (length (now z) ≡ length (now s)) ⌝ }
-    requires { ⌜ CountsRows standard (length (now «s_out»)) (now counts) ⌝ }
+    requires { ⌜ CountsRows standard (length (now «s_out»)) (now counts) × Cleared standard (now counts) ⌝ }
     requires { ⌜ (256 ≤ length (now offsets)) × (256 ≤ length (now vertices)) ⌝ }
     ensures { λ r. ⌜ r ≡ blockRows (patternAt (now (words .entry)) at) ⌝ }
     ensures { λ _. ⌜ now («s_out» .exit) ≡ sCut standard (patternAt (now (words .entry)) at) (now (s .entry)) ⌝ }
     ensures { λ _. ⌜ now («z_out» .exit) ≡ zCut standard (patternAt (now (words .entry)) at) (now (z .entry)) ⌝ }
+    ensures { λ _. ⌜ Cleared standard (now (counts .exit)) ⌝ }
 {
     let n = s_out.len();
     csc::fill_values(&mut *s_out, n, 0.0);
     csc::fill_values(&mut *z_out, n, 0.0);
-    clear_counts(standard, n, &mut *counts);
     let k = reverse_blocks::join_pattern(
         standard,
         words,
@@ -127,11 +119,12 @@ pub fn join_cut(
     requires { ⌜ RightPattern (patternAt (now words) at) × (patternAt (now words) at .vertexCount ≤ 256) × (n ≡ triangle (patternAt (now words) at .vertexCount)) ⌝ }
     requires { ⌜ (row + n ≤ length (now «s_out»)) × (row + n ≤ length (now «z_out»)) ⌝ }
     requires { ⌜ (blockRows (patternAt (now words) at) ≤ 262144) × (t + blockRows (patternAt (now words) at) ≤ length (now s)) × (length (now z) ≡ length (now s)) ⌝ }
-    requires { ⌜ CountsRows standard n (now counts) ⌝ }
+    requires { ⌜ CountsRows standard n (now counts) × Cleared standard (now counts) ⌝ }
     requires { ⌜ (256 ≤ length (now offsets)) × (256 ≤ length (now vertices)) ⌝ }
     ensures { λ r. ⌜ r ≡ blockRows (patternAt (now (words .entry)) at) ⌝ }
     ensures { λ _. ⌜ now («s_out» .exit) ≡ writtenAt row (sCut standard (patternAt (now (words .entry)) at) (drop t (now (s .entry)))) (now («s_out» .entry)) ⌝ }
     ensures { λ _. ⌜ now («z_out» .exit) ≡ writtenAt row (zCut standard (patternAt (now (words .entry)) at) (drop t (now (z .entry)))) (now («z_out» .entry)) ⌝ }
+    ensures { λ _. ⌜ Cleared standard (now (counts .exit)) ⌝ }
 {
     let e = row + n;
     join_rows(

@@ -1,17 +1,18 @@
 -- A list replaced element by element, and the averages by the table.
-use Prim.Native.Nat.{ℕ, _<_}
+use Prim.Native.Nat.{ℕ, _+_, _<_}
+use native.Mathlib.Decide.{ℕ-discrete}
 use native.Mathlib.Omega.{arith}
 use mathlib.Core.Path.{_≡_, ap, _∙_}
 use mathlib.Core.List.{List, map}
-use lib.ListN.{length, getD, drop}
-use lib.Seq.{getD-append-add, getD-drop}
+use lib.ListN.{length, getD, drop, set}
+use lib.Seq.{getD-append-add, getD-drop, getD-set-same, getD-set-other}
 use lib.Ieee.{Float, nan}
 use Rattle.layout.specs.Lists.{below, written}
 use Rattle.layout.specs.Reverse.{columnCount, averaged}
 use Rattle.layout.proofs.Members.{has-below}
 use Rattle.layout.proofs.Joins.{map-same}
 use Rattle.layout.proofs.Buffers.{length-mapped}
-use Rattle.reverse_standard.specs.Averages.{averagedBy, shared}
+use Rattle.reverse_standard.specs.Averages.{averagedBy, shared, Clears}
 
 -- a list whose elements are replaced in order, each by what f says of its place
 module _ {A : Type 0} (f : ℕ → A) (old : List A) where
@@ -22,6 +23,13 @@ module _ {A : Type 0} (f : ℕ → A) (old : List A) where
       ∙ getD-append-add (map f (below i)) (drop (length (map f (below i))) old) 0 d
       ∙ getD-drop (length (map f (below i))) old 0 d
       ∙ ap (λ (k : ℕ). getD old k d) (omega (arith, length-mapped f i))
+
+-- one count more is cleared
+pub clears-more : (i : ℕ) (old new : List ℕ) → i < length new → Clears i old new → Clears (i + 1) old (set new i 0)
+clears-more i old new h c o = elim (ℕ-discrete o i) [
+  | yes e ↦ (λ l. ap (λ (k : ℕ). getD (set new i 0) k 0) e ∙ getD-set-same new i 0 0 h, λ g. absurd (omega arith))
+  | no n ↦ let same = getD-set-other new i o 0 0 n in (λ l. same ∙ c o .0 (omega (arith, n)), λ g. same ∙ c o .1 (omega arith))
+]
 
 -- the averages by a table are those by the columns
 pub averages : (os counts : List ℕ) (ws : List Float) → ((o : ℕ) → o < length ws → getD counts o 0 ≡ columnCount os o)

@@ -7,7 +7,7 @@ ghost use lib.ListN.{length, getD};
 ghost use lib.Ieee.{add, binary64};
 ghost use Rattle.layout.specs.Lists.{below};
 ghost use Rattle.layout.specs.Problem.{zero64, one64};
-ghost use Rattle.reverse_standard.specs.Averages.{averagedBy, shared};
+ghost use Rattle.reverse_standard.specs.Averages.{averagedBy, shared, Clears};
 ghost use Rattle.reverse_standard.specs.Routes.{zValue, inOrder};
 
 // The two scalars of a solution.
@@ -74,14 +74,16 @@ fn row_average(v: f64, count: u32) -> f64
     v
 }
 
-// Divides each row by the number of its columns where that is above 1.
-pub fn take_averages(z: &mut [f64], counts: &[u32])
+// Divides each row by the number of its columns where that is above 1, and counts no column on it any more.
+pub fn take_averages(z: &mut [f64], counts: &mut [u32])
     requires { ⌜ length (now z) ≤ length (now counts) ⌝ }
     ensures { λ _. ⌜ now (z .exit) ≡ map (averagedBy (now (counts .entry)) (now (z .entry))) (below (length (now (z .entry)))) ⌝ }
+    ensures { λ _. ⌜ Clears (length (now (z .entry))) (now (counts .entry)) (now (counts .exit)) ⌝ }
 {
     let mut i = 0;
     while i < z.len() {
         z[i] = row_average(z[i], counts[i]);
+        counts[i] = 0;
         i += 1;
     }
 }

@@ -19,7 +19,7 @@ use Rattle.parts.specs.Ahead.{patternsAhead, ahead, Stands, meets, Knows}
 use Rattle.parts.specs.declared.Met.the-variants.{Whole, Cut}
 use Rattle.reverse_blocks.proofs.Laws.{by-same}
 use Rattle.reverse_blocks.proofs.Room.{Room, same-le, le-same, fits-count}
-use Rattle.reverse_cones.specs.Parts.{sPart, zPart, valuesFrom, CountsRows}
+use Rattle.reverse_cones.specs.Parts.{sPart, zPart, valuesFrom, CountsRows, Cleared}
 use Rattle.reverse.specs.Joined.{firstOf}
 use Rattle.reverse.specs.Counts.{CountsCones}
 use Rattle.reverse.proofs.Counts.{cut-passes}
@@ -35,7 +35,7 @@ Inv-loop standard m cones count words first s z s-out₀ z-out₀ counts₀ offs
     let left = ahead cones words place in
     Joins (sPart standard) m (valuesFrom (sPart standard) ps (drop first s)) s s-out₀ left row t s-out
     × Joins (zPart standard) m (valuesFrom (zPart standard) ps (drop first z)) z z-out₀ left row t z-out
-    × (length counts ≡ length counts₀) × (row + sum (map coneRows left) ≡ m) × (t + blockRowCount left ≡ length s) × (blockRowCount left ≤ 262144)
+    × ((length counts ≡ length counts₀) × Cleared standard counts) × (row + sum (map coneRows left) ≡ m) × (t + blockRowCount left ≡ length s) × (blockRowCount left ≤ 262144)
     × Stands m cones words place × (length offsets ≡ 256) × (length vertices ≡ 256)
 
 abbrev μ-loop : tie.MeasureT-loop
@@ -73,8 +73,12 @@ shorter x ps left e = omega (arith, ap length e)
 -- the counts have room for the rows of a cone
 counts-rows : (standard : Bool) (m n : ℕ) (cones a b : List ℕ) (p : Pattern) → n ≡ triangle (p .vertexCount) → n ≤ m → p .vertexCount ≤ 256 → length b ≡ length a
     → T (namesItsCone (records cones) p) → CountsCones standard m cones a → CountsRows standard n b
-counts-rows true m n cones a b p r h g e named room = omega (arith, r, room p named (omega (arith, r)) g)
+counts-rows true m n cones a b p r h g e named room = omega (arith, r, room .0 p named (omega (arith, r)) g)
 counts-rows false m n cones a b p r h g e named room = tt
+
+cleared-first : (standard : Bool) (m : ℕ) (cones counts : List ℕ) → CountsCones standard m cones counts → Cleared standard counts
+cleared-first true m cones counts room = room .1
+cleared-first false m cones counts room = tt
 
 -- ---- a turn
 
@@ -208,7 +212,7 @@ loop-holds c =
     let e = c .start .ensures .0 in (
       joins-none (sPart (a .standard)) (a .m) (a .s .now) (a .s-out .now) (s .pre .1 .0) ps qs (a .first) e,
       joins-none (zPart (a .standard)) (a .m) (a .z .now) (a .z-out .now) (s .pre .1 .1) ps qs (a .first) e,
-      refl,
+      (refl, cleared-first (a .standard) (a .m) (a .cones .now) (a .counts .now) (s .pre .1 .2)),
       sum-begins (rowsOf qs) (rowsOf ps) (a .m) (ap rowsOf e) (sound-total (s .pre .0 .0 .sound)),
       values-begin (a .first) (firstOf (a .standard) (a .m)) (blockRowCount qs) (blockRowCount ps) (length (a .s .now)) (s .pre .0 .1) (ap blockRowCount e) (values-last (a .standard) (s .pre .0 .0)),
       same-le (ap blockRowCount e) (s .pre .0 .0 .few),
@@ -310,8 +314,11 @@ join-cut-requires c κs =
         (
           (few-cut k, s-cut k (blockRows (patternOf k)) refl, z-same s),
           (
-            counts-rows (a .standard) (a .m) n (a .cones .now) (a .counts .now) (l .loop .counts) (patternOf k) (r .cone-rows .ensures) (part-le (l .loop .row) n (a .m) (rows-cut r)) (h .2) (l .loop .inv .2)
-                (named-cut k) (s .pre .1 .2),
+            (
+              counts-rows (a .standard) (a .m) n (a .cones .now) (a .counts .now) (l .loop .counts) (patternOf k) (r .cone-rows .ensures) (part-le (l .loop .row) n (a .m) (rows-cut r)) (h .2)
+                  (l .loop .inv .2 .0) (named-cut k) (s .pre .1 .2),
+              l .loop .inv .2 .1,
+            ),
             (le-of-eq (sym (l .loop .inv .7)), le-of-eq (sym (l .loop .inv .8))),
           ),
         ),
@@ -359,8 +366,8 @@ loop-again-2 c =
           (length-s-cut (a .standard) p (drop t (a .s .now)) ∙ sym n) (w .ensures .1 .0),
       joins-more (zPart (a .standard)) (a .m) (a .z .now) (a .z-out .now) (s .pre .1 .1) (valuesFrom (zPart (a .standard)) ps (drop (a .first) (a .z .now))) (cutOf k) (after-cut k) (left l) row t
           (r .cone-rows .result) (w .result) (l .loop .z-out) (w .last .1 .1 .1 .1 .1 .1 .1 .1 .1 .0) (l .loop .inv .1) e (rows-cut r) (w .ensures .0)
-          (length-z-cut (a .standard) p (drop t (a .z .now)) ∙ sym n) (w .ensures .1 .1),
-      _∙_ {b = length (l .loop .counts)} (w .kept .1 .1 .1 .1 .1 .1 .1 .1 .1 .1 .0) (l .loop .inv .2),
+          (length-z-cut (a .standard) p (drop t (a .z .now)) ∙ sym n) (w .ensures .1 .1 .0),
+      (_∙_ {b = length (l .loop .counts)} (w .kept .1 .1 .1 .1 .1 .1 .1 .1 .1 .1 .0) (l .loop .inv .2 .0), w .ensures .1 .1 .1),
       sum-next row (r .cone-rows .result) (triangle (p .vertexCount)) (rowsOf (after-cut k)) (rowsOf (left l)) (a .m) (l .loop .inv .3) (ap rowsOf e) n,
       sum-next t (w .result) (blockRows p) (blockRowCount (after-cut k)) (blockRowCount (left l)) (length (a .s .now)) (l .loop .inv .4) (ap blockRowCount e) (w .ensures .0),
       rest-few (blockRows p) (blockRowCount (after-cut k)) (blockRowCount (left l)) 262144 (ap blockRowCount e) (l .loop .inv .5),
@@ -379,7 +386,7 @@ same-length-2 : tie.Need-same-length-2 Inv-loop μ-loop
 same-length-2 c = c .before .before .before .loop .inv .1 .size
 
 same-length-3 : tie.Need-same-length-3 Inv-loop μ-loop
-same-length-3 c = c .before .before .before .loop .inv .2
+same-length-3 c = c .before .before .before .loop .inv .2 .0
 
 returns : tie.Need-returns Inv-loop μ-loop
 returns c =

@@ -13,6 +13,7 @@ use Rattle.layout.specs.Reverse.{addColumns}
 use Rattle.supernode_tree.specs.Reads.{patternAt}
 use Rattle.supernode_tree.specs.declared.Pattern.{Pattern as Head}
 use Rattle.supernode_tree.specs.declared.PatternRead.the-variants.{Pattern as Found}
+use Rattle.supernode_tree.proofs.Cliques.{right-head}
 use Rattle.blocks.specs.Cliques.{rowsHere}
 use Rattle.blocks.proofs.Offsets.{StandAt, cliques-here, cliques-count, count-few, ordering-part, stand-here, all-stand}
 use Rattle.reverse_blocks.specs.Joins.{joinZ, Counts, Countable, ownRows}
@@ -22,37 +23,37 @@ use Rattle.reverse_blocks.proofs.Room.{fits-number, sum-above}
 use Rattle.reverse_blocks.proofs.join_pattern.Statement.{statement}
 use Rattle.reverse_blocks.proofs.join_pattern.Tie as tie
 
-abbrev start : tie.After-pattern-here → tie.Start
+abbrev start : tie.After-here → tie.Start
 start h = h .before .before .before .before .before .before .before .before .before
 
-abbrev here : tie.Start → Pattern
-here s = patternAt (s .args .words .now) (s .args .at)
+abbrev pattern : tie.Start → Pattern
+pattern s = patternAt (s .args .words .now) (s .args .at)
 
-abbrev head : tie.After-pattern-here → Head
-head h = h .pattern-here .result
+abbrev head : tie.After-here → Head
+head h = h .here .result
 
 -- as many cliques as were read, and few
-count : (h : tie.After-pattern-here) → cliqueCount (here (start h)) ≡ head h .«clique_count»
+count : (h : tie.After-here) → cliqueCount (pattern (start h)) ≡ head h .«clique_count»
 count h =
     let s = start h in
-    cliques-count (s .args .words .now) (s .args .at) (Found (head h)) (s .pre .0 .0) (h .pattern-here .ensures .0) (head h) refl
+    cliques-count (s .args .words .now) (s .args .at) (Found (head h)) (s .pre .0 .0) (h .here .ensures .0) (head h) refl
 
-few : (h : tie.After-pattern-here) → head h .«clique_count» ≤ 256
+few : (h : tie.After-here) → head h .«clique_count» ≤ 256
 few h =
     let s = start h in
-    count-few (s .args .words .now) (s .args .at) (Found (head h)) (s .pre .0 .0) (h .pattern-here .ensures .0) (head h) refl (s .pre .0 .1)
+    count-few (s .args .words .now) (s .args .at) (Found (head h)) (s .pre .0 .0) (h .here .ensures .0) (head h) refl (s .pre .0 .1)
 
 -- the ordering is a part of the words
-ordering-ends : (h : tie.After-pattern-here) → head h .ordering ≤ head h .cliques
-ordering-ends h = sum-above (head h .ordering) (head h .cliques) (head h .«vertex_count») (h .pattern-here .ensures .1 .1)
+ordering-ends : (h : tie.After-here) → head h .ordering ≤ head h .cliques
+ordering-ends h = sum-above (head h .ordering) (head h .cliques) (head h .«vertex_count») (h .here .ensures .1 .1)
 
-ordering-here : (h : tie.After-pattern-here) → take (head h .cliques - head h .ordering) (drop (head h .ordering) (start h .args .words .now)) ≡ here (start h) .ordering
+ordering-here : (h : tie.After-here) → take (head h .cliques - head h .ordering) (drop (head h .ordering) (start h .args .words .now)) ≡ pattern (start h) .ordering
 ordering-here h =
     let s = start h in
-    ordering-part (s .args .words .now) (s .args .at) (Found (head h)) (s .pre .0 .0) (h .pattern-here .ensures .0) (head h) refl (h .pattern-here .ensures .1)
+    ordering-part (s .args .words .now) (s .args .at) (Found (head h)) (s .pre .0 .0) (h .here .ensures .0) (head h) refl (h .here .ensures .1)
 
 -- the table of offsets
-abbrev read : tie.After-clique-offsets → tie.After-pattern-here
+abbrev read : tie.After-clique-offsets → tie.After-here
 read o = o .before .before
 
 abbrev offsets : tie.After-clique-offsets → List ℕ
@@ -62,11 +63,11 @@ room : (o : tie.After-clique-offsets) → head (read o) .«clique_count» ≤ le
 room o =
     subst (λ (n : ℕ). head (read o) .«clique_count» ≤ n) (sym (o .clique-offsets .kept .1 .1 .1 .0)) (le-trans (few (read o)) (start (read o) .pre .1 .1 .1 .1 .0))
 
-standing : (o : tie.After-clique-offsets) → let s = start (read o) in StandAt (s .args .words .now) (here s .cliques) (offsets o)
+standing : (o : tie.After-clique-offsets) → let s = start (read o) in StandAt (s .args .words .now) (pattern s .cliques) (offsets o)
 standing o =
     let h = read o in
     let s = start h in
-    stand-here (s .args .words .now) (s .args .at) (Found (head h)) (s .pre .0 .0) (h .pattern-here .ensures .0) (head h) refl (offsets o) (o .clique-offsets .ensures)
+    stand-here (s .args .words .now) (s .args .at) (Found (head h)) (s .pre .0 .0) (h .here .ensures .0) (head h) refl (offsets o) (o .clique-offsets .ensures)
 
 -- the rows of the cliques at the offsets are the pattern's
 abbrev joined : tie.After-clique-offsets → List ℕ
@@ -75,25 +76,27 @@ joined o =
     let s = start h in
     join (rowsHere 0 (s .args .words .now) (take (head h .cliques - head h .ordering) (drop (head h .ordering) (s .args .words .now)))) (inOrder (s .args .standard) (take (head h .«clique_count») (offsets o)))
 
-rows : (o : tie.After-clique-offsets) → let s = start (read o) in joined o ≡ ownRows (s .args .standard) (here s)
+rows : (o : tie.After-clique-offsets) → let s = start (read o) in joined o ≡ ownRows (s .args .standard) (pattern s)
 rows o =
     let h = read o in
     let s = start h in
     let n = head h .«clique_count» in
     ap (λ (ordering : List ℕ). join (rowsHere 0 (s .args .words .now) ordering) (inOrder (s .args .standard) (take n (offsets o)))) (ordering-here h)
-    ∙ rows-order (s .args .standard) (here s) (s .pre .0 .0) (s .args .words .now) (offsets o) n (count h) (room o) (standing o)
+    ∙ rows-order (s .args .standard) (pattern s) (s .pre .0 .0) (s .args .words .now) (offsets o) n (count h) (room o) (standing o)
 
-size : (o : tie.After-clique-offsets) → length (joined o) ≡ blockRows (here (start (read o)))
-size o = let s = start (read o) in ap length (rows o) ∙ length-own (s .args .standard) (here s) (s .pre .0 .0)
+size : (o : tie.After-clique-offsets) → length (joined o) ≡ blockRows (pattern (start (read o)))
+size o = let s = start (read o) in ap length (rows o) ∙ length-own (s .args .standard) (pattern s) (s .pre .0 .0)
 
-pattern-here-requires : tie.Need-pattern-here-requires
-pattern-here-requires c κs = c .before .before .before .before .before .before .before .before .pre .0 .0
+here-requires : tie.Need-here-requires
+here-requires c κs =
+    let s = c .before .before .before .before .before .before .before .before in
+    right-head (s .args .words .now) (s .args .at) (s .pre .0 .0 .tree)
 
 clique-offsets-requires : tie.Need-clique-offsets-requires
 clique-offsets-requires c κs =
     let h = c .before in
     let s = start h in (
-      cliques-here (s .args .words .now) (s .args .at) (Found (head h)) (s .pre .0 .0) (h .pattern-here .ensures .0) (head h) refl,
+      cliques-here (s .args .words .now) (s .args .at) (Found (head h)) (s .pre .0 .0) (h .here .ensures .0) (head h) refl,
       le-trans (few h) (s .pre .1 .1 .1 .1 .0),
     )
 
@@ -103,7 +106,7 @@ cast-k c = fits-le (few (c .before .before .before .before .before)) (fits-lit t
 mul-join-cliques : tie.Need-mul-join-cliques
 mul-join-cliques c =
     let h = c .before .before .before .before .before in
-    fits-number (le-trans (ordering-ends h) (h .pattern-here .ensures .1 .2)) (start h .good .1 .0)
+    fits-number (le-trans (ordering-ends h) (h .here .ensures .1 .2)) (start h .good .1 .0)
 
 sub-join-cliques : tie.Need-sub-join-cliques
 sub-join-cliques c = ordering-ends (c .before .before .before .before .before)
@@ -112,7 +115,7 @@ part-join-cliques-start : tie.Need-part-join-cliques-start
 part-join-cliques-start c = ordering-ends (c .before .before .before .before .before)
 
 part-join-cliques-end : tie.Need-part-join-cliques-end
-part-join-cliques-end c = c .before .before .before .before .before .pattern-here .ensures .1 .2
+part-join-cliques-end c = c .before .before .before .before .before .here .ensures .1 .2
 
 slice-reshare-prefix-join-cliques : tie.Need-slice-reshare-prefix-join-cliques
 slice-reshare-prefix-join-cliques c = room (c .before .before .before .before)
@@ -128,7 +131,7 @@ join-cliques-requires c κs =
     let h = read o in
     let s = start h in
     let a = s .args in
-    let p = here s in (
+    let p = pattern s in (
       (
         rw (ordering-here h)
             (all-stand p (s .pre .0 .0) (a .words .now) (offsets o) (head h .«clique_count») (count h) (room o) (standing o) (s .pre .0 .1)),
@@ -168,7 +171,7 @@ returns c =
     let o = filled j in
     let a = start (read o) .args in
     let w = j .join-cliques .ensures in (
-      by-same length (w .0) (rows o) ∙ length-own (a .standard) (here (start (read o))) (start (read o) .pre .0 .0),
+      by-same length (w .0) (rows o) ∙ length-own (a .standard) (pattern (start (read o))) (start (read o) .pre .0 .0),
       (
         by-same (λ (os : List ℕ). addColumns os (a .s .now) (a .s-out .now)) (w .1 .0) (rows o),
         (
@@ -182,7 +185,7 @@ pub join-pattern-spec : {M : Type 1} → statement M
 join-pattern-spec =
     tie.close
     (tie.spec
-    pattern-here-requires
+    here-requires
     clique-offsets-requires
     cast-k
     mul-join-cliques

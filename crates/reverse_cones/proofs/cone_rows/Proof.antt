@@ -10,6 +10,7 @@ use Rattle.layout.specs.Triangle.{triangle}
 use Rattle.layout.specs.Patterns.{Pattern}
 use Rattle.supernode_tree.specs.Reads.{patternAt}
 use Rattle.supernode_tree.specs.declared.PatternRead.the-variants.{Pattern as Found}
+use Rattle.supernode_tree.proofs.Cliques.{right-head}
 use Rattle.blocks.proofs.Offsets.{pattern-here}
 use Rattle.reverse_blocks.proofs.Room.{same-le}
 use Rattle.reverse_cones.proofs.cone_rows.Statement.{statement}
@@ -21,31 +22,31 @@ next-fits v h = let g : v + 1 ≤ 257 = omega arith in fits-le g (fits-lit tt)
 square-fits : (v : ℕ) → v ≤ 256 → Fits w64 (v * (v + 1))
 square-fits v h = let g : v * (v + 1) ≤ 257 * 257 = mul-le-mul {n₂ = 257} {m₂ = 257} (omega arith) (omega arith) in fits-le g (fits-lit tt)
 
-pattern-here-requires : tie.Need-pattern-here-requires
-pattern-here-requires c κs = c .before .pre .0
+here-requires : tie.Need-here-requires
+here-requires c κs = let s = c .before in right-head (s .args .words .now) (s .args .at) (s .pre .0 .tree)
 
 -- as many vertices as were read
-vertices : (h : tie.After-pattern-here) → let a = h .before .before .args in patternAt (a .words .now) (a .at) .vertexCount ≡ h .pattern-here .result .«vertex_count»
+vertices : (h : tie.After-here) → let a = h .before .before .args in patternAt (a .words .now) (a .at) .vertexCount ≡ h .here .result .«vertex_count»
 vertices h =
     let s = h .before .before in
-    let q = h .pattern-here .result in
-    ap (λ (p : Pattern). p .vertexCount) (pattern-here (s .args .words .now) (s .args .at) (Found q) (s .pre .0) (h .pattern-here .ensures .0) q refl)
+    let q = h .here .result in
+    ap (λ (p : Pattern). p .vertexCount) (pattern-here (s .args .words .now) (s .args .at) (Found q) (s .pre .0) (h .here .ensures .0) q refl)
 
-few : (h : tie.After-pattern-here) → h .pattern-here .result .«vertex_count» ≤ 256
+few : (h : tie.After-here) → h .here .result .«vertex_count» ≤ 256
 few h = same-le (sym (vertices h)) (h .before .before .pre .1)
 
 add-result : tie.Need-add-result
-add-result c = next-fits (c .pattern-here .result .«vertex_count») (few c)
+add-result c = next-fits (c .here .result .«vertex_count») (few c)
 
 mul-result : tie.Need-mul-result
-mul-result c = square-fits (c .pattern-here .result .«vertex_count») (few c)
+mul-result c = square-fits (c .here .result .«vertex_count») (few c)
 
 returns : tie.Need-returns
 returns c =
-    let v = c .pattern-here .result .«vertex_count» in
+    let v = c .here .result .«vertex_count» in
     ap (λ (n : ℕ). v * n / 2) (add-one v) ∙ ap triangle (sym (vertices c))
 
 pub cone-rows-spec : {M : Type 1} → statement M
 cone-rows-spec =
     tie.close
-    (tie.spec pattern-here-requires add-result mul-result returns)
+    (tie.spec here-requires add-result mul-result returns)

@@ -99,7 +99,10 @@ join-rows-requires c κs =
         (s-lent ∙ s .pre .0 .2, z-lent ∙ s .pre .0 .2),
         (
           (s .pre .1 .1 .0 .0, rest-has (a .t) (blockRows (here s)) (a .s .now) (s .pre .1 .1 .0 .1), rests-same (a .t) (a .s .now) (a .z .now) (s .pre .1 .1 .0 .2)),
-          (rows-kept (a .standard) (a .n) (length s-part) (a .counts .now) (a .counts .now) (le-of-eq s-lent) refl (s .pre .1 .1 .1 .0), s .pre .1 .1 .1 .1),
+          (
+            (rows-kept (a .standard) (a .n) (length s-part) (a .counts .now) (a .counts .now) (le-of-eq s-lent) refl (s .pre .1 .1 .1 .0 .0), s .pre .1 .1 .1 .0 .1),
+            s .pre .1 .1 .1 .1,
+          ),
         ),
       ),
     )
@@ -141,7 +144,10 @@ returns c =
       w .ensures .0,
       (
         put-made (sCut (a .standard) (here s)) (a .s .now) (w .last .1 .1 .1 .1 .1 .0) (a .s-out .now) (a .t) (a .row) (a .n) (s .pre .1 .0 .0) (w .ensures .1 .0) (w .kept .1 .1 .1 .1 .1 .0),
-        put-made (zCut (a .standard) (here s)) (a .z .now) (w .last .1 .1 .1 .1 .1 .1 .0) (a .z-out .now) (a .t) (a .row) (a .n) (s .pre .1 .0 .1) (w .ensures .1 .1) (w .kept .1 .1 .1 .1 .1 .1 .0),
+        (
+          put-made (zCut (a .standard) (here s)) (a .z .now) (w .last .1 .1 .1 .1 .1 .1 .0) (a .z-out .now) (a .t) (a .row) (a .n) (s .pre .1 .0 .1) (w .ensures .1 .1 .0) (w .kept .1 .1 .1 .1 .1 .1 .0),
+          w .ensures .1 .1 .1,
+        ),
       ),
     )
 

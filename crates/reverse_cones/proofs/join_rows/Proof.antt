@@ -15,8 +15,8 @@ use Rattle.layout.proofs.Buffers.{filled}
 use Rattle.reverse_blocks.specs.Joins.{Countable, ownRows}
 use Rattle.reverse_blocks.proofs.Laws.{by-same}
 use Rattle.reverse_blocks.proofs.Room.{same-le, both-kept, kept-twice}
-use Rattle.reverse_cones.specs.Parts.{CountsRows, Cleared}
-use Rattle.reverse_cones.proofs.Laws.{rows-kept, countable, few-rows, averaged-cut}
+use Rattle.reverse_cones.specs.Parts.{CountsRows}
+use Rattle.reverse_cones.proofs.Laws.{rows-kept, countable, few-rows, averaged-cut, cleared-again}
 use Rattle.reverse_cones.proofs.join_rows.Statement.{statement}
 use Rattle.reverse_cones.proofs.join_rows.Tie as tie
 
@@ -32,12 +32,12 @@ zeros-as old new k n e h l = e ∙ filled old k zero64 h ∙ ap (λ (m : ℕ). r
 sizes : (s : tie.Start) → length (s .args .s-out .now) ≡ length (s .args .z-out .now)
 sizes s = s .pre .1 .0 .0 ∙ sym (s .pre .1 .0 .1)
 
--- where the outputs were filled, and the counts cleared
+-- where the outputs were filled
 abbrev start : tie.After-fill-values → tie.Start
 start f = f .before .before .before .before .before .before .before .before .before .before
 
-abbrev s-filled : tie.After-clear-counts → tie.After-fill-values
-s-filled k = k .before .before .before .before .before .before .before .before
+abbrev s-filled : tie.After-fill-values2 → tie.After-fill-values
+s-filled f = f .before .before .before .before
 
 s-zeros : (f : tie.After-fill-values) → f .fill-values .last .0 ≡ zeros (start f)
 unfolding ofBits
@@ -45,18 +45,15 @@ s-zeros f =
     let s = start f in
     zeros-as (s .args .s-out .now) (f .fill-values .last .0) (length (s .args .s-out .now)) (triangle (here s .vertexCount)) (f .fill-values .ensures) refl (s .pre .1 .0 .0)
 
-z-zeros : (f : tie.After-fill-values2) → f .fill-values2 .last .0 ≡ zeros (start (f .before .before .before .before))
+z-zeros : (f : tie.After-fill-values2) → f .fill-values2 .last .0 ≡ zeros (start (s-filled f))
 unfolding ofBits
 z-zeros f =
-    let s = start (f .before .before .before .before) in
+    let s = start (s-filled f) in
     zeros-as (s .args .z-out .now) (f .fill-values2 .last .0) (length (s .args .s-out .now)) (triangle (here s .vertexCount)) (f .fill-values2 .ensures) (sizes s) (s .pre .1 .0 .1)
 
 -- after the pattern was joined: as many rows as the cone has, and the counts
-abbrev cleared : tie.After-join-pattern → tie.After-clear-counts
-cleared j = j .before .before .before .before .before .before .before .before
-
-abbrev z-filled : tie.After-clear-counts → tie.After-fill-values2
-z-filled k = k .before .before .before .before
+abbrev z-filled : tie.After-join-pattern → tie.After-fill-values2
+z-filled j = j .before .before .before .before .before .before .before .before
 
 abbrev z-joined : tie.After-join-pattern → List Float
 z-joined j = j .join-pattern .last .1 .1 .1 .1 .1 .1 .0
@@ -64,24 +61,17 @@ z-joined j = j .join-pattern .last .1 .1 .1 .1 .1 .1 .0
 abbrev counted : tie.After-join-pattern → List ℕ
 counted j = j .join-pattern .last .1 .1 .1 .1 .1 .1 .1 .0
 
-size : (j : tie.After-join-pattern) → length (z-joined j) ≡ length (start (s-filled (cleared j)) .args .s-out .now)
+size : (j : tie.After-join-pattern) → length (z-joined j) ≡ length (start (s-filled (z-filled j)) .args .s-out .now)
 size j =
-    let k = cleared j in
-    kept-twice (j .join-pattern .kept .1 .1 .1 .1 .1 .1 .0) (z-filled k .fill-values2 .kept .0) (sym (sizes (start (s-filled k))))
+    let f = z-filled j in
+    kept-twice (j .join-pattern .kept .1 .1 .1 .1 .1 .1 .0) (f .fill-values2 .kept .0) (sym (sizes (start (s-filled f))))
 
 -- the counts have room
-s-room : (k : tie.After-clear-counts) → let a = start (s-filled k) .args in CountsRows (a .standard) (length (a .s-out .now)) (k .clear-counts .last .1 .1 .0)
-s-room k =
-    let s = start (s-filled k) in
-    let a = s .args in
-    let n = length (a .s-out .now) in
-    rows-kept (a .standard) n n (a .counts .now) (k .clear-counts .last .1 .1 .0) (le-refl n) (k .clear-counts .kept .1 .1 .0) (s .pre .1 .1 .1 .0)
-
-room : (j : tie.After-join-pattern) → CountsRows (start (s-filled (cleared j)) .args .standard) (length (z-joined j)) (counted j)
+room : (j : tie.After-join-pattern) → CountsRows (start (s-filled (z-filled j)) .args .standard) (length (z-joined j)) (counted j)
 room j =
-    let k = cleared j in
-    let a = start (s-filled k) .args in
-    rows-kept (a .standard) (length (a .s-out .now)) (length (z-joined j)) (k .clear-counts .last .1 .1 .0) (counted j) (le-of-eq (size j)) (j .join-pattern .kept .1 .1 .1 .1 .1 .1 .1 .0) (s-room k)
+    let s = start (s-filled (z-filled j)) in
+    let a = s .args in
+    rows-kept (a .standard) (length (a .s-out .now)) (length (z-joined j)) (a .counts .now) (counted j) (le-of-eq (size j)) (j .join-pattern .kept .1 .1 .1 .1 .1 .1 .1 .0) (s .pre .1 .1 .1 .0 .0)
 
 fill-values-requires : tie.Need-fill-values-requires
 fill-values-requires c κs = le-refl (length (c .before .before .before .before .before .before .before .before .before .args .s-out .now))
@@ -89,13 +79,10 @@ fill-values-requires c κs = le-refl (length (c .before .before .before .before 
 fill-values-requires-2 : tie.Need-fill-values-requires-2
 fill-values-requires-2 c κs = le-of-eq (sizes (start (c .before .before .before)))
 
-clear-counts-requires : tie.Need-clear-counts-requires
-clear-counts-requires c κs = start (c .before .before .before .before .before .before .before) .pre .1 .1 .1 .0
-
 join-pattern-requires : tie.Need-join-pattern-requires
 join-pattern-requires c κs =
-    let k = c .before .before .before .before .before .before .before in
-    let f = s-filled k in
+    let g = c .before .before .before .before .before .before .before in
+    let f = s-filled g in
     let s = start f in
     let a = s .args in
     let p = here s in
@@ -103,12 +90,12 @@ join-pattern-requires c κs =
     let rows : length (f .fill-values .last .0) ≡ triangle (p .vertexCount) = n ∙ s .pre .1 .0 .0 in (
       s .pre .0,
       (
-        (le-of-eq (sym rows), both-kept (z-filled k .fill-values2 .kept .0) (sym (sizes s)) n, same-le rows (few-rows (p .vertexCount) (s .pre .0 .1))),
+        (le-of-eq (sym rows), both-kept (g .fill-values2 .kept .0) (sym (sizes s)) n, same-le rows (few-rows (p .vertexCount) (s .pre .0 .1))),
         (
           (s .pre .1 .1 .0 .1, s .pre .1 .1 .0 .2),
           (
-            subst (λ (q : ℕ). Countable (a .standard) q (blockRows p) (k .clear-counts .last .1 .1 .0)) (sym n)
-                (countable (a .standard) (length (a .s-out .now)) (blockRows p) (k .clear-counts .last .1 .1 .0) (s .pre .1 .1 .0 .0) (s-room k) (k .clear-counts .ensures)),
+            subst (λ (q : ℕ). Countable (a .standard) q (blockRows p) (a .counts .now)) (sym n)
+                (countable (a .standard) (length (a .s-out .now)) (blockRows p) (a .counts .now) (s .pre .1 .1 .0 .0) (s .pre .1 .1 .1 .0 .0) (s .pre .1 .1 .1 .0 .1)),
             s .pre .1 .1 .1 .1,
           ),
         ),
@@ -120,22 +107,22 @@ average-requires c κs = room (c .before .before .before .before .before .before
 
 -- after the averages
 abbrev averaged : tie.After-slice-known14 → tie.After-average
-averaged c = c .before .before
+averaged c = c .before .before .before .before
 
 abbrev joined : tie.After-average → tie.After-join-pattern
 joined v = v .before .before .before .before .before .before .before .before .before .before .before .before .before
 
 same-length : tie.Need-same-length
-same-length c = let j = joined (averaged c) in j .join-pattern .kept .1 .1 .1 .1 .1 .0 ∙ s-filled (cleared j) .fill-values .kept .0
+same-length c = let j = joined (averaged c) in j .join-pattern .kept .1 .1 .1 .1 .1 .0 ∙ s-filled (z-filled j) .fill-values .kept .0
 
 same-length-2 : tie.Need-same-length-2
 same-length-2 c =
     let v = averaged c in
     let j = joined v in
-    kept-twice (v .average .kept .1 .0) (j .join-pattern .kept .1 .1 .1 .1 .1 .1 .0) (z-filled (cleared j) .fill-values2 .kept .0)
+    kept-twice (v .average .kept .1 .0) (j .join-pattern .kept .1 .1 .1 .1 .1 .1 .0) (z-filled j .fill-values2 .kept .0)
 
 same-length-3 : tie.Need-same-length-3
-same-length-3 c = let j = joined (averaged c) in j .join-pattern .kept .1 .1 .1 .1 .1 .1 .1 .0 ∙ cleared j .clear-counts .kept .1 .1 .0
+same-length-3 c = let v = averaged c in v .average .kept .1 .1 .0 ∙ joined v .join-pattern .kept .1 .1 .1 .1 .1 .1 .1 .0
 
 same-length-4 : tie.Need-same-length-4
 same-length-4 c = joined (averaged c) .join-pattern .kept .1 .1 .1 .1 .1 .1 .1 .1 .0
@@ -147,19 +134,21 @@ returns : tie.Need-returns
 returns c =
     let v = averaged c in
     let j = joined v in
-    let k = cleared j in
-    let f = s-filled k in
+    let g = z-filled j in
+    let f = s-filled g in
     let s = start f in
     let a = s .args in
     let os = ownRows (a .standard) (here s) in
     let e = j .join-pattern .ensures in
-    let before = k .clear-counts .last .1 .1 .0 in
-    let clear : Cleared (a .standard) (length (z-joined j)) before = subst (λ (n : ℕ). Cleared (a .standard) n before) (sym (size j)) (k .clear-counts .ensures) in (
+    let clear = s .pre .1 .1 .1 .0 .1 in (
       e .0,
       (
         by-same (addColumns os (a .s .now)) (e .1 .0) (s-zeros f),
-        averaged-cut (a .standard) os before (counted j) (a .z .now) (zeros s) (z-filled k .fill-values2 .last .0) (z-joined j) (v .average .last .1 .0) (room j) clear (e .1 .1 .1)
-            (v .average .ensures) (e .1 .1 .0) (z-zeros (z-filled k)),
+        (
+          averaged-cut (a .standard) os (a .counts .now) (counted j) (a .z .now) (zeros s) (g .fill-values2 .last .0) (z-joined j) (v .average .last .1 .0) (room j) clear (e .1 .1 .1)
+              (v .average .ensures .0) (e .1 .1 .0) (z-zeros g),
+          cleared-again (a .standard) (here s) (length (z-joined j)) (a .counts .now) (counted j) (v .average .last .1 .1 .0) (size j ∙ s .pre .1 .0 .0) clear (e .1 .1 .1) (v .average .ensures .1),
+        ),
       ),
     )
 
@@ -169,7 +158,6 @@ join-rows-spec =
     (tie.spec
     fill-values-requires
     fill-values-requires-2
-    clear-counts-requires
     join-pattern-requires
     average-requires
     same-length
