@@ -5,12 +5,13 @@ use mathlib.Core.Path.{_≡_, refl, sym, ap, subst, _∙_}
 use mathlib.Core.Bool.{Bool, true, false, cond, _&&_}
 use mathlib.Core.List.{List, [], _∷_}
 use lib.ListN.{length, take}
-use lib.Dec.{T, lit<}
+use lib.Dec.{T, eqb, lit<}
 use lib.Ieee.{Float}
+use borrow.Author.Tests.{ne-eqb}
 use Rattle.layout.specs.Problem.{Route, standard, compact, Solution, solution, one64}
 use Rattle.layout.specs.Blocks.{Part, blockRowCount, overlapCount}
 use Rattle.layout.specs.Checks.{Sound, firstFailing}
-use Rattle.layout.specs.Answers.{orElse, roomy, joinedParts, joinChecks, joinRefusal, joined, solutionFits, mapRight, scalars}
+use Rattle.layout.specs.Answers.{orElse, roomy, routeOf, joinedParts, joinChecks, joinRefusal, joined, solutionFits, mapRight, scalars}
 use Rattle.layout.proofs.Tests.{and-iff, leb-iff, eqb-iff}
 use Rattle.layout.proofs.Accepted.{passed}
 use Rattle.checks.specs.Order.{joinedRefusal}
@@ -20,7 +21,7 @@ use Rattle.chordal_info.specs.Routes.{joinRouteChecks, Counted}
 use Rattle.chordal_info.proofs.Sizes.{rows-fit, rows-few}
 use Rattle.chordal_info.proofs.Counts.{overlaps-few}
 use Rattle.chordal_info.proofs.Routes.{counted-join}
-use Rattle.reverse.specs.Joined.{Joinable, joinedOf}
+use Rattle.reverse.specs.Joined.{Joinable, joinedOf, routeOf as routeIs}
 use Rattle.decomp_reverse.specs.Fits.{lengthsFit, fitsBy, countedRefusal, refusalBy}
 
 -- the answer at each place
@@ -178,3 +179,8 @@ module _ (n m : ℕ) (cones : List ℕ) (count : ℕ) (words : List ℕ) (x s z 
   pub joined-scalars : (route : Route) (t k : Float) → t ≡ one64 → k ≡ one64 → (t ∷ k ∷ []) ≡ scalars (whole route)
   joined-scalars standard t k e f = rw (e, f)
   joined-scalars compact t k e f = rw (e, f)
+
+-- the route by whether its number is 0
+pub by-number : (route : ℕ) → routeIs (eqb route 0) ≡ routeOf route
+by-number zero = refl
+by-number (suc k) = ap routeIs (ne-eqb (suc k) 0 (λ e. omega arith))

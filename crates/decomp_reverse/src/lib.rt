@@ -3,14 +3,13 @@ ghost use mathlib.Core.Path.{_≡_};
 ghost use mathlib.Core.Bool.{_&&_};
 ghost use mathlib.Core.List.{[], _∷_, map as mapped, reverse};
 ghost use Prim.Native.Nat.{_≤_};
-ghost use lib.ListN.{length, take, drop};
+ghost use lib.ListN.{length, drop};
 ghost use lib.Dec.{eqb};
 ghost use Rattle.layout.specs.Lists.{below, sameNumbers, written};
 ghost use Rattle.layout.specs.Problem.{solution};
 ghost use Rattle.layout.specs.Checks.{Sound};
 ghost use Rattle.layout.specs.Compact.{blockOf, coneMap, mapWords};
 ghost use Rattle.layout.specs.Answers.{output, roomy, onRoute, routeOf, joinedParts, joinRefusal, joined, scalars as scalarsOf};
-ghost use Rattle.reverse.specs.Joined.{Joinable, joinedOf};
 ghost use Rattle.decomp_reverse.specs.Begins.{begins};
 ghost use Rattle.decomp_reverse.specs.Fits.{lengthsFit, countedRefusal, refusalBy};
 use parts::Met;
@@ -223,34 +222,6 @@ fn refuse_join(
 
 // ---- the joining
 
-// x, s and z of a solution that is refused nothing.
-pub fn decomp_reverse(
-    route: u32,
-    n: u32,
-    m: u32,
-    cones: &[u32],
-    count: u32,
-    words: &[u32],
-    x: &[f64],
-    s: &[f64],
-    z: &[f64],
-    x_out: &mut [f64],
-    s_out: &mut [f64],
-    z_out: &mut [f64],
-)
-    requires { ⌜ Joinable (routeOf route) m (now cones) count (now words) (now s) (now z) ⌝ }
-    requires { ⌜ (n ≤ length (now x)) × (n ≤ length (now «x_out»)) × (m ≤ length (now «s_out»)) × (m ≤ length (now «z_out»)) ⌝ }
-    ensures { λ _. ⌜ now («x_out» .exit) ≡ written (take n (now (x .entry))) (now («x_out» .entry)) ⌝ }
-    ensures { λ _. ⌜ now («s_out» .exit) ≡ written (joinedOf (routeOf route) m (now (cones .entry)) count (now (words .entry)) (now (s .entry)) (now (z .entry)) .s) (now («s_out» .entry)) ⌝ }
-    ensures { λ _. ⌜ now («z_out» .exit) ≡ written (joinedOf (routeOf route) m (now (cones .entry)) count (now (words .entry)) (now (s .entry)) (now (z .entry)) .z) (now («z_out» .entry)) ⌝ }
-{
-    if route == 0 {
-        reverse::decomp_reverse_standard(n, m, cones, count, words, x, s, z, x_out, s_out, z_out);
-    } else {
-        reverse::decomp_reverse_compact(n, m, cones, count, words, x, s, z, x_out, s_out, z_out);
-    }
-}
-
 pub fn write_scalars(scalars: Scalars, out: &mut [f64])
     requires { ⌜ 2 ≤ length (now out) ⌝ }
     ensures { λ _. ⌜ now (out .exit) ≡ written (scalars .tau ∷ scalars .kappa ∷ []) (now (out .entry)) ⌝ }
@@ -306,20 +277,8 @@ pub fn join(
     if r != 0 {
         return r;
     }
-    decomp_reverse(
-        route,
-        n,
-        m,
-        cones,
-        count,
-        words,
-        x,
-        s,
-        z,
-        x_out,
-        s_out,
-        z_out,
-    );
+    reverse::copy_x(n, x, x_out);
+    reverse::decomp_reverse(route == 0, m, cones, count, words, s, z, s_out, z_out);
     let scalars = Scalars {
         tau: tau,
         kappa: kappa,

@@ -98,7 +98,8 @@ fn join_as(
     if r != 0 {
         return r;
     }
-    decomp_reverse::decomp_reverse(1, n, m, cones, count, words, x, s, z, x_out, s_out, z_out);
+    reverse::copy_x(n, x, x_out);
+    reverse::decomp_reverse(false, m, cones, count, words, s, z, s_out, z_out);
     let scalars = Scalars {
         tau: tau,
         kappa: kappa,

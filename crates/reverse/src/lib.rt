@@ -1,13 +1,12 @@
 // Whole solutions joined, on either route: the cones are walked in order, and each one's rows are joined by themselves.
 ghost use mathlib.Core.Path.{_≡_};
-ghost use mathlib.Core.Bool.{true, _||_};
+ghost use mathlib.Core.Bool.{not, _||_};
 ghost use Prim.Native.Nat.{_≤_};
 ghost use lib.ListN.{length, take};
 ghost use lib.Dec.{leb};
 ghost use Rattle.layout.specs.Lists.{written};
-ghost use Rattle.layout.specs.Problem.{standard as standardRoute, compact as compactRoute};
 ghost use Rattle.reverse.specs.Joined.{Joinable, joinedOf, routeOf, firstOf};
-ghost use Rattle.reverse.specs.Counts.{sideFew, sidesFew, RowsWithin, CountsCones};
+ghost use Rattle.reverse.specs.Counts.{sideFew, sidesFew, CountsWithin, CountsCones};
 use parts::Met;
 use parts::Place;
 use reverse_cones::cone_rows;
@@ -16,7 +15,7 @@ use reverse_cones::join_whole;
 use supportedcone::SupportedCone;
 
 // x: the first n are copied.
-fn copy_x(n: u32, x: &[f64], out: &mut [f64])
+pub fn copy_x(n: u32, x: &[f64], out: &mut [f64])
     requires { ⌜ (n ≤ length (now x)) × (n ≤ length (now out)) ⌝ }
     ensures { λ _. ⌜ now (out .exit) ≡ written (take n (now (x .entry))) (now (out .entry)) ⌝ }
 {
@@ -26,21 +25,30 @@ fn copy_x(n: u32, x: &[f64], out: &mut [f64])
 
 // ---- all cones
 
-// s and z on a route; the values of the first cone begin at `first`. The buffers are made once for all patterns.
+// Where the values of the first cone begin: on the standard route m others come first.
+fn first_value(standard: bool, m: u32) -> usize
+    ensures { λ r. ⌜ r ≡ firstOf standard m ⌝ }
+{
+    if standard {
+        return m as usize;
+    }
+    0
+}
+
+// s and z on a route. The buffers are made once for all patterns.
 fn join_parts(
     standard: bool,
     m: u32,
     cones: &[u32],
     count: u32,
     words: &[u32],
-    first: u32,
     s: &[f64],
     z: &[f64],
     s_out: &mut [f64],
     z_out: &mut [f64],
     counts: &mut [u32],
 )
-    requires { ⌜ Joinable (routeOf standard) m (now cones) count (now words) (now s) (now z) × (first ≡ firstOf standard m) ⌝ }
+    requires { ⌜ Joinable (routeOf standard) m (now cones) count (now words) (now s) (now z) ⌝ }
     requires { ⌜ (m ≤ length (now «s_out»)) × (m ≤ length (now «z_out»)) × CountsCones standard m (now cones) (now counts) ⌝ }
     ensures { λ _. ⌜ now («s_out» .exit) ≡ written (joinedOf (routeOf standard) m (now (cones .entry)) count (now (words .entry)) (now (s .entry)) (now (z .entry)) .s) (now («s_out» .entry)) ⌝ }
     ensures { λ _. ⌜ now («z_out» .exit) ≡ written (joinedOf (routeOf standard) m (now (cones .entry)) count (now (words .entry)) (now (s .entry)) (now (z .entry)) .z) (now («z_out» .entry)) ⌝ }
@@ -49,7 +57,7 @@ fn join_parts(
     let mut vertices = [0u32; 256];
     let mut place = Place::start(m, cones, count, words);
     let mut row = 0usize;
-    let mut t = first as usize;
+    let mut t = first_value(standard, m);
     loop {
         let met = place.next(m, cones, words);
         match met {
@@ -123,10 +131,18 @@ fn rows_few(m: u32, cones: &[u32]) -> bool
     sides_few(cones)
 }
 
-// ---- the routes
+// Whether 256 are: the compact route counts nothing.
+fn counts_few(standard: bool, m: u32) -> bool
+    ensures { λ r. ⌜ r ≡ (not standard || leb m 256) ⌝ }
+{
+    !standard || m <= 256
+}
 
-// s and z on the standard route, with counts of the columns on each cone's rows: few where the rows are few, since they are soon cleared.
-fn standard_few(
+// ---- s and z
+
+// s and z with counts for a cone of few rows, since they are soon cleared.
+fn with_few(
+    standard: bool,
     m: u32,
     cones: &[u32],
     count: u32,
@@ -136,19 +152,18 @@ fn standard_few(
     s_out: &mut [f64],
     z_out: &mut [f64],
 )
-    requires { ⌜ Joinable standardRoute m (now cones) count (now words) (now s) (now z) ⌝ }
-    requires { ⌜ (m ≤ length (now «s_out»)) × (m ≤ length (now «z_out»)) × (m ≤ 256) ⌝ }
-    ensures { λ _. ⌜ now («s_out» .exit) ≡ written (joinedOf standardRoute m (now (cones .entry)) count (now (words .entry)) (now (s .entry)) (now (z .entry)) .s) (now («s_out» .entry)) ⌝ }
-    ensures { λ _. ⌜ now («z_out» .exit) ≡ written (joinedOf standardRoute m (now (cones .entry)) count (now (words .entry)) (now (s .entry)) (now (z .entry)) .z) (now («z_out» .entry)) ⌝ }
+    requires { ⌜ Joinable (routeOf standard) m (now cones) count (now words) (now s) (now z) ⌝ }
+    requires { ⌜ (m ≤ length (now «s_out»)) × (m ≤ length (now «z_out»)) × CountsWithin standard 256 m (now cones) ⌝ }
+    ensures { λ _. ⌜ now («s_out» .exit) ≡ written (joinedOf (routeOf standard) m (now (cones .entry)) count (now (words .entry)) (now (s .entry)) (now (z .entry)) .s) (now («s_out» .entry)) ⌝ }
+    ensures { λ _. ⌜ now («z_out» .exit) ≡ written (joinedOf (routeOf standard) m (now (cones .entry)) count (now (words .entry)) (now (s .entry)) (now (z .entry)) .z) (now («z_out» .entry)) ⌝ }
 {
     let mut counts = [0u32; 256];
     join_parts(
-        true,
+        standard,
         m,
         cones,
         count,
         words,
-        m,
         s,
         z,
         s_out,
@@ -158,7 +173,8 @@ fn standard_few(
 }
 
 // The same for more rows, or for many cones of few rows.
-fn standard_some(
+fn with_some(
+    standard: bool,
     m: u32,
     cones: &[u32],
     count: u32,
@@ -168,19 +184,18 @@ fn standard_some(
     s_out: &mut [f64],
     z_out: &mut [f64],
 )
-    requires { ⌜ Joinable standardRoute m (now cones) count (now words) (now s) (now z) ⌝ }
-    requires { ⌜ (m ≤ length (now «s_out»)) × (m ≤ length (now «z_out»)) × RowsWithin 4096 m (now cones) ⌝ }
-    ensures { λ _. ⌜ now («s_out» .exit) ≡ written (joinedOf standardRoute m (now (cones .entry)) count (now (words .entry)) (now (s .entry)) (now (z .entry)) .s) (now («s_out» .entry)) ⌝ }
-    ensures { λ _. ⌜ now («z_out» .exit) ≡ written (joinedOf standardRoute m (now (cones .entry)) count (now (words .entry)) (now (s .entry)) (now (z .entry)) .z) (now («z_out» .entry)) ⌝ }
+    requires { ⌜ Joinable (routeOf standard) m (now cones) count (now words) (now s) (now z) ⌝ }
+    requires { ⌜ (m ≤ length (now «s_out»)) × (m ≤ length (now «z_out»)) × CountsWithin standard 4096 m (now cones) ⌝ }
+    ensures { λ _. ⌜ now («s_out» .exit) ≡ written (joinedOf (routeOf standard) m (now (cones .entry)) count (now (words .entry)) (now (s .entry)) (now (z .entry)) .s) (now («s_out» .entry)) ⌝ }
+    ensures { λ _. ⌜ now («z_out» .exit) ≡ written (joinedOf (routeOf standard) m (now (cones .entry)) count (now (words .entry)) (now (s .entry)) (now (z .entry)) .z) (now («z_out» .entry)) ⌝ }
 {
     let mut counts = [0u32; 4096];
     join_parts(
-        true,
+        standard,
         m,
         cones,
         count,
         words,
-        m,
         s,
         z,
         s_out,
@@ -190,7 +205,8 @@ fn standard_some(
 }
 
 // The same for the largest cone that a pattern may cut.
-fn standard_many(
+fn with_many(
+    standard: bool,
     m: u32,
     cones: &[u32],
     count: u32,
@@ -200,19 +216,18 @@ fn standard_many(
     s_out: &mut [f64],
     z_out: &mut [f64],
 )
-    requires { ⌜ Joinable standardRoute m (now cones) count (now words) (now s) (now z) ⌝ }
-    requires { ⌜ (m ≤ length (now «s_out»)) × (m ≤ length (now «z_out»)) ⌝ }
-    ensures { λ _. ⌜ now («s_out» .exit) ≡ written (joinedOf standardRoute m (now (cones .entry)) count (now (words .entry)) (now (s .entry)) (now (z .entry)) .s) (now («s_out» .entry)) ⌝ }
-    ensures { λ _. ⌜ now («z_out» .exit) ≡ written (joinedOf standardRoute m (now (cones .entry)) count (now (words .entry)) (now (s .entry)) (now (z .entry)) .z) (now («z_out» .entry)) ⌝ }
+    requires { ⌜ Joinable (routeOf standard) m (now cones) count (now words) (now s) (now z) ⌝ }
+    requires { ⌜ (m ≤ length (now «s_out»)) × (m ≤ length (now «z_out»)) × CountsWithin standard 32896 m (now cones) ⌝ }
+    ensures { λ _. ⌜ now («s_out» .exit) ≡ written (joinedOf (routeOf standard) m (now (cones .entry)) count (now (words .entry)) (now (s .entry)) (now (z .entry)) .s) (now («s_out» .entry)) ⌝ }
+    ensures { λ _. ⌜ now («z_out» .exit) ≡ written (joinedOf (routeOf standard) m (now (cones .entry)) count (now (words .entry)) (now (s .entry)) (now (z .entry)) .z) (now («z_out» .entry)) ⌝ }
 {
     let mut counts = [0u32; 32896];
     join_parts(
-        true,
+        standard,
         m,
         cones,
         count,
         words,
-        m,
         s,
         z,
         s_out,
@@ -221,69 +236,28 @@ fn standard_many(
     );
 }
 
-// x, s and z of a solution on the standard route.
-pub fn decomp_reverse_standard(
-    n: u32,
+// Clarabel's `decomp_reverse_standard` and `decomp_reverse_compact`: s and z of a solution.
+pub fn decomp_reverse(
+    standard: bool,
     m: u32,
     cones: &[u32],
     count: u32,
     words: &[u32],
-    x: &[f64],
     s: &[f64],
     z: &[f64],
-    x_out: &mut [f64],
     s_out: &mut [f64],
     z_out: &mut [f64],
 )
-    requires { ⌜ Joinable standardRoute m (now cones) count (now words) (now s) (now z) ⌝ }
-    requires { ⌜ (n ≤ length (now x)) × (n ≤ length (now «x_out»)) × (m ≤ length (now «s_out»)) × (m ≤ length (now «z_out»)) ⌝ }
-    ensures { λ _. ⌜ now («x_out» .exit) ≡ written (take n (now (x .entry))) (now («x_out» .entry)) ⌝ }
-    ensures { λ _. ⌜ now («s_out» .exit) ≡ written (joinedOf standardRoute m (now (cones .entry)) count (now (words .entry)) (now (s .entry)) (now (z .entry)) .s) (now («s_out» .entry)) ⌝ }
-    ensures { λ _. ⌜ now («z_out» .exit) ≡ written (joinedOf standardRoute m (now (cones .entry)) count (now (words .entry)) (now (s .entry)) (now (z .entry)) .z) (now («z_out» .entry)) ⌝ }
+    requires { ⌜ Joinable (routeOf standard) m (now cones) count (now words) (now s) (now z) ⌝ }
+    requires { ⌜ (m ≤ length (now «s_out»)) × (m ≤ length (now «z_out»)) ⌝ }
+    ensures { λ _. ⌜ now («s_out» .exit) ≡ written (joinedOf (routeOf standard) m (now (cones .entry)) count (now (words .entry)) (now (s .entry)) (now (z .entry)) .s) (now («s_out» .entry)) ⌝ }
+    ensures { λ _. ⌜ now («z_out» .exit) ≡ written (joinedOf (routeOf standard) m (now (cones .entry)) count (now (words .entry)) (now (s .entry)) (now (z .entry)) .z) (now («z_out» .entry)) ⌝ }
 {
-    copy_x(n, x, x_out);
-    if m <= 256 {
-        standard_few(m, cones, count, words, s, z, s_out, z_out);
+    if counts_few(standard, m) {
+        with_few(standard, m, cones, count, words, s, z, s_out, z_out);
     } else if rows_few(m, cones) {
-        standard_some(m, cones, count, words, s, z, s_out, z_out);
+        with_some(standard, m, cones, count, words, s, z, s_out, z_out);
     } else {
-        standard_many(m, cones, count, words, s, z, s_out, z_out);
+        with_many(standard, m, cones, count, words, s, z, s_out, z_out);
     }
-}
-
-// x, s and z of a solution on the compact route, which counts nothing.
-pub fn decomp_reverse_compact(
-    n: u32,
-    m: u32,
-    cones: &[u32],
-    count: u32,
-    words: &[u32],
-    x: &[f64],
-    s: &[f64],
-    z: &[f64],
-    x_out: &mut [f64],
-    s_out: &mut [f64],
-    z_out: &mut [f64],
-)
-    requires { ⌜ Joinable compactRoute m (now cones) count (now words) (now s) (now z) ⌝ }
-    requires { ⌜ (n ≤ length (now x)) × (n ≤ length (now «x_out»)) × (m ≤ length (now «s_out»)) × (m ≤ length (now «z_out»)) ⌝ }
-    ensures { λ _. ⌜ now («x_out» .exit) ≡ written (take n (now (x .entry))) (now («x_out» .entry)) ⌝ }
-    ensures { λ _. ⌜ now («s_out» .exit) ≡ written (joinedOf compactRoute m (now (cones .entry)) count (now (words .entry)) (now (s .entry)) (now (z .entry)) .s) (now («s_out» .entry)) ⌝ }
-    ensures { λ _. ⌜ now («z_out» .exit) ≡ written (joinedOf compactRoute m (now (cones .entry)) count (now (words .entry)) (now (s .entry)) (now (z .entry)) .z) (now («z_out» .entry)) ⌝ }
-{
-    copy_x(n, x, x_out);
-    let mut none = [0u32; 1];
-    join_parts(
-        false,
-        m,
-        cones,
-        count,
-        words,
-        0,
-        s,
-        z,
-        s_out,
-        z_out,
-        &mut none,
-    );
 }

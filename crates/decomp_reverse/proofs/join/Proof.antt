@@ -1,14 +1,15 @@
 use Prim.Native.Nat.{ℕ}
-use mathlib.Core.Path.{_≡_, refl, sym, ap, _∙_}
+use mathlib.Core.Path.{_≡_, refl, sym, ap, subst, _∙_}
 use mathlib.Core.List.{List, [], _∷_}
 use lib.ListN.{length}
 use lib.Ieee.{Float}
 use Rattle.layout.specs.Lists.{written}
-use Rattle.layout.specs.Problem.{Route, solution}
+use Rattle.layout.specs.Problem.{Route, Solution, solution}
 use Rattle.layout.specs.Answers.{output, routeOf, onRoute, joinRefusal}
 use Rattle.layout.proofs.Buffers.{output-kept}
+use Rattle.reverse.specs.Joined.{Joinable, joinedOf}
 use Rattle.decomp.proofs.Answers.{no-route, on-route}
-use Rattle.decomp_reverse.proofs.Order.{Accepted, as-layout, join-accepted, joined-parts, joined-scalars}
+use Rattle.decomp_reverse.proofs.Order.{Accepted, as-layout, join-accepted, joined-parts, joined-scalars, by-number}
 use Rattle.decomp_reverse.proofs.join.Statement.{statement}
 use Rattle.decomp_reverse.proofs.join.Tie as tie
 
@@ -59,27 +60,42 @@ accepted c =
     join-accepted (routeOf (a .route)) (a .n) (a .m) (a .cones .now) (a .count) (a .words .now) (solution (a .x .now) (a .s .now) (a .z .now) (a .tau) (a .kappa)) (a .map .now)
     (length (a .x-out .now)) (length (a .s-out .now)) (length (a .z-out .now)) (length (a .scalars-out .now)) (none c)
 
+copy-x-requires : tie.Need-copy-x-requires
+copy-x-requires c κs = let g = accepted (c .before) in (g .columns, g .room-x)
+
+-- where x was copied, and where s and z were joined
+abbrev chosen : tie.After-copy-x → tie.Else2
+chosen x = x .before .before
+
+abbrev copied : tie.After-decomp-reverse → tie.After-copy-x
+copied d = d .before .before .before .before .before
+
+abbrev reversed : tie.After-write-scalars → tie.After-decomp-reverse
+reversed w = w .before .before .before .before .before .before .before
+
 decomp-reverse-requires : tie.Need-decomp-reverse-requires
 decomp-reverse-requires c κs =
-    let g = accepted (c .before .before .before) in
-    (g .joinable, (g .columns, g .room-x, g .room-s, g .room-z))
+    let l = chosen (c .before .before .before .before) in
+    let g = accepted l in
+    let a = start (l .before .before) .args in (
+      subst (λ (rt : Route). Joinable rt (a .m) (a .cones .now) (a .count) (a .words .now) (a .s .now) (a .z .now)) (sym (by-number (a .route))) (g .joinable),
+      (g .room-s, g .room-z),
+    )
 
 joined-requires : tie.Need-joined-requires
 joined-requires c κs = tt
 
 write-scalars-requires : tie.Need-write-scalars-requires
-write-scalars-requires c κs =
-    let d = c .before .before .before .before .before .before .before .before in
-    accepted (d .before .before .before .before) .room-scalars
+write-scalars-requires c κs = accepted (chosen (copied (c .before .before .before .before .before .before))) .room-scalars
 
 same-length : tie.Need-same-length
-same-length c = c .before .before .before .before .before .before .before .before .before .before .before .decomp-reverse .kept .1 .1 .1 .1 .1 .1 .1 .1 .1 .0
+same-length c = copied (reversed (c .before .before)) .copy-x .kept .1 .1 .0
 
 same-length-2 : tie.Need-same-length-2
-same-length-2 c = c .before .before .before .before .before .before .before .before .before .before .before .decomp-reverse .kept .1 .1 .1 .1 .1 .1 .1 .1 .1 .1 .0
+same-length-2 c = reversed (c .before .before) .decomp-reverse .kept .1 .1 .1 .1 .1 .1 .1 .0
 
 same-length-3 : tie.Need-same-length-3
-same-length-3 c = c .before .before .before .before .before .before .before .before .before .before .before .decomp-reverse .kept .1 .1 .1 .1 .1 .1 .1 .1 .1 .1 .1 .0
+same-length-3 c = reversed (c .before .before) .decomp-reverse .kept .1 .1 .1 .1 .1 .1 .1 .1 .0
 
 same-length-4 : tie.Need-same-length-4
 same-length-4 c = c .before .before .write-scalars .kept .1 .0
@@ -88,10 +104,11 @@ returns-3 : tie.Need-returns-3
 returns-3 c =
     let w = c .before .before in
     let j = w .before .before .joined in
-    let d = w .before .before .before .before .before .before .before .before .before in
-    let l = d .before .before .before .before in
+    let d = reversed w in
+    let l = chosen (copied d) in
     let a = start (l .before .before) .args in
     let rt = routeOf (a .route) in
+    let on : Route → Solution = λ r. joinedOf r (a .m) (a .cones .now) (a .count) (a .words .now) (a .s .now) (a .z .now) in
     let put : (old xs ys : List Float) → xs ≡ ys → written xs old ≡ written ys old = λ old xs ys e. ap (λ (l : List Float). written l old) e in
     let e = d .decomp-reverse .ensures in
     let parts = joined-parts (a .n) (a .m) (a .cones .now) (a .count) (a .words .now) (a .x .now) (a .s .now) (a .z .now) (a .tau) (a .kappa) rt in
@@ -100,10 +117,13 @@ returns-3 c =
     (j .result .tau) (j .result .kappa) (j .ensures .0) (j .ensures .1) in (
       sym (numbered (l .before .before) ∙ none l),
       (
-        e .0 ∙ put (a .x-out .now) _ _ (parts .0),
+        copied d .copy-x .ensures ∙ put (a .x-out .now) _ _ (parts .0),
         (
-          e .1 .0 ∙ put (a .s-out .now) _ _ (parts .1),
-          (e .1 .1 ∙ put (a .z-out .now) _ _ (parts .2), w .write-scalars .ensures ∙ put (a .scalars-out .now) _ _ scalars),
+          e .0 ∙ put (a .s-out .now) _ _ (ap (λ (r : Route). on r .s) (by-number (a .route)) ∙ parts .1),
+          (
+            e .1 ∙ put (a .z-out .now) _ _ (ap (λ (r : Route). on r .z) (by-number (a .route)) ∙ parts .2),
+            w .write-scalars .ensures ∙ put (a .scalars-out .now) _ _ scalars,
+          ),
         ),
       ),
     )
@@ -115,6 +135,7 @@ join-spec =
     returns
     refuse-join-requires
     returns-2
+    copy-x-requires
     decomp-reverse-requires
     joined-requires
     write-scalars-requires

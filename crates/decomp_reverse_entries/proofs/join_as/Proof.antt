@@ -55,27 +55,36 @@ accepted c =
     (length (a .x-out .now)) (length (a .s-out .now)) (length (a .z-out .now)) (length (a .scalars-out .now))
     (as-joined (a .same) (a .n) (a .m) (a .cones .now) (a .count) (a .words .now) sol (length (a .x-out .now) ∷ length (a .s-out .now) ∷ length (a .z-out .now) ∷ length (a .scalars-out .now) ∷ []) (none c))
 
+copy-x-requires : tie.Need-copy-x-requires
+copy-x-requires c κs = let g = accepted (c .before) in (g .columns, g .room-x)
+
+-- where x was copied, and where s and z were joined
+abbrev chosen : tie.After-copy-x → tie.Else1
+chosen x = x .before .before
+
+abbrev copied : tie.After-decomp-reverse → tie.After-copy-x
+copied d = d .before .before .before .before .before
+
+abbrev reversed : tie.After-write-scalars → tie.After-decomp-reverse
+reversed w = w .before .before .before .before .before .before .before
+
 decomp-reverse-requires : tie.Need-decomp-reverse-requires
-decomp-reverse-requires c κs =
-    let g = accepted (c .before .before .before) in
-    (g .joinable, (g .columns, g .room-x, g .room-s, g .room-z))
+decomp-reverse-requires c κs = let g = accepted (chosen (c .before .before .before .before)) in (g .joinable, (g .room-s, g .room-z))
 
 joined-requires : tie.Need-joined-requires
 joined-requires c κs = tt
 
 write-scalars-requires : tie.Need-write-scalars-requires
-write-scalars-requires c κs =
-    let d = c .before .before .before .before .before .before .before .before in
-    accepted (d .before .before .before .before) .room-scalars
+write-scalars-requires c κs = accepted (chosen (copied (c .before .before .before .before .before .before))) .room-scalars
 
 same-length : tie.Need-same-length
-same-length c = c .before .before .before .before .before .before .before .before .before .before .before .decomp-reverse .kept .1 .1 .1 .1 .1 .1 .1 .1 .1 .0
+same-length c = copied (reversed (c .before .before)) .copy-x .kept .1 .1 .0
 
 same-length-2 : tie.Need-same-length-2
-same-length-2 c = c .before .before .before .before .before .before .before .before .before .before .before .decomp-reverse .kept .1 .1 .1 .1 .1 .1 .1 .1 .1 .1 .0
+same-length-2 c = reversed (c .before .before) .decomp-reverse .kept .1 .1 .1 .1 .1 .1 .1 .0
 
 same-length-3 : tie.Need-same-length-3
-same-length-3 c = c .before .before .before .before .before .before .before .before .before .before .before .decomp-reverse .kept .1 .1 .1 .1 .1 .1 .1 .1 .1 .1 .1 .0
+same-length-3 c = reversed (c .before .before) .decomp-reverse .kept .1 .1 .1 .1 .1 .1 .1 .1 .0
 
 same-length-4 : tie.Need-same-length-4
 same-length-4 c = c .before .before .write-scalars .kept .1 .0
@@ -84,8 +93,8 @@ returns-2 : tie.Need-returns-2
 returns-2 c =
     let w = c .before .before in
     let j = w .before .before .joined in
-    let d = w .before .before .before .before .before .before .before .before .before in
-    let l = d .before .before .before .before in
+    let d = reversed w in
+    let l = chosen (copied d) in
     let a = start (l .before) .args in
     let put : (old xs ys : List Float) → xs ≡ ys → written xs old ≡ written ys old = λ old xs ys e. ap (λ (l : List Float). written l old) e in
     let e = d .decomp-reverse .ensures in
@@ -94,9 +103,9 @@ returns-2 c =
     joined-scalars (a .n) (a .m) (a .cones .now) (a .count) (a .words .now) (a .x .now) (a .s .now) (a .z .now) (a .tau) (a .kappa) compact
     (j .result .tau) (j .result .kappa) (j .ensures .0) (j .ensures .1) in (
       sym (none l),
-      e .0 ∙ put (a .x-out .now) _ _ (parts .0),
-      e .1 .0 ∙ put (a .s-out .now) _ _ (parts .1),
-      e .1 .1 ∙ put (a .z-out .now) _ _ (parts .2),
+      copied d .copy-x .ensures ∙ put (a .x-out .now) _ _ (parts .0),
+      e .0 ∙ put (a .s-out .now) _ _ (parts .1),
+      e .1 ∙ put (a .z-out .now) _ _ (parts .2),
       w .write-scalars .ensures ∙ put (a .scalars-out .now) _ _ scalars,
     )
 
@@ -106,6 +115,7 @@ join-as-spec =
     (tie.spec
     refuse-as-requires
     returns
+    copy-x-requires
     decomp-reverse-requires
     joined-requires
     write-scalars-requires

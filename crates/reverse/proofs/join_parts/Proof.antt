@@ -30,16 +30,16 @@ use Rattle.reverse.proofs.join_parts.Statement.{statement}
 use Rattle.reverse.proofs.join_parts.Tie as tie
 
 abbrev Inv-loop : tie.InvT-loop
-Inv-loop standard m cones count words first s z s-out₀ z-out₀ counts₀ offsets₀ vertices₀ place₀ row₀ t₀ s-out z-out counts offsets vertices place row t =
+Inv-loop standard m cones count words s z s-out₀ z-out₀ counts₀ offsets₀ vertices₀ place₀ row₀ t₀ s-out z-out counts offsets vertices place row t =
     let ps = joinedParts cones count words in
     let left = ahead cones words place in
-    Joins (sPart standard) m (valuesFrom (sPart standard) ps (drop first s)) s s-out₀ left row t s-out
-    × Joins (zPart standard) m (valuesFrom (zPart standard) ps (drop first z)) z z-out₀ left row t z-out
+    Joins (sPart standard) m (valuesFrom (sPart standard) ps (drop (firstOf standard m) s)) s s-out₀ left row t s-out
+    × Joins (zPart standard) m (valuesFrom (zPart standard) ps (drop (firstOf standard m) z)) z z-out₀ left row t z-out
     × ((length counts ≡ length counts₀) × Cleared standard counts) × (row + sum (map coneRows left) ≡ m) × (t + blockRowCount left ≡ length s) × (blockRowCount left ≤ 262144)
     × Stands m cones words place × (length offsets ≡ 256) × (length vertices ≡ 256)
 
 abbrev μ-loop : tie.MeasureT-loop
-μ-loop standard m cones count words first s z s-out₀ z-out₀ counts₀ offsets₀ vertices₀ place₀ row₀ t₀ s-out z-out counts offsets vertices place row t = length (ahead cones words place)
+μ-loop standard m cones count words s z s-out₀ z-out₀ counts₀ offsets₀ vertices₀ place₀ row₀ t₀ s-out z-out counts offsets vertices place row t = length (ahead cones words place)
 
 -- ---- numbers: of what is left, n is the next part's
 
@@ -83,7 +83,7 @@ cleared-first false m cones counts room = tt
 -- ---- a turn
 
 abbrev start : (l : tie.At-loop Inv-loop μ-loop) → tie.Start Inv-loop μ-loop
-start l = l .before .before .before .before .before .before .before .before .before
+start l = l .before .before .before .before .before .before .before .before .before .before
 
 -- the parts left
 abbrev left : (l : tie.At-loop Inv-loop μ-loop) → List Part
@@ -135,7 +135,7 @@ s-whole c =
     (ap blockRowCount (met-whole c)) (knows-whole c .0)
 
 z-same : (s : tie.Start Inv-loop μ-loop) → length (s .args .z .now) ≡ length (s .args .s .now)
-z-same s = same-count (s .args .standard) (s .pre .0 .0)
+z-same s = same-count (s .args .standard) (s .pre .0)
 
 z-whole : (c : tie.After-known-told Inv-loop μ-loop) → loop-of c .loop .t + c .before .met .given .0 .0 ≤ length (start (loop-of c) .args .z .now)
 z-whole c = le-same (s-whole c) (z-same (start (loop-of c)))
@@ -201,22 +201,30 @@ s-cut c n e =
 -- ---- the needs
 
 start-requires : tie.Need-start-requires Inv-loop μ-loop
-start-requires c κs = c .before .before .before .before .before .before .before .pre .0 .0 .sound
+start-requires c κs = c .before .before .before .before .before .before .before .pre .0 .sound
+
+first-value-requires : tie.Need-first-value-requires Inv-loop μ-loop
+first-value-requires c κs = tt
 
 loop-holds : tie.Need-loop-holds Inv-loop μ-loop
 loop-holds c =
-    let s = c .before .before .before .before .before .before .before .before in
+    let s = c .before .before .before .before .before .before .before .before .before in
     let a = s .args in
     let ps = joinedParts (a .cones .now) (a .count) (a .words .now) in
-    let qs = ahead (a .cones .now) (a .words .now) (c .start .result) in
-    let e = c .start .ensures .0 in (
-      joins-none (sPart (a .standard)) (a .m) (a .s .now) (a .s-out .now) (s .pre .1 .0) ps qs (a .first) e,
-      joins-none (zPart (a .standard)) (a .m) (a .z .now) (a .z-out .now) (s .pre .1 .1) ps qs (a .first) e,
+    let w = c .before .start in
+    let qs = ahead (a .cones .now) (a .words .now) (w .result) in
+    let e = w .ensures .0 in
+    let t = c .first-value .result in
+    let f = c .first-value .ensures in (
+      subst (λ (k : ℕ). Joins (sPart (a .standard)) (a .m) (valuesFrom (sPart (a .standard)) ps (drop k (a .s .now))) (a .s .now) (a .s-out .now) qs 0 t (a .s-out .now)) f
+          (joins-none (sPart (a .standard)) (a .m) (a .s .now) (a .s-out .now) (s .pre .1 .0) ps qs t e),
+      subst (λ (k : ℕ). Joins (zPart (a .standard)) (a .m) (valuesFrom (zPart (a .standard)) ps (drop k (a .z .now))) (a .z .now) (a .z-out .now) qs 0 t (a .z-out .now)) f
+          (joins-none (zPart (a .standard)) (a .m) (a .z .now) (a .z-out .now) (s .pre .1 .1) ps qs t e),
       (refl, cleared-first (a .standard) (a .m) (a .cones .now) (a .counts .now) (s .pre .1 .2)),
-      sum-begins (rowsOf qs) (rowsOf ps) (a .m) (ap rowsOf e) (sound-total (s .pre .0 .0 .sound)),
-      values-begin (a .first) (firstOf (a .standard) (a .m)) (blockRowCount qs) (blockRowCount ps) (length (a .s .now)) (s .pre .0 .1) (ap blockRowCount e) (values-last (a .standard) (s .pre .0 .0)),
-      same-le (ap blockRowCount e) (s .pre .0 .0 .few),
-      c .start .ensures .1,
+      sum-begins (rowsOf qs) (rowsOf ps) (a .m) (ap rowsOf e) (sound-total (s .pre .0 .sound)),
+      values-begin t (firstOf (a .standard) (a .m)) (blockRowCount qs) (blockRowCount ps) (length (a .s .now)) f (ap blockRowCount e) (values-last (a .standard) (s .pre .0)),
+      same-le (ap blockRowCount e) (s .pre .0 .few),
+      w .ensures .1,
       length-replicate {A = ℕ} 256 0,
       length-replicate {A = ℕ} 256 0,
     )
@@ -230,7 +238,7 @@ enum-known-met c = c .match .keys1
 cast-n : tie.Need-cast-n Inv-loop μ-loop
 cast-n c =
     let s = start (loop-of c) in
-    fits-count 8 (part-le (loop-of c .loop .t) (c .before .met .given .0 .0) (length (s .args .s .now)) (s-whole c)) (s .good .1 .1 .1 .1 .1 .1 .0)
+    fits-count 8 (part-le (loop-of c .loop .t) (c .before .met .given .0 .0) (length (s .args .s .now)) (s-whole c)) (s .good .1 .1 .1 .1 .1 .0)
 
 join-whole-requires : tie.Need-join-whole-requires Inv-loop μ-loop
 join-whole-requires c κs =
@@ -251,10 +259,10 @@ add-row : tie.Need-add-row Inv-loop μ-loop
 add-row c =
     let k = joined-whole c in
     let s = start (loop-of k) in
-    fits-count 8 (le-trans (rows-whole k) (s .pre .1 .0)) (s .good .1 .1 .1 .1 .1 .1 .1 .1 .0)
+    fits-count 8 (le-trans (rows-whole k) (s .pre .1 .0)) (s .good .1 .1 .1 .1 .1 .1 .1 .0)
 
 add-t : tie.Need-add-t Inv-loop μ-loop
-add-t c = let k = joined-whole c in fits-count 8 (s-whole k) (start (loop-of k) .good .1 .1 .1 .1 .1 .1 .0)
+add-t c = let k = joined-whole c in fits-count 8 (s-whole k) (start (loop-of k) .good .1 .1 .1 .1 .1 .0)
 
 loop-less : tie.Need-loop-less Inv-loop μ-loop
 loop-less c = let k = joined-whole c in shorter (wholeOf k) (after-whole k) (left (loop-of k)) (met-whole k)
@@ -274,9 +282,9 @@ loop-again c =
     let row = l .loop .row in
     let t = l .loop .t in
     let ps = joinedParts (a .cones .now) (a .count) (a .words .now) in (
-      joins-whole (sPart (a .standard)) (a .m) (a .s .now) (a .s-out .now) (s .pre .1 .0) (valuesFrom (sPart (a .standard)) ps (drop (a .first) (a .s .now))) (a .standard) (q .cone) (coneOf k) (q .row)
+      joins-whole (sPart (a .standard)) (a .m) (a .s .now) (a .s-out .now) (s .pre .1 .0) (valuesFrom (sPart (a .standard)) ps (drop (firstOf (a .standard) (a .m)) (a .s .now))) (a .standard) (q .cone) (coneOf k) (q .row)
           (after-whole k) (left l) row t n (l .loop .s-out) (v .join-whole .last .1 .1 .1 .1 .1 .0) (λ vs. refl) (l .loop .inv .0) e (rows-whole k) (h .0) (s-whole k) (v .join-whole .ensures),
-      joins-whole (zPart (a .standard)) (a .m) (a .z .now) (a .z-out .now) (s .pre .1 .1) (valuesFrom (zPart (a .standard)) ps (drop (a .first) (a .z .now))) (a .standard) (q .cone) (coneOf k) (q .row)
+      joins-whole (zPart (a .standard)) (a .m) (a .z .now) (a .z-out .now) (s .pre .1 .1) (valuesFrom (zPart (a .standard)) ps (drop (firstOf (a .standard) (a .m)) (a .z .now))) (a .standard) (q .cone) (coneOf k) (q .row)
           (after-whole k) (left l) row t n (l .loop .z-out) (w .join-whole2 .last .1 .1 .1 .1 .1 .0) (λ vs. refl) (l .loop .inv .1) e (rows-whole k) (h .0) (z-whole k) (w .join-whole2 .ensures),
       l .loop .inv .2,
       sum-next row n (coneRows (wholeOf k)) (rowsOf (after-whole k)) (rowsOf (left l)) (a .m) (l .loop .inv .3) (ap rowsOf e) (h .0),
@@ -335,13 +343,13 @@ add-t-2 : tie.Need-add-t-2 Inv-loop μ-loop
 add-t-2 c =
     let j = joined-cut c in
     let k = met-of (sized j) in
-    fits-count 8 (s-cut k (j .join-cut .result) (j .join-cut .ensures .0)) (start (loop-of2 k) .good .1 .1 .1 .1 .1 .1 .0)
+    fits-count 8 (s-cut k (j .join-cut .result) (j .join-cut .ensures .0)) (start (loop-of2 k) .good .1 .1 .1 .1 .1 .0)
 
 add-row-2 : tie.Need-add-row-2 Inv-loop μ-loop
 add-row-2 c =
     let r = sized (joined-cut c) in
     let s = start (loop-of2 (met-of r)) in
-    fits-count 8 (le-trans (rows-cut r) (s .pre .1 .0)) (s .good .1 .1 .1 .1 .1 .1 .1 .1 .0)
+    fits-count 8 (le-trans (rows-cut r) (s .pre .1 .0)) (s .good .1 .1 .1 .1 .1 .1 .1 .0)
 
 loop-less-2 : tie.Need-loop-less-2 Inv-loop μ-loop
 loop-less-2 c = let k = met-of (sized (joined-cut c)) in shorter (cutOf k) (after-cut k) (left (loop-of2 k)) (met-cut k)
@@ -361,10 +369,10 @@ loop-again-2 c =
     let row = l .loop .row in
     let t = l .loop .t in
     let ps = joinedParts (a .cones .now) (a .count) (a .words .now) in (
-      joins-more (sPart (a .standard)) (a .m) (a .s .now) (a .s-out .now) (s .pre .1 .0) (valuesFrom (sPart (a .standard)) ps (drop (a .first) (a .s .now))) (cutOf k) (after-cut k) (left l) row t
+      joins-more (sPart (a .standard)) (a .m) (a .s .now) (a .s-out .now) (s .pre .1 .0) (valuesFrom (sPart (a .standard)) ps (drop (firstOf (a .standard) (a .m)) (a .s .now))) (cutOf k) (after-cut k) (left l) row t
           (r .cone-rows .result) (w .result) (l .loop .s-out) (w .last .1 .1 .1 .1 .1 .1 .1 .1 .0) (l .loop .inv .0) e (rows-cut r) (w .ensures .0)
           (length-s-cut (a .standard) p (drop t (a .s .now)) ∙ sym n) (w .ensures .1 .0),
-      joins-more (zPart (a .standard)) (a .m) (a .z .now) (a .z-out .now) (s .pre .1 .1) (valuesFrom (zPart (a .standard)) ps (drop (a .first) (a .z .now))) (cutOf k) (after-cut k) (left l) row t
+      joins-more (zPart (a .standard)) (a .m) (a .z .now) (a .z-out .now) (s .pre .1 .1) (valuesFrom (zPart (a .standard)) ps (drop (firstOf (a .standard) (a .m)) (a .z .now))) (cutOf k) (after-cut k) (left l) row t
           (r .cone-rows .result) (w .result) (l .loop .z-out) (w .last .1 .1 .1 .1 .1 .1 .1 .1 .1 .0) (l .loop .inv .1) e (rows-cut r) (w .ensures .0)
           (length-z-cut (a .standard) p (drop t (a .z .now)) ∙ sym n) (w .ensures .1 .1 .0),
       (_∙_ {b = length (l .loop .counts)} (w .kept .1 .1 .1 .1 .1 .1 .1 .1 .1 .1 .0) (l .loop .inv .2 .0), w .ensures .1 .1 .1),
@@ -397,15 +405,15 @@ returns c =
     let ps = joinedParts (a .cones .now) (a .count) (a .words .now) in
     let none : left l ≡ [] = by-same (meets (a .cones .now) (a .words .now) (l .loop .place)) {r = left l} (r .next .ensures .0) (c .enum-told .given .1) in
     let all : l .loop .row ≡ a .m = sum-done (l .loop .row) (rowsOf (left l)) (a .m) (l .loop .inv .3) (ap rowsOf none) in
-    let j = s .pre .0 .0 in (
+    let j = s .pre .0 in (
       by-same (λ (xs : List Float). written xs (a .s-out .now))
-          (joins-done (sPart (a .standard)) (a .m) (a .s .now) (a .s-out .now) (s .pre .1 .0) (valuesFrom (sPart (a .standard)) ps (drop (a .first) (a .s .now))) (left l) (l .loop .row) (l .loop .t)
+          (joins-done (sPart (a .standard)) (a .m) (a .s .now) (a .s-out .now) (s .pre .1 .0) (valuesFrom (sPart (a .standard)) ps (drop (firstOf (a .standard) (a .m)) (a .s .now))) (left l) (l .loop .row) (l .loop .t)
           (l .loop .s-out) (l .loop .inv .0) none all)
-          (ap (λ (k : ℕ). valuesFrom (sPart (a .standard)) ps (drop k (a .s .now))) (s .pre .0 .1) ∙ joined-s (a .standard) j),
+          (joined-s (a .standard) j),
       by-same (λ (xs : List Float). written xs (a .z-out .now))
-          (joins-done (zPart (a .standard)) (a .m) (a .z .now) (a .z-out .now) (s .pre .1 .1) (valuesFrom (zPart (a .standard)) ps (drop (a .first) (a .z .now))) (left l) (l .loop .row) (l .loop .t)
+          (joins-done (zPart (a .standard)) (a .m) (a .z .now) (a .z-out .now) (s .pre .1 .1) (valuesFrom (zPart (a .standard)) ps (drop (firstOf (a .standard) (a .m)) (a .z .now))) (left l) (l .loop .row) (l .loop .t)
           (l .loop .z-out) (l .loop .inv .1) none all)
-          (ap (λ (k : ℕ). valuesFrom (zPart (a .standard)) ps (drop k (a .z .now))) (s .pre .0 .1) ∙ joined-z (a .standard) j),
+          (joined-z (a .standard) j),
     )
 
 pub join-parts-spec : {M : Type 1} → statement M
@@ -415,6 +423,7 @@ join-parts-spec =
     Inv-loop
     μ-loop
     start-requires
+    first-value-requires
     loop-holds
     next-requires
     enum-known-met
