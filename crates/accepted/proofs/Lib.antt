@@ -1,3 +1,4 @@
 pub mod Marks
 pub mod Walked
 pub mod Patterns
+pub mod Separators

@@ -1,21 +1,25 @@
 -- What a walk that finds nothing wrong says of patterns.
-use Prim.Native.Nat.{ℕ, _*_, _≤_, _<_}
+use Prim.Native.Nat.{ℕ, _+_, _*_, _≤_, _<_}
 use mathlib.Core.Path.{_≡_}
 use mathlib.Core.Bool.{Bool, true, false, not, cond}
-use mathlib.Core.List.{List, _++_, map}
+use mathlib.Core.List.{List, [], _++_, map}
 use lib.ListN.{length, getD, drop}
 use lib.Dec.{T, eqb, ltb}
 use Rattle.layout.specs.Lists.{has, all, distinct, sum}
 use Rattle.layout.specs.Triangle.{triangle}
-use Rattle.layout.specs.Patterns.{Pattern, read, readHead, readCliques, readPattern, patterns}
+use Rattle.layout.specs.Patterns.{Clique, Head, Pattern, noClique, readClique, readHead, readCliques, readPattern, patterns}
 use Rattle.layout.specs.Blocks.{blockRows, overlapRows}
 use Rattle.layout.specs.Checks.{isPermutation, patternsRead, treeRight, cliquesRight}
-use Rattle.supernode_tree.specs.Reads.{headOf, whole, Whole, rest, cliquesFrom, patternAt}
+use Rattle.supernode_tree.specs.Reads.{headOf, patternRead, PatternInside, valueOr, whole, Whole, rest, cliquesFrom, patternAt}
+use Rattle.supernode_tree.specs.Offsets.{OffsetsEvery}
 use Rattle.supernode_tree.specs.declared.Pattern.{Pattern as PatternAt}
+use Rattle.supernode_tree.specs.declared.PatternRead.the-variants.{Pattern as FoundPattern}
 use Rattle.supernode_tree.specs.Sizes.{dimOf, overlapsOf}
 use Rattle.sparsity_pattern.specs.Sparsity.{patternRight}
-use Rattle.clique_tree.specs.Trees.{treeFrom, snodesOf, separatorsOk}
+use Rattle.supportedcone.specs.Ranges.{isPsdOf}
+use Rattle.clique_tree.specs.Trees.{cliqueOk, treeFrom, snodesOf, separatorsOk}
 use Rattle.accepted.specs.declared.Blocks.{Blocks}
+use Rattle.accepted.specs.declared.Walk.{Walk}
 use Rattle.accepted.specs.declared.Accepted.{Accepted}
 
 -- checks 5, 6 and 7
@@ -33,68 +37,108 @@ Summed ps r = (r .dim ≡ sum (map blockRows ps)) × (r .cut ≡ sum (map cutRow
 
 -- ---- marks
 
--- each mark is b
-abbrev pub AllAre : Bool → List Bool → Type 0
-AllAre b marks = (v : ℕ) → v < length marks → getD marks v false ≡ b
+-- no mark is set
+abbrev pub AllClear : List Bool → Type 0
+AllClear marks = (v : ℕ) → getD marks v false ≡ false
 
--- the numbers met: no two alike, each has a mark, and those marks and no others are b
-pub record Met (b : Bool) (marks : List Bool) (met : List ℕ) : Type 0 where
-  pub marked : (v : ℕ) → v < length marks → getD marks v false ≡ cond (has v met) b (not b)
+-- the numbers met: no two alike, each is below n, and of the first n marks those and no others are b; no other mark is set
+pub record Met (b : Bool) (n : ℕ) (marks : List Bool) (met : List ℕ) : Type 0 where
+  pub marked : (v : ℕ) → v < n → getD marks v false ≡ cond (has v met) b (not b)
+  pub later : (v : ℕ) → n ≤ v → getD marks v false ≡ false
   pub once : T (distinct met)
-  pub below : T (all (λ x. ltb x (length marks)) met)
+  pub below : T (all (λ x. ltb x n) met)
 
 -- after any that were met the words are met too
-abbrev pub MeetsMore : Bool → List Bool → List ℕ → List Bool → Type 0
-MeetsMore b old ws new = (met : List ℕ) → Met b old met → Met b new (met ++ ws)
+abbrev pub MeetsMore : Bool → ℕ → List Bool → List ℕ → List Bool → Type 0
+MeetsMore b n old ws new = (met : List ℕ) → Met b n old met → Met b n new (met ++ ws)
 
 -- ---- cliques
 
--- count cliques stand whole from an offset on; their parents are right, no snode is empty, and the snodes hold each number below
--- n once
-pub record SnodesHold (ws : List ℕ) (first count n : ℕ) : Type 0 where
-  pub stand : Whole ws first count
-  pub tree : treeFrom count 0 (cliquesFrom ws first count) ≡ true
-  pub filled : all (λ c. not (eqb (length (c .snode)) 0)) (cliquesFrom ws first count) ≡ true
-  pub many : length (snodesOf (cliquesFrom ws first count)) ≡ n
-  pub permutation : isPermutation (snodesOf (cliquesFrom ws first count)) ≡ true
+abbrev pub cliqueAt : List ℕ → ℕ → Clique
+cliqueAt ws at = valueOr noClique (readClique (drop at ws))
 
--- count cliques end at an offset, their separators are right, and their blocks have so many rows and overlaps
-pub record SeparatorsHold (ws : List ℕ) (first count : ℕ) (b : Blocks) : Type 0 where
-  pub after : rest (readCliques count (drop first ws)) ≡ drop (b .next) ws
+abbrev pub filled : Clique → Bool
+filled c = not (eqb (length (c .snode)) 0)
+
+-- clique c of count stands whole at an offset, its parent is right, and its snode is not empty
+pub record CliqueHolds (ws : List ℕ) (at c count : ℕ) : Type 0 where
+  pub stands : whole (readClique (drop at ws)) ≡ true
+  pub tree : cliqueOk count c (cliqueAt ws at) ≡ true
+  pub full : filled (cliqueAt ws at) ≡ true
+
+-- and after any that were met its snode is met
+abbrev pub SnodeHolds : List ℕ → PatternAt → ℕ → ℕ → List Bool → List Bool → Type 0
+SnodeHolds ws p at c old new =
+    CliqueHolds ws at c (p .«clique_count») × MeetsMore false (p .«vertex_count») old (cliqueAt ws at .snode) new
+
+abbrev pub cliquesOf : List ℕ → PatternAt → List Clique
+cliquesOf ws p = cliquesFrom ws (p .cliques) (p .«clique_count»)
+
+-- a pattern's cliques stand whole, each at its offset; their parents are right, no snode is empty, and the snodes hold each vertex once
+pub record SnodesHold (ws : List ℕ) (p : PatternAt) (offsets : List ℕ) : Type 0 where
+  pub stand : Whole ws (p .cliques) (p .«clique_count»)
+  pub starts : OffsetsEvery 1 ws (p .cliques) (p .«clique_count») offsets
+  pub tree : treeFrom (p .«clique_count») 0 (cliquesOf ws p) ≡ true
+  pub full : all filled (cliquesOf ws p) ≡ true
+  pub many : length (snodesOf (cliquesOf ws p)) ≡ p .«vertex_count»
+  pub permutation : isPermutation (snodesOf (cliquesOf ws p)) ≡ true
+
+-- they end at an offset, their separators are right, and their blocks have so many rows and overlaps, which are few
+pub record SeparatorsHold (ws : List ℕ) (p : PatternAt) (b : Blocks) : Type 0 where
+  pub after : rest (readCliques (p .«clique_count») (drop (p .cliques) ws)) ≡ drop (b .next) ws
   pub inside : b .next ≤ length ws
-  pub right : separatorsOk (cliquesFrom ws first count) ≡ true
-  pub dim : b .dim ≡ sum (map dimOf (cliquesFrom ws first count))
-  pub overlaps : b .overlaps ≡ sum (map overlapsOf (cliquesFrom ws first count))
+  pub right : separatorsOk (cliquesOf ws p) ≡ true
+  pub dim : b .dim ≡ sum (map dimOf (cliquesOf ws p))
+  pub overlaps : b .overlaps ≡ sum (map overlapsOf (cliquesOf ws p))
+  pub few-rows : b .dim ≤ p .«clique_count» * 32896
+  pub few-overlaps : b .overlaps ≤ p .«clique_count» * 32896
 
--- the blocks of k cliques have few rows
-abbrev pub Few : ℕ → Blocks → Type 0
-Few k b = (b .dim ≤ k * 32896) × (b .overlaps ≤ k * 32896)
-
--- both, of at least one clique
-pub record CliquesHold (ws : List ℕ) (first count n : ℕ) (b : Blocks) : Type 0 where
-  pub snodes : SnodesHold ws first count n
-  pub some : eqb count 0 ≡ false
-  pub separators : SeparatorsHold ws first count b
+-- a pattern's cliques stand, each at its offset
+abbrev pub Stand : List ℕ → PatternAt → List ℕ → Type 0
+Stand ws p offsets =
+    Whole ws (p .cliques) (p .«clique_count») × (p .«clique_count» ≤ length offsets) × OffsetsEvery 1 ws (p .cliques) (p .«clique_count») offsets
 
 -- ---- patterns
 
--- of a pattern whose head was read: the ordering is a permutation, and the cliques are right
-pub record MembersHold (ws : List ℕ) (p : PatternAt) (b : Blocks) : Type 0 where
-  pub ordering : isPermutation (headOf ws p .ordering) ≡ true
-  pub cliques : CliquesHold ws (p .cliques) (p .«clique_count») (p .«vertex_count») b
+abbrev pub noHead : Head
+noHead = record { origIndex = 0; vertexCount = 0; cliqueCount = 0; ordering = [] }
 
--- the pattern at an offset stands whole, ends at another, and is right; its blocks have so many rows and overlaps
-pub record PatternHolds (cones ws : List ℕ) (at : ℕ) (b : Blocks) : Type 0 where
-  pub stands : whole (readPattern (drop at ws)) ≡ true
-  pub after : rest (readPattern (drop at ws)) ≡ drop (b .next) ws
+abbrev pub headAt : List ℕ → ℕ → Head
+headAt ws at = valueOr noHead (readHead (drop at ws))
+
+-- the head at an offset stands whole, names a cone that is not before `least`, and has cliques; tables of 256 are long enough
+pub record HeadHolds (cones ws : List ℕ) (at least : ℕ) : Type 0 where
+  pub stands : whole (readHead (drop at ws)) ≡ true
+  pub rises : least ≤ headAt ws at .origIndex
+  pub some : eqb (headAt ws at .cliqueCount) 0 ≡ false
+  pub few : headAt ws at .cliqueCount ≤ 256
+  pub small : headAt ws at .vertexCount ≤ 256
+  pub psd : isPsdOf cones (headAt ws at .origIndex) (headAt ws at .vertexCount) ≡ true
+
+-- the walk's next head holds and, as it is read, the ordering is a permutation, and the snodes are right
+pub record VerticesHold (cones ws : List ℕ) (w : Walk) (offsets : List ℕ) : Type 0 where
+  pub head : HeadHolds cones ws (w .next) (w .least)
+  pub vertices : (p : PatternAt) → patternRead ws (FoundPattern p) ≡ readHead (drop (w .next) ws) → PatternInside (length ws) (w .next) (FoundPattern p)
+      → (isPermutation (headOf ws p .ordering) ≡ true) × SnodesHold ws p offsets
+
+-- the walk's next pattern stands whole, ends at another offset, and is right; its blocks have so many rows and overlaps
+pub record PatternHolds (cones ws : List ℕ) (w : Walk) (b : Blocks) : Type 0 where
+  pub head : HeadHolds cones ws (w .next) (w .least)
+  pub few-rows : b .dim ≤ 8421376
+  pub few-overlaps : b .overlaps ≤ 8421376
+  pub origin : patternAt ws (w .next) .origIndex ≡ headAt ws (w .next) .origIndex
+  pub size : patternAt ws (w .next) .vertexCount ≡ headAt ws (w .next) .vertexCount
+  pub stands : whole (readPattern (drop (w .next) ws)) ≡ true
+  pub after : rest (readPattern (drop (w .next) ws)) ≡ drop (b .next) ws
   pub inside : b .next ≤ length ws
-  pub right : patternRight cones (patternAt ws at) ≡ true
-  pub tree : treeRight (patternAt ws at) ≡ true
-  pub cliques : cliquesRight (patternAt ws at) ≡ true
-  pub dim : b .dim ≡ blockRows (patternAt ws at)
-  pub overlaps : b .overlaps ≡ overlapRows (patternAt ws at)
+  pub right : patternRight cones (patternAt ws (w .next)) ≡ true
+  pub tree : treeRight (patternAt ws (w .next)) ≡ true
+  pub cliques : cliquesRight (patternAt ws (w .next)) ≡ true
+  pub dim : b .dim ≡ blockRows (patternAt ws (w .next))
+  pub overlaps : b .overlaps ≡ overlapRows (patternAt ws (w .next))
 
--- the same wherever its head was read
-abbrev pub HoldsAt : List ℕ → List ℕ → PatternAt → Blocks → Type 0
-HoldsAt cones ws p b =
-    (at : ℕ) → readHead (drop at ws) ≡ read (headOf ws p) (drop (p .cliques) ws) → PatternHolds cones ws at b
+-- the pattern at the walk's end is walked, with its blocks
+abbrev pub Added : List ℕ → Walk → Blocks → Walk → Type 0
+Added ws w b r =
+    (r .next ≡ b .next) × (r .least ≡ headAt ws (w .next) .origIndex + 1) × (r .dim ≡ w .dim + b .dim)
+    × (r .cut ≡ w .cut + triangle (headAt ws (w .next) .vertexCount)) × (r .overlaps ≡ w .overlaps + b .overlaps)

@@ -2,14 +2,14 @@
 // says something: where it is false the checks themselves find the number.
 ghost use mathlib.Core.Path.{_≡_};
 ghost use mathlib.Core.Bool.{true, false};
+ghost use mathlib.Core.List.{[]};
 ghost use Prim.Native.Nat.{_+_, _-_, _*_, _≤_, _<_};
 ghost use lib.ListN.{length, take, drop};
-ghost use Rattle.supernode_tree.specs.Reads.{Whole, cliquesFrom};
-ghost use Rattle.supernode_tree.specs.Offsets.{OffsetsEvery};
+ghost use Rattle.supernode_tree.specs.Reads.{cliquesFrom, whole};
 ghost use Rattle.clique_tree.specs.Trees.{separatorOk};
-ghost use Rattle.layout.specs.Patterns.{patterns};
-ghost use Rattle.accepted.specs.Accepted.{Holds, Summed, AllAre, MeetsMore, SnodesHold, SeparatorsHold, CliquesHold, MembersHold, HoldsAt, Few};
-use scalarmath::triangular_number;
+ghost use Rattle.layout.specs.Triangle.{triangle};
+ghost use Rattle.layout.specs.Patterns.{patterns, readHead};
+ghost use Rattle.accepted.specs.Accepted.{Holds, Summed, AllClear, Met, MeetsMore, CliqueHolds, SnodeHolds, SnodesHold, SeparatorsHold, Stand, VerticesHold, HeadHolds, headAt, PatternHolds, Added};
 use supernode_tree::Clique;
 use supernode_tree::CliqueRead;
 use supernode_tree::Pattern;
@@ -23,24 +23,15 @@ struct Blocks {
     overlaps: u64,
 }
 
-fn not_right() -> Blocks
-    ensures { λ r. ⌜ r .next ≡ 0 ⌝ }
+// Sets the marks of the words from a to e to b, unless one is not below n or has the mark b already.
+fn mark_all(words: &[u32], a: usize, e: usize, n: usize, b: bool, marks: &mut [bool]) -> bool
+    requires { ⌜ (a ≤ e) × (e ≤ length (now words)) × (n ≤ length (now marks)) ⌝ }
+    ensures { λ r. ⌜ (r ≡ true → MeetsMore b n (now (marks .entry)) (take (e - a) (drop a (now (words .entry)))) (now (marks .exit))) ⌝ }
 {
-    Blocks {
-        next: 0,
-        dim: 0,
-        overlaps: 0,
-    }
-}
-
-// Sets the marks of the words' numbers to b, unless one has no mark or is b already.
-fn mark_all(words: &[u32], b: bool, marks: &mut [bool]) -> bool
-    ensures { λ r. ⌜ (r ≡ true → MeetsMore b (now (marks .entry)) (now (words .entry)) (now (marks .exit))) ⌝ }
-{
-    let mut i = 0;
-    while i < words.len() {
+    let mut i = a;
+    while i < e {
         let x = words[i] as usize;
-        if marks.len() <= x {
+        if n <= x {
             return false;
         }
         if marks[x] == b {
@@ -52,184 +43,234 @@ fn mark_all(words: &[u32], b: bool, marks: &mut [bool]) -> bool
     true
 }
 
-// Parents and snodes. Each vertex has a mark and loses it, so that none is left to clear; each clique leaves its offset.
-fn snodes_hold(
-    words: &[u32],
-    first: usize,
-    count: u32,
-    marks: &mut [bool],
-    offsets: &mut [usize],
-) -> bool
-    requires { ⌜ first ≤ length (now words) ⌝ }
-    requires { ⌜ AllAre true (now marks) ⌝ }
-    requires { ⌜ count ≤ length (now offsets) ⌝ }
-    ensures { λ r. ⌜ (r ≡ true → SnodesHold (now (words .entry)) first count (length (now (marks .entry))) × OffsetsEvery 1 (now (words .entry)) first count (now (offsets .exit)) × AllAre false (now (marks .exit))) ⌝ }
+// How many rows a block of side k has.
+fn rows(k: usize) -> u64
+    requires { ⌜ k ≤ 256 ⌝ }
+    ensures { λ r. ⌜ (r ≡ triangle k) × (r ≤ 32896) ⌝ }
+{
+    scalarmath::triangular_number(k as u32) as u64
+}
+
+// ---- parents and snodes
+
+// The c-th clique stands whole, has a right parent, and its snode is not empty.
+fn clique_holds(words: &[u32], at: usize, c: u32, count: u32) -> bool
+    requires { ⌜ c < count ⌝ }
+    ensures { λ r. ⌜ (r ≡ true → CliqueHolds (now (words .entry)) at c count) ⌝ }
+{
+    let CliqueRead::Clique(q) = Clique::read(words, at) else {
+        return false;
+    };
+    if q.snode_count == 0 {
+        return false;
+    }
+    clique_tree::parent_right(q, c, count)
+}
+
+// The same, and each vertex of its snode has a mark and loses it, so that none is left to clear.
+fn snode_holds(words: &[u32], p: Pattern, at: usize, c: u32, marks: &mut [bool]) -> bool
+    requires { ⌜ (c < p .«clique_count») × (p .«vertex_count» ≤ length (now marks)) ⌝ }
+    ensures { λ r. ⌜ (r ≡ true → SnodeHolds (now (words .entry)) p at c (now (marks .entry)) (now (marks .exit))) ⌝ }
+{
+    if !clique_holds(words, at, c, p.clique_count) {
+        return false;
+    }
+    let q = Clique::here(words, at);
+    mark_all(words, q.snode, q.separator, p.vertex_count, false, marks)
+}
+
+// The same of all cliques, which leave no mark; each leaves its offset.
+fn snodes_hold(words: &[u32], p: Pattern, marks: &mut [bool], offsets: &mut [usize]) -> bool
+    requires { ⌜ (p .cliques ≤ length (now words)) × (p .«vertex_count» ≤ length (now marks)) × (p .«clique_count» ≤ length (now offsets)) ⌝ }
+    requires { ⌜ Met false (p .«vertex_count») (now marks) [] ⌝ }
+    ensures { λ r. ⌜ (r ≡ true → SnodesHold (now (words .entry)) p (now (offsets .exit)) × AllClear (now (marks .exit))) ⌝ }
 {
     let mut total = 0;
-    let mut at = first;
+    let mut at = p.cliques;
     let mut c = 0;
-    while c < count {
-        let CliqueRead::Clique(q) = Clique::read(words, at) else {
-            return false;
-        };
-        if !clique_tree::parent_right(q, c, count) {
-            return false;
-        }
-        if q.snode_count == 0 {
-            return false;
-        }
-        let a = q.snode;
-        let e = q.separator;
-        if !mark_all(&words[a..e], false, &mut *marks) {
+    while c < p.clique_count {
+        if !snode_holds(words, p, at, c, &mut *marks) {
             return false;
         }
         offsets[c as usize] = at;
+        let q = Clique::here(words, at);
         total += q.snode_count;
         at = q.next;
         c += 1;
     }
-    total == marks.len()
+    total == p.vertex_count
 }
 
-// A read clique's separator repeats no member, and its parent's clique, which has its offset, holds each.
+// ---- separators and blocks
+
+// A read clique's block is no larger than a cone, its separator repeats no member, and its parent's clique, which has its offset,
+// holds each.
 fn separator_holds(
     words: &[u32],
-    first: usize,
-    count: u32,
+    p: Pattern,
     q: Clique,
     offsets: &[usize],
-    n: usize,
     marks: &mut [bool],
 ) -> bool
-    requires { ⌜ Whole (now words) first count ⌝ }
-    requires { ⌜ count ≤ length (now offsets) ⌝ }
-    requires { ⌜ OffsetsEvery 1 (now words) first count (now offsets) ⌝ }
+    requires { ⌜ Stand (now words) p (now offsets) ⌝ }
     requires { ⌜ (q .separator ≤ q .next) × (q .next ≤ length (now words)) ⌝ }
+    requires { ⌜ q .«snode_count» + q .«separator_count» < 18446744073709551616 ⌝ }
     requires { ⌜ 0 < length (now marks) ⌝ }
-    ensures { λ r. ⌜ (r ≡ true → separatorOk (cliquesFrom (now (words .entry)) first count) (q .parent) (take (q .next - q .separator) (drop (q .separator) (now (words .entry)))) ≡ true) ⌝ }
+    ensures { λ r. ⌜ (r ≡ true → (q .«snode_count» + q .«separator_count» ≤ 256) × (separatorOk (cliquesFrom (now (words .entry)) (p .cliques) (p .«clique_count»)) (q .parent) (take (q .next - q .separator) (drop (q .separator) (now (words .entry)))) ≡ true)) ⌝ }
 {
+    if 256 < q.get_nblk() {
+        return false;
+    }
     if q.separator == q.next {
         return true;
     }
-    if count <= q.parent {
+    if p.clique_count <= q.parent {
         return false;
     }
     let at = offsets[q.parent as usize];
     let m = Clique::here(words, at);
-    clique_tree::separator_right(words, q.separator, q.next, m.snode, m.next, n, marks)
+    clique_tree::separator_right(words, q.separator, q.next, m.snode, m.next, 256, marks)
 }
 
-// Each separator, with the offset of each clique, and the rows of the blocks, which are few where none is larger than a cone.
-fn separators_hold(
-    words: &[u32],
-    first: usize,
-    count: u32,
-    offsets: &[usize],
-    n: usize,
-    marks: &mut [bool],
-) -> Blocks
-    requires { ⌜ Whole (now words) first count × (first ≤ length (now words)) ⌝ }
-    requires { ⌜ count ≤ length (now offsets) ⌝ }
-    requires { ⌜ OffsetsEvery 1 (now words) first count (now offsets) ⌝ }
-    requires { ⌜ 0 < length (now marks) ⌝ }
-    ensures { λ r. ⌜ (0 < r .next → SeparatorsHold (now (words .entry)) first count r × Few count r) ⌝ }
+// A clique's block beside those before it.
+fn with_clique(b: Blocks, q: Clique) -> Blocks
+    requires { ⌜ q .«snode_count» + q .«separator_count» ≤ 256 ⌝ }
+    requires { ⌜ (b .dim + 32896 < 18446744073709551616) × (b .overlaps + 32896 < 18446744073709551616) ⌝ }
+    ensures { λ r. ⌜ (r .next ≡ q .next) × (r .dim ≡ b .dim + triangle (q .«snode_count» + q .«separator_count»)) × (r .overlaps ≡ b .overlaps + triangle (q .«separator_count»)) ⌝ }
 {
-    let mut dim = 0u64;
-    let mut overlaps = 0u64;
-    let mut at = first;
-    let mut left = count;
+    Blocks {
+        next: q.next,
+        dim: b.dim + rows(q.get_nblk()),
+        overlaps: b.overlaps + rows(q.separator_count),
+    }
+}
+
+fn no_blocks(next: usize) -> Blocks
+    ensures { λ r. ⌜ (r .next ≡ next) × (r .dim ≡ 0) × (r .overlaps ≡ 0) ⌝ }
+{
+    Blocks {
+        next: next,
+        dim: 0,
+        overlaps: 0,
+    }
+}
+
+// Each separator, and the rows of the blocks.
+fn separators_hold(words: &[u32], p: Pattern, offsets: &[usize], marks: &mut [bool]) -> Blocks
+    requires { ⌜ Stand (now words) p (now offsets) ⌝ }
+    requires { ⌜ p .cliques ≤ length (now words) ⌝ }
+    requires { ⌜ 0 < length (now marks) ⌝ }
+    ensures { λ r. ⌜ (0 < r .next → SeparatorsHold (now (words .entry)) p r) ⌝ }
+{
+    let mut b = no_blocks(p.cliques);
+    let mut left = p.clique_count;
     while 0 < left {
-        let q = Clique::here(words, at);
-        let side = q.get_nblk();
-        if 256 < side {
-            return not_right();
+        let q = Clique::here(words, b.next);
+        if !separator_holds(words, p, q, offsets, &mut *marks) {
+            return no_blocks(0);
         }
-        if !separator_holds(words, first, count, q, offsets, n, &mut *marks) {
-            return not_right();
-        }
-        dim += triangular_number(side as u32) as u64;
-        overlaps += triangular_number(q.separator_count as u32) as u64;
-        at = q.next;
+        b = with_clique(b, q);
         left -= 1;
     }
-    Blocks {
-        next: at,
-        dim: dim,
-        overlaps: overlaps,
-    }
+    b
 }
 
-// A pattern's cliques, with marks for the vertices, room for the cliques' offsets, and marks to look at separators.
-fn cliques_hold(
+// ---- patterns
+
+// The patterns that were found right: where the words after them start, the least number that the next one's cone can have, the rows
+// of the blocks, those of the cones that are cut, and the overlaps.
+struct Walk {
+    next: usize,
+    least: u64,
+    dim: u64,
+    cut: u64,
+    overlaps: u64,
+}
+
+// The head of the pattern at an offset stands whole, and names its cone, which is a later one; tables of 256 are long enough.
+fn head_holds(cones: &[u32], words: &[u32], at: usize, least: u64) -> bool
+    ensures { λ r. ⌜ (r ≡ true → HeadHolds (now (cones .entry)) (now (words .entry)) at least) ⌝ }
+{
+    let PatternRead::Pattern(p) = Pattern::read(words, at) else {
+        return false;
+    };
+    if (p.orig_index as u64) < least {
+        return false;
+    }
+    if p.clique_count == 0 {
+        return false;
+    }
+    if 256 < p.clique_count {
+        return false;
+    }
+    if 256 < p.vertex_count {
+        return false;
+    }
+    supportedcone::is_psd_of(cones, p.orig_index as usize, p.vertex_count)
+}
+
+// The vertices of the pattern after those walked: its ordering sets their marks, and its snodes take them away.
+fn vertices_hold(
+    cones: &[u32],
     words: &[u32],
-    first: usize,
-    count: u32,
+    w: Walk,
     marks: &mut [bool],
     offsets: &mut [usize],
-    others: &mut [bool],
-) -> Blocks
-    requires { ⌜ first ≤ length (now words) ⌝ }
-    requires { ⌜ AllAre true (now marks) ⌝ }
-    requires { ⌜ 0 < length (now others) ⌝ }
-    ensures { λ r. ⌜ (0 < r .next → CliquesHold (now (words .entry)) first count (length (now (marks .entry))) r × AllAre false (now (marks .exit)) × Few (length (now (offsets .entry))) r) ⌝ }
+) -> bool
+    requires { ⌜ (256 ≤ length (now marks)) × (256 ≤ length (now offsets)) × AllClear (now marks) ⌝ }
+    ensures { λ r. ⌜ (r ≡ true → VerticesHold (now (cones .entry)) (now (words .entry)) w (now (offsets .exit)) × AllClear (now (marks .exit))) ⌝ }
 {
-    if count == 0 {
-        return not_right();
+    if !head_holds(cones, words, w.next, w.least) {
+        return false;
     }
-    if offsets.len() < count as usize {
-        return not_right();
+    let p = Pattern::here(words, w.next);
+    if !mark_all(
+        words,
+        p.ordering,
+        p.cliques,
+        p.vertex_count,
+        true,
+        &mut *marks,
+    ) {
+        return false;
     }
-    let n = marks.len();
-    if !snodes_hold(words, first, count, marks, &mut *offsets) {
-        return not_right();
-    }
-    separators_hold(words, first, count, offsets, n, others)
+    snodes_hold(words, p, marks, offsets)
 }
 
-// A pattern whose head was read, with a mark for each vertex: its ordering sets them all, and its snodes take them away.
-fn members_hold(
-    words: &[u32],
-    p: Pattern,
-    marks: &mut [bool],
-    offsets: &mut [usize],
-    others: &mut [bool],
-) -> Blocks
-    requires { ⌜ (p .cliques ≡ p .ordering + p .«vertex_count») × (p .cliques ≤ length (now words)) ⌝ }
-    requires { ⌜ p .«vertex_count» ≡ length (now marks) ⌝ }
-    requires { ⌜ AllAre false (now marks) ⌝ }
-    requires { ⌜ 0 < length (now others) ⌝ }
-    ensures { λ r. ⌜ (0 < r .next → MembersHold (now (words .entry)) p r × AllAre false (now (marks .exit)) × Few (length (now (offsets .entry))) r) ⌝ }
-{
-    let a = p.ordering;
-    let e = p.cliques;
-    if !mark_all(&words[a..e], true, &mut *marks) {
-        return not_right();
-    }
-    cliques_hold(words, e, p.clique_count, marks, offsets, others)
-}
-
-// The same with marks to spare, and its cone.
+// The pattern after those walked, with marks for its vertices, room for its cliques' offsets, and marks to look at separators.
 fn pattern_holds(
     cones: &[u32],
     words: &[u32],
-    p: Pattern,
+    w: Walk,
     marks: &mut [bool],
     offsets: &mut [usize],
     others: &mut [bool],
 ) -> Blocks
-    requires { ⌜ (p .cliques ≡ p .ordering + p .«vertex_count») × (p .cliques ≤ length (now words)) ⌝ }
-    requires { ⌜ AllAre false (now marks) ⌝ }
+    requires { ⌜ (256 ≤ length (now marks)) × (256 ≤ length (now offsets)) × AllClear (now marks) ⌝ }
     requires { ⌜ 0 < length (now others) ⌝ }
-    ensures { λ r. ⌜ (0 < r .next → HoldsAt (now (cones .entry)) (now (words .entry)) p r × AllAre false (now (marks .exit)) × Few (length (now (offsets .entry))) r × (p .«vertex_count» ≤ length (now (marks .entry)))) ⌝ }
+    ensures { λ r. ⌜ (0 < r .next → PatternHolds (now (cones .entry)) (now (words .entry)) w r × AllClear (now (marks .exit))) ⌝ }
 {
-    let n = p.vertex_count;
-    if marks.len() < n {
-        return not_right();
+    if !vertices_hold(cones, words, w, marks, &mut *offsets) {
+        return no_blocks(0);
     }
-    if !supportedcone::is_psd_of(cones, p.orig_index as usize, n) {
-        return not_right();
+    let p = Pattern::here(words, w.next);
+    separators_hold(words, p, offsets, others)
+}
+
+// A pattern's blocks beside those before it.
+fn with_pattern(words: &[u32], w: Walk, b: Blocks) -> Walk
+    requires { ⌜ (whole (readHead (drop (w .next) (now words))) ≡ true) × (headAt (now words) (w .next) .vertexCount ≤ 256) ⌝ }
+    requires { ⌜ (w .dim + b .dim < 18446744073709551616) × (w .cut + 32896 < 18446744073709551616) × (w .overlaps + b .overlaps < 18446744073709551616) ⌝ }
+    ensures { λ r. ⌜ Added (now (words .entry)) w b r ⌝ }
+{
+    let p = Pattern::here(words, w.next);
+    Walk {
+        next: b.next,
+        least: p.orig_index as u64 + 1,
+        dim: w.dim + b.dim,
+        cut: w.cut + rows(p.vertex_count),
+        overlaps: w.overlaps + b.overlaps,
     }
-    members_hold(words, p, &mut marks[0..n], offsets, others)
 }
 
 // What the walk answers: whether checks 5, 6 and 7 hold and, where they do, the rows of the blocks, those of the cones that are
@@ -241,14 +282,14 @@ pub struct Accepted {
     pub overlaps: u64,
 }
 
-fn not_accepted() -> Accepted
-    ensures { λ r. ⌜ r .holds ≡ false ⌝ }
+fn answer(holds: bool, w: Walk) -> Accepted
+    ensures { λ r. ⌜ (r .holds ≡ holds) × (r .dim ≡ w .dim) × (r .cut ≡ w .cut) × (r .overlaps ≡ w .overlaps) ⌝ }
 {
     Accepted {
-        holds: false,
-        dim: 0,
-        cut: 0,
-        overlaps: 0,
+        holds: holds,
+        dim: w.dim,
+        cut: w.cut,
+        overlaps: w.overlaps,
     }
 }
 
@@ -258,35 +299,21 @@ pub fn patterns_hold(cones: &[u32], count: u32, words: &[u32]) -> Accepted
     let mut marks = [false; 256];
     let mut offsets = [0usize; 256];
     let mut others = [false; 256];
-    let mut dim = 0u64;
-    let mut cut = 0u64;
-    let mut overlaps = 0u64;
-    let mut least: u64 = 0;
-    let mut at = 0;
+    let mut w = Walk {
+        next: 0,
+        least: 0,
+        dim: 0,
+        cut: 0,
+        overlaps: 0,
+    };
     let mut left = count;
     while 0 < left {
-        let PatternRead::Pattern(p) = Pattern::read(words, at) else {
-            return not_accepted();
-        };
-        let origin = p.orig_index as u64;
-        if origin < least {
-            return not_accepted();
+        let b = pattern_holds(cones, words, w, &mut marks, &mut offsets, &mut others);
+        if b.next == 0 {
+            return answer(false, w);
         }
-        least = origin + 1;
-        let blocks = pattern_holds(cones, words, p, &mut marks, &mut offsets, &mut others);
-        if blocks.next == 0 {
-            return not_accepted();
-        }
-        dim += blocks.dim;
-        cut += triangular_number(p.vertex_count as u32) as u64;
-        overlaps += blocks.overlaps;
-        at = blocks.next;
+        w = with_pattern(words, w, b);
         left -= 1;
     }
-    Accepted {
-        holds: at == words.len(),
-        dim: dim,
-        cut: cut,
-        overlaps: overlaps,
-    }
+    answer(w.next == words.len(), w)
 }

@@ -1,98 +1,43 @@
-use Prim.Native.Nat.{_-_, _≤_}
-use mathlib.Core.Path.{_≡_, refl, sym, subst, _∙_}
-use lib.ListN.{length, length-set}
+use Prim.Native.Nat.{suc, _-_, _≤_}
+use native.Mathlib.Nat.{le-trans, le-of-eq}
+use native.Mathlib.Omega.{arith}
 use mathlib.Core.Bool.{false}
+use mathlib.Core.Path.{_≡_, refl, sym, _∙_}
+use lib.ListN.{length, length-set}
 use borrow.Author.Tests.{not-false, eqb-true}
 use Rattle.layout.proofs.Tests.{differ}
-use Rattle.supernode_tree.proofs.Words.{clique-found}
-use Rattle.supernode_tree.proofs.Cliques.{snode-part}
-use Rattle.accepted.specs.Accepted.{SnodesHold}
-use Rattle.accepted.proofs.Walked.{Walked, walked-none, walked-more, walked-snodes, walked-offsets, walked-marks}
-use native.Mathlib.Omega.{arith}
+use Rattle.accepted.proofs.Walked.{Walked, walked-none, walked-more, walked-all, walked-clear}
 use Rattle.accepted.proofs.snodes_hold.Statement.{statement}
 use Rattle.accepted.proofs.snodes_hold.Tie as tie
 
 abbrev Inv-loop : tie.InvT-loop
-Inv-loop words first count marks₀ offsets₀ total₀ at₀ c₀ marks offsets total at c =
-    (at ≤ length words) × (total ≤ at) × (c ≤ count) × (length marks ≡ length marks₀) × (length offsets ≡ length offsets₀)
-    × Walked words first count marks offsets total at c
+Inv-loop words p marks₀ offsets₀ total₀ at₀ c₀ marks offsets total at c =
+    (at ≤ length words) × (total ≤ at) × (c ≤ p .«clique_count») × (length marks ≡ length marks₀) × (length offsets ≡ length offsets₀)
+    × Walked words p marks offsets total at c
 
 abbrev μ-loop : tie.MeasureT-loop
-μ-loop words first count marks₀ offsets₀ total₀ at₀ c₀ marks offsets total at c = count - c
+μ-loop words p marks₀ offsets₀ total₀ at₀ c₀ marks offsets total at c = p .«clique_count» - c
+
+room : (c : tie.Else2 Inv-loop μ-loop) → suc (c .before .before .before .before .before .before .before .loop .c) ≤ length (c .before .before .before .before .before .before .before .loop .offsets)
+room c = le-trans (c .before .before .before .before .before .if1 .taken) (le-trans (c .before .before .before .before .before .before .before .before .before .before .before .pre .0 .2) (le-of-eq (sym (c .before .before .before .before .before .before .before .loop .inv .4))))
 
 loop-holds : tie.Need-loop-holds Inv-loop μ-loop
 loop-holds c =
-    let s = c .before .before .before in (
-      omega arith,
-      omega arith,
-      omega arith,
-      refl,
-      refl,
-      walked-none (s .args .words .now) (s .args .first) (s .args .count) (s .args .marks .now) (s .args .offsets .now) (s .pre .1 .0),
-    )
+    let s = c .before .before .before in
+    let a = s .args in
+    (s .pre .0 .0, omega arith, omega arith, refl, refl, walked-none (a .words .now) (a .p) (a .marks .now) (a .offsets .now) (s .pre .1))
 
-read-requires : tie.Need-read-requires Inv-loop μ-loop
-read-requires c κs = tt
-
-enum-known-q : tie.Need-enum-known-q Inv-loop μ-loop
-enum-known-q c = omega arith
-
-enum-told : tie.Need-enum-told Inv-loop μ-loop
-enum-told c = omega arith
+snode-holds-requires : tie.Need-snode-holds-requires Inv-loop μ-loop
+snode-holds-requires c κs = (c .before .if1 .taken, le-trans (c .before .before .before .before .before .before .before .pre .0 .1) (le-of-eq (sym (c .before .before .before .loop .inv .3))))
 
 same-length : tie.Need-same-length Inv-loop μ-loop
-same-length c = omega arith
+same-length c = c .before .before .before .snode-holds .kept .1 .1 .1 .1 .0 ∙ c .before .before .before .before .before .before .before .loop .inv .3
 
 same-length-2 : tie.Need-same-length-2 Inv-loop μ-loop
-same-length-2 c = omega arith
+same-length-2 c = c .before .before .before .before .before .before .before .loop .inv .4
 
 returns : tie.Need-returns Inv-loop μ-loop
 returns c = λ z. absurd (differ false z refl)
-
-parent-right-requires : tie.Need-parent-right-requires Inv-loop μ-loop
-parent-right-requires c κs = omega arith
-
-same-length-3 : tie.Need-same-length-3 Inv-loop μ-loop
-same-length-3 c = omega arith
-
-same-length-4 : tie.Need-same-length-4 Inv-loop μ-loop
-same-length-4 c = omega arith
-
-returns-2 : tie.Need-returns-2 Inv-loop μ-loop
-returns-2 c = λ z. absurd (differ false z refl)
-
-same-length-5 : tie.Need-same-length-5 Inv-loop μ-loop
-same-length-5 c = omega arith
-
-same-length-6 : tie.Need-same-length-6 Inv-loop μ-loop
-same-length-6 c = omega arith
-
-returns-3 : tie.Need-returns-3 Inv-loop μ-loop
-returns-3 c = λ z. absurd (differ false z refl)
-
-mul-mark-all : tie.Need-mul-mark-all Inv-loop μ-loop
-mul-mark-all c = let inside = rw (c .before .before .before .before .before .q .given .1) at (c .before .before .before .before .before .before .before .read .ensures .1) in omega arith
-
-sub-mark-all : tie.Need-sub-mark-all Inv-loop μ-loop
-sub-mark-all c = let inside = rw (c .before .before .before .before .before .q .given .1) at (c .before .before .before .before .before .before .before .read .ensures .1) in omega arith
-
-part-mark-all-start : tie.Need-part-mark-all-start Inv-loop μ-loop
-part-mark-all-start c = let inside = rw (c .before .before .before .before .before .q .given .1) at (c .before .before .before .before .before .before .before .read .ensures .1) in omega arith
-
-part-mark-all-end : tie.Need-part-mark-all-end Inv-loop μ-loop
-part-mark-all-end c = let inside = rw (c .before .before .before .before .before .q .given .1) at (c .before .before .before .before .before .before .before .read .ensures .1) in omega arith
-
-mark-all-requires : tie.Need-mark-all-requires Inv-loop μ-loop
-mark-all-requires c κs = tt
-
-same-length-7 : tie.Need-same-length-7 Inv-loop μ-loop
-same-length-7 c = omega arith
-
-same-length-8 : tie.Need-same-length-8 Inv-loop μ-loop
-same-length-8 c = omega arith
-
-returns-4 : tie.Need-returns-4 Inv-loop μ-loop
-returns-4 c = λ z. absurd (differ false z refl)
 
 cast-offsets : tie.Need-cast-offsets Inv-loop μ-loop
 cast-offsets c = omega arith
@@ -101,58 +46,50 @@ mul-offsets : tie.Need-mul-offsets Inv-loop μ-loop
 mul-offsets c = omega arith
 
 slice-write-offsets : tie.Need-slice-write-offsets Inv-loop μ-loop
-slice-write-offsets c = omega arith
+slice-write-offsets c = room c
+
+here-requires : tie.Need-here-requires Inv-loop μ-loop
+here-requires c κs = c .before .before .before .snode-holds .ensures (not-false _ (c .if2 .left)) .0 .stands
 
 add-total : tie.Need-add-total Inv-loop μ-loop
-add-total c = let inside = rw (c .before .before .before .before .before .before .before .before .before .before .before .before .q .given .1) at (c .before .before .before .before .before .before .before .before .before .before .before .before .before .before .read .ensures .1) in omega arith
+add-total c = omega (arith, c .before .here .ensures .1, c .before .before .before .before .before .before .before .before .before .loop .inv .1)
 
 add-c : tie.Need-add-c Inv-loop μ-loop
-add-c c = omega (arith, c .before .before .before .before .before .before .before .before .before .before .before .before .before .before .before .before .before .before .before .before .fits)
+add-c c = omega (arith, c .before .before .before .before .before .before .before .if1 .taken)
 
 loop-less : tie.Need-loop-less Inv-loop μ-loop
-loop-less c = omega arith
+loop-less c = omega (arith, c .before .before .before .before .before .before .before .if1 .taken)
 
 loop-again : tie.Need-loop-again Inv-loop μ-loop
 loop-again c =
-    let m = c .before .before .before .before in
-    let g = c .before .before .before .before .before .before .before .before .before .before .before .before .q .given in
-    let q = g .0 .0 in
-    let r = c .before .before .before .before .before .before .before .before .before .before .before .before .before .before in
-    let l = r .before .before in
-    let s = c .before .before .before .before .before .before .before .before .before .before .before .before .before .before .before .before .before .before .before .before in
-    let ws = s .args .words .now in
-    let at = l .loop .at in
-    let inside = rw (g .1) at (r .read .ensures .1) in (
-      omega arith,
-      omega arith,
-      omega arith,
-      omega arith,
-      simp length-set (l .loop .inv .4),
-      walked-more ws (s .args .first) (s .args .count) (l .loop .marks) (l .loop .offsets) (l .loop .total) at (l .loop .c) (l .loop .inv .5) q (m .mark-all .last .1 .1 .0) inside
-          (clique-found ws at _ q (r .read .ensures .0) (g .1)) (sym (c .before .before .before .before .before .before .before .before .before .before .parent-right .ensures) ∙ not-false _ (c .before .before .before .before .before .before .before .before .before .if1 .left)) (c .before .before .before .before .before .before .before .if2 .left)
-          (rw (snode-part ws at q inside) at (m .mark-all .ensures (not-false _ (c .before .if3 .left)))) (omega arith),
+    let h = c .before .here in
+    let l = c .before .before .before .before .before .before .before .before .before in
+    let s = c .before .before .before .before .before .before .before .before .before .before .before .before .before .args in
+    let inside = h .ensures .1 in (
+      inside .3,
+      omega (arith, inside, l .loop .inv .1),
+      omega (arith, c .before .before .before .before .before .before .before .if1 .taken),
+      c .before .before .before .before .before .snode-holds .kept .1 .1 .1 .1 .0 ∙ l .loop .inv .3,
+      length-set (l .loop .offsets) (l .loop .c) (l .loop .at) ∙ l .loop .inv .4,
+      walked-more (s .words .now) (s .p) (l .loop .marks) (l .loop .offsets) (l .loop .total) (l .loop .at) (l .loop .c) (l .loop .inv .5) (h .result)
+          (c .before .before .before .before .before .snode-holds .last .1 .1 .1 .1 .0) (h .ensures .0) inside (c .before .before .before .before .before .snode-holds .ensures (not-false _ (c .before .before .if2 .left))) (room (c .before .before)),
     )
 
-same-length-9 : tie.Need-same-length-9 Inv-loop μ-loop
-same-length-9 c = omega arith
+same-length-3 : tie.Need-same-length-3 Inv-loop μ-loop
+same-length-3 c = c .before .before .before .loop .inv .3
 
-same-length-10 : tie.Need-same-length-10 Inv-loop μ-loop
-same-length-10 c = omega arith
+same-length-4 : tie.Need-same-length-4 Inv-loop μ-loop
+same-length-4 c = c .before .before .before .loop .inv .4
 
-returns-5 : tie.Need-returns-5 Inv-loop μ-loop
-returns-5 c =
-    let l = c .before in
-    let s = c .before .before .before .before .before in
-    let ws = s .args .words .now in
-    let first = s .args .first in
-    let count = s .args .count in
-    let w = l .loop .inv .5 in
-    let end : l .loop .c ≡ count = omega arith in
-    let n : length (l .loop .marks) ≡ length (s .args .marks .now) = omega arith in
-    λ z. let all : l .loop .total ≡ length (l .loop .marks) = eqb-true _ _ z in (
-      subst (SnodesHold ws first count) n (walked-snodes ws first count (l .loop .marks) (l .loop .offsets) (l .loop .total) (l .loop .at) (l .loop .c) w end all),
-      walked-offsets ws first count (l .loop .marks) (l .loop .offsets) (l .loop .total) (l .loop .at) (l .loop .c) w end,
-      walked-marks ws first count (l .loop .marks) (l .loop .offsets) (l .loop .total) (l .loop .at) (l .loop .c) w end all,
+returns-2 : tie.Need-returns-2 Inv-loop μ-loop
+returns-2 c =
+    let l = c .before .before .before .loop in
+    let s = c .before .before .before .before .before .before .before .args in
+    let w = l .inv .5 in
+    let end : l .c ≡ s .p .«clique_count» = omega (arith, c .before .if1 .left, l .inv .2) in
+    λ z. let all : l .total ≡ s .p .«vertex_count» = eqb-true _ _ z in (
+      walked-all (s .words .now) (s .p) (l .marks) (l .offsets) (l .total) (l .at) (l .c) w end all,
+      walked-clear (s .words .now) (s .p) (l .marks) (l .offsets) (l .total) (l .at) (l .c) w end all,
     )
 
 pub snodes-hold-spec : {M : Type 1} → statement M
@@ -162,34 +99,18 @@ snodes-hold-spec =
     Inv-loop
     μ-loop
     loop-holds
-    read-requires
-    enum-known-q
-    enum-told
+    snode-holds-requires
     same-length
     same-length-2
     returns
-    parent-right-requires
-    same-length-3
-    same-length-4
-    returns-2
-    same-length-5
-    same-length-6
-    returns-3
-    mul-mark-all
-    sub-mark-all
-    part-mark-all-start
-    part-mark-all-end
-    mark-all-requires
-    same-length-7
-    same-length-8
-    returns-4
     cast-offsets
     mul-offsets
     slice-write-offsets
+    here-requires
     add-total
     add-c
     loop-less
     loop-again
-    same-length-9
-    same-length-10
-    returns-5)
+    same-length-3
+    same-length-4
+    returns-2)

@@ -1,0 +1,110 @@
+-- Separators and blocks walked: what was added, and what is left to add.
+use Prim.Native.Nat.{ℕ, _+_, _-_, _*_, _≤_, _<_}
+use native.Mathlib.Omega.{arith}
+use mathlib.Core.Path.{_≡_, refl, sym, ap, subst, _∙_}
+use mathlib.Core.Bool.{Bool, true}
+use mathlib.Core.List.{List, _∷_, map}
+use lib.ListN.{length, drop}
+use Rattle.layout.specs.Lists.{all, sum}
+use Rattle.layout.specs.Triangle.{triangle}
+use Rattle.layout.specs.Patterns.{Clique, readClique, readCliques}
+use Rattle.supernode_tree.specs.Sizes.{dimOf, overlapsOf}
+use Rattle.supernode_tree.specs.Reads.{whole, Whole, rest, cliquesFrom, cliqueOf, cliqueRead, CliqueInside}
+use Rattle.supernode_tree.specs.declared.Clique.{Clique as CliqueAt}
+use Rattle.supernode_tree.specs.declared.CliqueRead.the-variants.{Clique as Found}
+use Rattle.supernode_tree.specs.declared.Pattern.{Pattern as PatternAt}
+use Rattle.supernode_tree.proofs.Cliques.{whole-next, rest-next, rest-none, from-next, from-none, separator-size, block-size, clique-goes}
+use Rattle.supernode_tree.proofs.Sizes.{triangle-small, sum-cons, sum-none}
+use Rattle.clique_tree.specs.Trees.{separatorOk, separatorsOk}
+use Rattle.accepted.specs.Accepted.{cliquesOf, SeparatorsHold}
+use Rattle.accepted.specs.declared.Blocks.{Blocks}
+
+-- the test of a clique
+abbrev right : List Clique → Clique → Bool
+right cs q = separatorOk cs (q .parent) (q .separator)
+
+-- so many cliques are left
+pub record Seen (ws : List ℕ) (p : PatternAt) (b : Blocks) (left : ℕ) : Type 0 where
+  pub stand : Whole ws (b .next) left
+  pub later : separatorsOk (cliquesOf ws p) ≡ all (right (cliquesOf ws p)) (cliquesFrom ws (b .next) left)
+  pub dim : b .dim + sum (map dimOf (cliquesFrom ws (b .next) left)) ≡ sum (map dimOf (cliquesOf ws p))
+  pub overlaps : b .overlaps + sum (map overlapsOf (cliquesFrom ws (b .next) left)) ≡ sum (map overlapsOf (cliquesOf ws p))
+  pub few-rows : b .dim + left * 32896 ≤ p .«clique_count» * 32896
+  pub few-overlaps : b .overlaps + left * 32896 ≤ p .«clique_count» * 32896
+  pub after : rest (readCliques (p .«clique_count») (drop (p .cliques) ws)) ≡ rest (readCliques left (drop (b .next) ws))
+  pub inside : b .next ≤ length ws
+
+pub seen-none : (ws : List ℕ) (p : PatternAt) (b : Blocks) → Whole ws (p .cliques) (p .«clique_count») → p .cliques ≤ length ws
+    → (b .next ≡ p .cliques) × (b .dim ≡ 0) × (b .overlaps ≡ 0) → Seen ws p b (p .«clique_count»)
+seen-none ws p b w l e =
+    let n = sym (e .0) in
+    record {
+      stand = ap (λ (i : ℕ). whole (readCliques (p .«clique_count») (drop i ws))) (e .0) ∙ w;
+      later = ap (λ (i : ℕ). all (right (cliquesOf ws p)) (cliquesFrom ws i (p .«clique_count»))) n;
+      dim = omega (arith, e .1, ap (λ (i : ℕ). sum (map dimOf (cliquesFrom ws i (p .«clique_count»)))) (e .0));
+      overlaps = omega (arith, e .2, ap (λ (i : ℕ). sum (map overlapsOf (cliquesFrom ws i (p .«clique_count»)))) (e .0));
+      few-rows = omega (arith, e .1);
+      few-overlaps = omega (arith, e .2);
+      after = ap (λ (i : ℕ). rest (readCliques (p .«clique_count») (drop i ws))) n;
+      inside = omega (arith, e .0);
+    }
+
+abbrev made : ℕ → ℕ → ℕ → Blocks
+made n d o = record { next = n; dim = d; overlaps = o }
+
+same-blocks : (r b : Blocks) → r .next ≡ b .next → r .dim ≡ b .dim → r .overlaps ≡ b .overlaps → r ≡ b
+same-blocks r b n d o =
+    ap (λ (i : ℕ). made i (r .dim) (r .overlaps)) n ∙ ap (λ (i : ℕ). made (b .next) i (r .overlaps)) d ∙ ap (λ (i : ℕ). made (b .next) (b .dim) i) o
+
+-- a clique's separator ends within the words
+pub block-fits : (ws : List ℕ) (at : ℕ) (q : CliqueAt) → CliqueInside (length ws) at (Found q) → (q .separator ≤ q .next) × (q .next ≤ length ws)
+block-fits ws at q inside = (omega (arith, inside .2), inside .3)
+
+module _ (ws : List ℕ) (p : PatternAt) (b : Blocks) (left : ℕ) (s : Seen ws p b left) where
+  module _ (more : 0 < left) where
+    fits : (d : ℕ) → d + left * 32896 ≤ p .«clique_count» * 32896 → p .«clique_count» < 4294967296 → d + 32896 < 18446744073709551616
+    fits d l h = omega arith
+
+    pub fits-more : p .«clique_count» < 4294967296 → (b .dim + 32896 < 18446744073709551616) × (b .overlaps + 32896 < 18446744073709551616)
+    fits-more h = (fits (b .dim) (s .few-rows) h, fits (b .overlaps) (s .few-overlaps) h)
+
+    less : (d t k : ℕ) → t ≤ 32896 → d + left * 32896 ≤ k → d + t + (left - 1) * 32896 ≤ k
+    less d t k h l = omega arith
+
+    module _ (q : CliqueAt) (e : cliqueRead ws (Found q) ≡ readClique (drop (b .next) ws)) (inside : CliqueInside (length ws) (b .next) (Found q))
+        (small : q .«snode_count» + q .«separator_count» ≤ 256) (ok : right (cliquesOf ws p) (cliqueOf ws q) ≡ true) where
+      first : cliquesFrom ws (b .next) left ≡ cliqueOf ws q ∷ cliquesFrom ws (q .next) (left - 1)
+      first = from-next ws (b .next) left (Found q) e more q refl (s .stand)
+
+      abbrev beside : Blocks
+      beside = made (q .next) (b .dim + triangle (q .«snode_count» + q .«separator_count»)) (b .overlaps + triangle (q .«separator_count»))
+
+      seen : Seen ws p beside (left - 1)
+      seen = record {
+        stand = sym (whole-next ws (b .next) left (Found q) e more q refl) ∙ s .stand;
+        later = clique-goes ws (b .next) left (Found q) e more q refl (s .stand) (right (cliquesOf ws p)) _ (right (cliquesOf ws p) (cliqueOf ws q)) (s .later) refl ok;
+        dim = sum-cons dimOf (cliqueOf ws q) (cliquesFrom ws (q .next) (left - 1)) _ (b .dim) (triangle (q .«snode_count» + q .«separator_count»)) _ first (ap triangle (sym (block-size ws (b .next) q inside))) (s .dim);
+        overlaps = sum-cons overlapsOf (cliqueOf ws q) (cliquesFrom ws (q .next) (left - 1)) _ (b .overlaps) (triangle (q .«separator_count»)) _ first (ap triangle (sym (separator-size ws (b .next) q inside))) (s .overlaps);
+        few-rows = less (b .dim) (triangle (q .«snode_count» + q .«separator_count»)) _ (triangle-small (q .«snode_count» + q .«separator_count») small) (s .few-rows);
+        few-overlaps = less (b .overlaps) (triangle (q .«separator_count»)) _ (triangle-small (q .«separator_count») (omega arith)) (s .few-overlaps);
+        after = s .after ∙ rest-next ws (b .next) left (Found q) e more q refl;
+        inside = inside .3;
+      }
+
+      pub seen-more : (r : Blocks)
+          → (r .next ≡ q .next) × (r .dim ≡ b .dim + triangle (q .«snode_count» + q .«separator_count»)) × (r .overlaps ≡ b .overlaps + triangle (q .«separator_count»))
+          → Seen ws p r (left - 1)
+      seen-more r a = subst (λ (x : Blocks). Seen ws p x (left - 1)) (sym (same-blocks r beside (a .0) (a .1) (a .2))) seen
+
+  pub seen-all : left ≤ 0 → SeparatorsHold ws p b
+  seen-all z =
+      let none = from-none ws (b .next) left z in
+      record {
+        after = s .after ∙ rest-none ws (b .next) left z;
+        inside = s .inside;
+        right = s .later ∙ ap (all (right (cliquesOf ws p))) none;
+        dim = sum-none dimOf (cliquesFrom ws (b .next) left) (b .dim) _ none (s .dim);
+        overlaps = sum-none overlapsOf (cliquesFrom ws (b .next) left) (b .overlaps) _ none (s .overlaps);
+        few-rows = omega (arith, s .few-rows);
+        few-overlaps = omega (arith, s .few-overlaps);
+      }

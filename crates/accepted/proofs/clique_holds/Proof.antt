@@ -1,0 +1,50 @@
+use native.Mathlib.Omega.{arith}
+use mathlib.Core.Bool.{false}
+use mathlib.Core.Path.{refl, sym, subst, _∙_}
+use lib.ListN.{length}
+use Rattle.layout.proofs.Tests.{differ}
+use Rattle.supernode_tree.specs.Reads.{CliqueInside}
+use Rattle.supernode_tree.proofs.Words.{clique-found}
+use Rattle.accepted.proofs.Walked.{clique-holds}
+use Rattle.accepted.proofs.clique_holds.Statement.{statement}
+use Rattle.accepted.proofs.clique_holds.Tie as tie
+
+read-requires : tie.Need-read-requires
+read-requires c κs = tt
+
+enum-known-q : tie.Need-enum-known-q
+enum-known-q c = omega arith
+
+enum-told : tie.Need-enum-told
+enum-told c = omega arith
+
+returns : tie.Need-returns
+returns c = λ z. absurd (differ false z refl)
+
+returns-2 : tie.Need-returns-2
+returns-2 c = λ z. absurd (differ false z refl)
+
+parent-right-requires : tie.Need-parent-right-requires
+parent-right-requires c κs = c .before .before .before .before .before .before .before .pre
+
+returns-3 : tie.Need-returns-3
+returns-3 c =
+    let g = c .before .before .before .before .q .given in
+    let q = g .0 .0 in
+    let r = c .before .before .before .before .before .before .read in
+    let s = c .before .before .before .before .before .before .before .before .args in
+    let ws = s .words .now in
+    λ z. clique-holds ws (s .at) (s .c) (s .count) q (clique-found ws (s .at) _ q (r .ensures .0) (g .1)) (subst (CliqueInside (length ws) (s .at)) (g .1) (r .ensures .1))
+    (c .before .if1 .left) (sym (c .parent-right .ensures) ∙ z)
+
+pub clique-holds-spec : {M : Type 1} → statement M
+clique-holds-spec =
+    tie.close
+    (tie.spec
+    read-requires
+    enum-known-q
+    enum-told
+    returns
+    returns-2
+    parent-right-requires
+    returns-3)
