@@ -24,8 +24,8 @@ fn never_falls(xs: &[u32]) -> bool
     true
 }
 
-// Whether each row is above the one before it.
-fn rise_strictly(rows: &[u32]) -> bool
+// Whether each number is above the one before it.
+pub fn rise_strictly(rows: &[u32]) -> bool
     ensures { λ r. ⌜ r ≡ rises (now (rows .entry)) ⌝ }
 {
     let mut i = 0;

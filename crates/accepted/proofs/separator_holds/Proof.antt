@@ -74,15 +74,15 @@ shared-slice-read-at c = le-trans (c .before .before .if3 .left) (c .before .bef
 here-requires : tie.Need-here-requires
 here-requires c κs = ap whole (parent-read c)
 
-separator-right-requires : tie.Need-separator-right-requires
-separator-right-requires c κs =
+once-among-requires : tie.Need-once-among-requires
+once-among-requires c κs =
     let h = c .before in
     let s = h .before .before .before .before .before .before .before .before .before .before .before .before .before in
     let inside = h .here .ensures .1 in
-    (s .pre .1 .0, ((members-rise _ _ _ _ _ (inside .1) (inside .2), inside .3), s .pre .1 .1 .1))
+    ((s .pre .1 .0 .0, s .pre .1 .0 .1, members-rise _ _ _ _ _ (inside .1) (inside .2), inside .3), s .pre .1 .1 .1)
 
 same-length : tie.Need-same-length
-same-length c = c .before .before .separator-right .kept .1 .1 .1 .1 .1 .1 .0
+same-length c = c .before .before .once-among .kept .1 .1 .1 .1 .1 .0
 
 returns-4 : tie.Need-returns-4
 returns-4 c =
@@ -96,7 +96,7 @@ returns-4 c =
     let us = take (q .next - q .separator) (drop (q .separator) ws) in
     let same : cliqueOf ws m ≡ getD (cliquesFrom ws (p .cliques) (p .«clique_count»)) (q .parent) noClique =
     ap (valueOr noClique) (h .here .ensures .0 ∙ parent-read (h .before)) in
-    λ z. (small (c .before .before .before .before .before .before .before .before .before .before .before .before), ap (λ (ms : List ℕ). onceIn ms us) (sym (members-part ws at m (h .here .ensures .1) ∙ ap members same)) ∙ sym (c .before .before .separator-right .ensures) ∙ z)
+    λ z. (small (c .before .before .before .before .before .before .before .before .before .before .before .before), ap (λ (ms : List ℕ). onceIn ms us) (sym (members-part ws at m (h .here .ensures .1) ∙ ap members same)) ∙ sym (c .before .before .once-among .ensures) ∙ z)
 
 pub separator-holds-spec : {M : Type 1} → statement M
 separator-holds-spec =
@@ -110,6 +110,6 @@ separator-holds-spec =
     mul-at
     shared-slice-read-at
     here-requires
-    separator-right-requires
+    once-among-requires
     same-length
     returns-4)
