@@ -79,6 +79,7 @@ pub extern "C" fn chordal_sizes(
     )
 }
 
+// The cut of an accepted problem at the front of the outputs; clarabel's `decomp_augment`.
 #[no_mangle]
 pub extern "C" fn chordal_cut(
     route: u32,
@@ -121,7 +122,20 @@ pub extern "C" fn chordal_cut(
     ensures { λ r. ⌜ now («alphas_out» .exit) ≡ output r (augmented (routeOf route) (problem n m (now («p_starts» .entry)) (now («p_rows» .entry)) (now («p_values» .entry)) (now (q .entry)) (now («a_starts» .entry)) (now («a_rows» .entry)) (now («a_values» .entry)) (now (b .entry)) (now (cones .entry)) (now (alphas .entry)) «pattern_count» (now («pattern_words» .entry))) .alphas) (now («alphas_out» .entry)) ⌝ }
     ensures { λ r. ⌜ now («map_out» .exit) ≡ output r (augmented (routeOf route) (problem n m (now («p_starts» .entry)) (now («p_rows» .entry)) (now («p_values» .entry)) (now (q .entry)) (now («a_starts» .entry)) (now («a_rows» .entry)) (now («a_values» .entry)) (now (b .entry)) (now (cones .entry)) (now (alphas .entry)) «pattern_count» (now («pattern_words» .entry))) .map) (now («map_out» .entry)) ⌝ }
 {
-    decomp_augment::cut(
+    let rooms = [
+        p_starts_out.len(),
+        p_rows_out.len(),
+        p_values_out.len(),
+        q_out.len(),
+        a_starts_out.len(),
+        a_rows_out.len(),
+        a_values_out.len(),
+        b_out.len(),
+        cones_out.len(),
+        alphas_out.len(),
+        map_out.len(),
+    ];
+    let refused = decomp::refuse_cut(
         route,
         n,
         m,
@@ -137,18 +151,47 @@ pub extern "C" fn chordal_cut(
         alphas,
         pattern_count,
         pattern_words,
+        &rooms,
+    );
+    if refused != 0 {
+        return refused;
+    }
+    let d = constraints::count_added(route, m, cones, pattern_count, pattern_words);
+    augment::write_objective(
+        n,
+        p_starts,
+        p_rows,
+        p_values,
+        q,
+        alphas,
+        d.columns,
         p_starts_out,
         p_rows_out,
         p_values_out,
         q_out,
+        alphas_out,
+    );
+    constraints::write_constraints(
+        route,
+        n,
+        m,
+        a_starts,
+        a_rows,
+        a_values,
+        b,
+        cones,
+        pattern_count,
+        pattern_words,
+        d.rows,
+        d.columns,
         a_starts_out,
         a_rows_out,
         a_values_out,
         b_out,
         cones_out,
-        alphas_out,
         map_out,
-    )
+    );
+    0
 }
 
 #[no_mangle]
