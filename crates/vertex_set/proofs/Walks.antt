@@ -2,7 +2,7 @@
 use Prim.Native.Nat.{ℕ, suc, _+_, _≤_, _<_}
 use native.Mathlib.Numerals.{add-one}
 use native.Mathlib.Decide.{ℕ-discrete}
-use mathlib.Core.Bool.{Bool, true, false, cond, and-false}
+use mathlib.Core.Bool.{Bool, true, false, cond}
 use mathlib.Core.Path.{_≡_, sym, ap, ap₂, subst, _∙_}
 use mathlib.Core.Logic.{inl, inr}
 use mathlib.Core.List.{List, [], _∷_}
@@ -25,23 +25,14 @@ has-here x b k h e = rw (drop-cons b k 0, eq-eqb x (getD b k 0) e)
 pub has-nowhere : (x : ℕ) (b : List ℕ) (k : ℕ) → length b ≤ k → has x (drop k b) ≡ false
 has-nowhere x b k h = rw (drop-of-length-le b h)
 
--- ---- members that stand once in us and are in ms
+pub distinct-step : (a : List ℕ) (k : ℕ) → k < length a → has (getD a k 0) (drop (k + 1) a) ≡ false → distinct (drop k a) ≡ distinct (drop (k + 1) a)
+distinct-step a k h e = ap distinct (drop-cons a k 0 h ∙ ap (λ (n : ℕ). getD a k 0 ∷ drop n a) (sym (add-one k))) ∙ rw e
 
-module _ (ms us : List ℕ) (k : ℕ) where
-  next : k < length us → onceIn ms (drop k us) ≡ onceIn ms (getD us k 0 ∷ drop (k + 1) us)
-  next h = ap (onceIn ms) (drop-cons us k 0 h ∙ ap (λ (n : ℕ). getD us k 0 ∷ drop n us) (sym (add-one k)))
+pub distinct-not : (a : List ℕ) (k : ℕ) → k < length a → has (getD a k 0) (drop (k + 1) a) ≡ true → distinct (drop k a) ≡ false
+distinct-not a k h e = ap distinct (drop-cons a k 0 h ∙ ap (λ (n : ℕ). getD a k 0 ∷ drop n a) (sym (add-one k))) ∙ rw e
 
-  pub once-step : k < length us → has (getD us k 0) (drop (k + 1) us) ≡ false → has (getD us k 0) ms ≡ true → onceIn ms (drop k us) ≡ onceIn ms (drop (k + 1) us)
-  once-step h e f = next h ∙ rw (e, f)
-
-  pub once-twice : k < length us → has (getD us k 0) (drop (k + 1) us) ≡ true → onceIn ms (drop k us) ≡ false
-  once-twice h e = next h ∙ rw e
-
-  pub once-missing : k < length us → has (getD us k 0) ms ≡ false → onceIn ms (drop k us) ≡ false
-  once-missing h f = next h ∙ rw f (and-false (distinct (getD us k 0 ∷ drop (k + 1) us)))
-
-  pub once-done : length us ≤ k → onceIn ms (drop k us) ≡ true
-  once-done h = rw (drop-of-length-le us h)
+pub distinct-done : (a : List ℕ) (k : ℕ) → length a ≤ k → distinct (drop k a) ≡ true
+distinct-done a k h = rw (drop-of-length-le a h)
 
 -- ---- members found in order
 

@@ -4,7 +4,7 @@ ghost use Prim.Native.Nat.{_<_};
 ghost use mathlib.Core.Bool.{true};
 ghost use lib.ListN.{length, drop};
 ghost use lib.Dec.{ltb};
-ghost use Rattle.layout.specs.Lists.{all, keep, has};
+ghost use Rattle.layout.specs.Lists.{all, distinct, keep, has};
 ghost use Rattle.utils.specs.Windows.{within, Marked};
 ghost use Rattle.vertex_set.specs.OnceIn.{onceIn, inOrder, Unmarks};
 
@@ -24,22 +24,53 @@ fn stands_from(a: &[u32], i: usize, x: u32) -> bool
     false
 }
 
-// No number of us stands twice, and each is in ms: by walks over both.
-fn once_in_walk(us: &[u32], ms: &[u32]) -> bool
-    ensures { λ r. ⌜ r ≡ onceIn (now (ms .entry)) (now (us .entry)) ⌝ }
+// No number stands twice.
+pub fn is_distinct(a: &[u32]) -> bool
+    ensures { λ r. ⌜ r ≡ distinct (now (a .entry)) ⌝ }
 {
     let mut i = 0;
-    while i < us.len() {
-        let u = us[i];
+    while i < a.len() {
+        let x = a[i];
         i += 1;
-        if stands_from(us, i, u) {
-            return false;
-        }
-        if !stands_from(ms, 0, u) {
+        if stands_from(a, i, x) {
             return false;
         }
     }
     true
+}
+
+// Each member of a is in b.
+pub fn held(a: &[u32], b: &[u32]) -> bool
+    ensures { λ r. ⌜ r ≡ all (λ u. has u (now (b .entry))) (now (a .entry)) ⌝ }
+{
+    let mut ok = true;
+    let mut i = 0;
+    'walk: while i < a.len() {
+        let x = a[i];
+        let mut j = 0;
+        loop {
+            if b.len() <= j {
+                ok = false;
+                break 'walk;
+            }
+            if x == b[j] {
+                break;
+            }
+            j += 1;
+        }
+        i += 1;
+    }
+    ok
+}
+
+// No number of us stands twice, and each is in ms: by walks over both.
+fn once_in_walk(us: &[u32], ms: &[u32]) -> bool
+    ensures { λ r. ⌜ r ≡ onceIn (now (ms .entry)) (now (us .entry)) ⌝ }
+{
+    if !is_distinct(us) {
+        return false;
+    }
+    held(us, ms)
 }
 
 // Whether each number of us is found in ms, in the order of us. A clique's members rise as a rule, and then one walk over both is enough.
