@@ -33,6 +33,10 @@ separatorsOk cs = all (λ c. separatorOk cs (c .parent) (c .separator)) cs
 abbrev pub snodesOf : List Clique → List ℕ
 snodesOf cs = join (λ c. c .snode) cs
 
+-- how many they are, or more than they can be where a snode is empty
+abbrev pub filledTotal : List Clique → ℕ
+filledTotal cs = cond (all (λ c. not (eqb (length (c .snode)) 0)) cs) (length (snodesOf cs)) 18446744073709551615
+
 -- none is empty, and together they hold each number below n once
 abbrev pub snodesOk : ℕ → List Clique → Bool
 snodesOk n cs = all (λ c. not (eqb (length (c .snode)) 0)) cs && eqb (length (snodesOf cs)) n && isPermutation (snodesOf cs)

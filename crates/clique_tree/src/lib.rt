@@ -1,9 +1,9 @@
 // Checks 6 and 7: a pattern's cliques are a clique tree over its vertices.
 ghost use mathlib.Core.Path.{_≡_};
 ghost use Prim.Native.Nat.{_-_, _*_, _≤_, _<_};
-ghost use mathlib.Core.Bool.{true, not, _&&_};
+ghost use mathlib.Core.Bool.{true};
 ghost use lib.ListN.{length, take, drop};
-ghost use lib.Dec.{ltb, eqb};
+ghost use lib.Dec.{ltb};
 ghost use Rattle.layout.specs.Lists.{all, distinct, keep};
 ghost use Rattle.layout.specs.Checks.{isPermutation, treeRight, cliquesRight};
 ghost use Rattle.layout.specs.Patterns.{readPattern, readPatterns, patterns, endsRight};
@@ -11,7 +11,7 @@ ghost use Rattle.utils.specs.Windows.{within};
 ghost use Rattle.supernode_tree.specs.Reads.{patternAt, whole, Whole, cliquesFrom};
 ghost use Rattle.supernode_tree.specs.Offsets.{OffsetsEvery};
 ghost use Rattle.vertex_set.specs.OnceIn.{onceIn};
-ghost use Rattle.clique_tree.specs.Trees.{parentOk, snodesOf, snodesOk, separatorsOk};
+ghost use Rattle.clique_tree.specs.Trees.{parentOk, snodesOf, filledTotal, snodesOk, separatorsOk};
 use supernode_tree::Clique;
 use supernode_tree::Pattern;
 
@@ -67,34 +67,19 @@ pub fn trees_right(count: u32, words: &[u32]) -> bool
 
 // ---- check 7: snodes
 
-// No snode is empty.
-fn snodes_filled(words: &[u32], first: usize, count: u32) -> bool
-    requires { ⌜ Whole (now words) first count ⌝ }
-    ensures { λ r. ⌜ r ≡ all (λ c. not (eqb (length (c .snode)) 0)) (cliquesFrom (now (words .entry)) first count) ⌝ }
-{
-    let mut at = first;
-    let mut left = count;
-    while 0 < left {
-        let q = Clique::here(words, at);
-        if q.snode_count == 0 {
-            return false;
-        }
-        at = q.next;
-        left -= 1;
-    }
-    true
-}
-
-// How many numbers the snodes hold.
+// How many numbers the snodes hold or, where one is empty, more than they can.
 fn snode_total(words: &[u32], first: usize, count: u32) -> usize
     requires { ⌜ Whole (now words) first count ⌝ }
-    ensures { λ r. ⌜ r ≡ length (snodesOf (cliquesFrom (now (words .entry)) first count)) ⌝ }
+    ensures { λ r. ⌜ r ≡ filledTotal (cliquesFrom (now (words .entry)) first count) ⌝ }
 {
     let mut total = 0;
     let mut at = first;
     let mut left = count;
     while 0 < left {
         let q = Clique::here(words, at);
+        if q.snode_count == 0 {
+            return 18446744073709551615;
+        }
         total += q.snode_count;
         at = q.next;
         left -= 1;
@@ -243,13 +228,10 @@ fn separators_right(
 
 // No snode is empty, and together they hold each number below n once.
 fn snodes_right(words: &[u32], first: usize, count: u32, n: usize, marks: &mut [bool]) -> bool
-    requires { ⌜ Whole (now words) first count ⌝ }
+    requires { ⌜ Whole (now words) first count × (n < 4294967296) ⌝ }
     requires { ⌜ 0 < length (now marks) ⌝ }
     ensures { λ r. ⌜ r ≡ snodesOk n (cliquesFrom (now (words .entry)) first count) ⌝ }
 {
-    if !snodes_filled(words, first, count) {
-        return false;
-    }
     if snode_total(words, first, count) != n {
         return false;
     }

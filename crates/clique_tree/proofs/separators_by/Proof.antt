@@ -1,4 +1,5 @@
-use Prim.Native.Nat.{ℕ, _-_}
+use Prim.Native.Nat.{ℕ, _+_, _-_, _≤_}
+use native.Mathlib.Nat.{le-of-eq, le-trans}
 use mathlib.Core.Bool.{Bool}
 use mathlib.Core.Path.{_≡_, refl, sym, ap, _∙_}
 use mathlib.Core.List.{List}
@@ -11,7 +12,6 @@ use Rattle.supernode_tree.proofs.Cliques.{first-whole, whole-next, from-none, s
 use Rattle.vertex_set.specs.OnceIn.{onceIn}
 use Rattle.clique_tree.specs.Trees.{separatorOk}
 use native.Mathlib.Omega.{arith}
-use borrow.Author.Needs.{needs}
 use Rattle.clique_tree.proofs.separators_by.Statement.{statement}
 use Rattle.clique_tree.proofs.separators_by.Tie as tie
 
@@ -46,6 +46,9 @@ looked c =
     ∙ ap (λ (ms : List ℕ). onceIn ms (take (q .next - q .separator) (drop (q .separator) ws))) (c .before .before .members-by .ensures .0)
     ∙ ap (onceIn (members (getD (cliquesFrom ws (s .args .first) (s .args .count)) (q .parent) noClique))) (separator-part ws (l .loop .at) q inside)
 
+starts-before : {a n : ℕ} (b : ℕ) → n ≡ a + b → a ≤ n
+starts-before b e = omega arith
+
 loop-holds : tie.Need-loop-holds Inv-loop μ-loop
 loop-holds c = (c .before .before .before .pre .0, refl, refl)
 
@@ -55,18 +58,16 @@ here-requires c κs =
     first-whole (l .before .before .before .before .args .words .now) (l .loop .at) (l .loop .left) (c .loop-test .taken) (l .loop .inv .0)
 
 members-by-requires : tie.Need-members-by-requires Inv-loop μ-loop
-members-by-requires c κs = search needs
+members-by-requires c κs = let s = c .before .before .before .before .before .before in (s .pre .0, (s .pre .1 .0, s .pre .1 .1 .0))
 
 separator-right-requires : tie.Need-separator-right-requires Inv-loop μ-loop
 separator-right-requires c κs =
-    let k = c .before .before in
-    let inside = k .here .ensures .1 in
+    let inside = c .before .before .here .ensures .1 in
     let m = c .before .members-by .ensures in
-    let l = k .before .before in
-    ((omega arith, omega arith), ((m .1, m .2), omega (arith, l .loop .inv .2, l .before .before .before .before .pre .1 .1 .1)))
+    ((starts-before _ (inside .2), inside .3), ((m .1, m .2), le-trans (c .before .before .before .before .before .before .before .before .pre .1 .1 .1) (le-of-eq (sym (c .before .before .before .before .loop .inv .2)))))
 
 same-length : tie.Need-same-length Inv-loop μ-loop
-same-length c = search needs
+same-length c = c .before .before .before .separator-right .kept .1 .1 .1 .1 .1 .1 .0 ∙ c .before .before .before .before .before .before .before .before .loop .inv .2
 
 returns : tie.Need-returns Inv-loop μ-loop
 returns c =
@@ -77,10 +78,10 @@ returns c =
     sym (clique-stops ws (l .loop .at) (l .loop .left) _ (k .here .ensures .0) (k .before .loop-test .taken) (k .here .result) refl (l .loop .inv .0) (right k) _ _ (l .loop .inv .1) (looked t) (not-true _ (c .if1 .taken)))
 
 sub-left : tie.Need-sub-left Inv-loop μ-loop
-sub-left c = search needs
+sub-left c = omega (arith, c .before .before .before .before .before .before .before .loop-test .taken)
 
 loop-less : tie.Need-loop-less Inv-loop μ-loop
-loop-less c = search needs
+loop-less c = omega (arith, c .before .before .before .before .before .before .before .loop-test .taken)
 
 loop-again : tie.Need-loop-again Inv-loop μ-loop
 loop-again c =
@@ -91,11 +92,11 @@ loop-again c =
     let more = k .before .loop-test .taken in (
       sym (whole-next ws (l .loop .at) (l .loop .left) _ (k .here .ensures .0) more (k .here .result) refl) ∙ l .loop .inv .0,
       clique-goes ws (l .loop .at) (l .loop .left) _ (k .here .ensures .0) more (k .here .result) refl (l .loop .inv .0) (right k) _ _ (l .loop .inv .1) (looked t) (not-false _ (c .if1 .left)),
-      omega arith,
+      t .separator-right .kept .1 .1 .1 .1 .1 .1 .0 ∙ l .loop .inv .2,
     )
 
 same-length-2 : tie.Need-same-length-2 Inv-loop μ-loop
-same-length-2 c = search needs
+same-length-2 c = c .before .loop .inv .2
 
 returns-2 : tie.Need-returns-2 Inv-loop μ-loop
 returns-2 c =

@@ -1,9 +1,8 @@
-use Prim.Native.Nat.{_+_, _*_, _/_, _≤_}
+use Prim.Native.Nat.{ℕ, _+_, _*_, _/_, _≤_}
 use native.Mathlib.Nat.{div-le-self, div-le-of-le-mul, mul-le-mul, lt-mul-div-succ}
-use mathlib.Core.Path.{_≡_}
+use mathlib.Core.Path.{sym, subst}
 use lib.ListN.{length}
 use native.Mathlib.Omega.{arith}
-use borrow.Author.Needs.{needs}
 use Rattle.clique_tree.proofs.separators_right.Statement.{statement}
 use Rattle.clique_tree.proofs.separators_right.Tie as tie
 
@@ -20,7 +19,7 @@ enough : (c : tie.After-slice-known2) → let s = c .before .before .before in
 enough c = let s = c .before .before .before in omega (arith, lt-mul-div-succ (s .args .count) {b = length (s .args .offsets .now)} (omega arith))
 
 div-step : tie.Need-div-step
-div-step c = search needs
+div-step c = omega (arith, c .before .before .before .pre .1 .1)
 
 add-step : tie.Need-add-step
 add-step c = let s = c .before .before .before in omega (arith, div-le-self (s .args .count) (length (s .args .offsets .now)))
@@ -34,18 +33,17 @@ offsets-every-requires c κs = (c .before .before .before .before .pre .0, (omeg
 separators-by-requires : tie.Need-separators-by-requires
 separators-by-requires c κs =
     let o = c .before .before .before .before in
-    let s = o .before .before .before .before .before in
-    let e : length (o .offsets-every .last .1 .1 .1 .1 .0) ≡ length (s .args .offsets .now) = omega arith in
-    (s .pre .0, ((omega arith, rw e (enough (o .before .before))), (o .offsets-every .ensures, omega arith)))
+    let s = c .before .before .before .before .before .before .before .before .before in
+    (s .pre .0, ((omega arith, subst (λ (n : ℕ). s .args .count ≤ n * (s .args .count / length (s .args .offsets .now) + 1)) (sym (o .offsets-every .kept .1 .1 .1 .1 .0)) (enough (c .before .before .before .before .before .before))), (o .offsets-every .ensures, s .pre .1 .0)))
 
 same-length : tie.Need-same-length
-same-length c = search needs
+same-length c = c .before .before .separators-by .kept .1 .1 .1 .1 .1 .1 .0
 
 same-length-2 : tie.Need-same-length-2
-same-length-2 c = search needs
+same-length-2 c = c .before .before .before .before .before .before .before .offsets-every .kept .1 .1 .1 .1 .0
 
 returns : tie.Need-returns
-returns c = search needs
+returns c = c .before .before .separators-by .ensures
 
 pub separators-right-spec : {M : Type 1} → statement M
 separators-right-spec =

@@ -1,69 +1,53 @@
-use Rattle.clique_tree.specs.Trees.{snodesOf}
-use mathlib.Core.List.{List}
-use lib.ListN.{length-append, length}
-use Rattle.supernode_tree.proofs.Cliques.{first-whole, whole-next, from-next, from-none}
-use Rattle.supernode_tree.proofs.Words.{length-part}
-use Rattle.supernode_tree.specs.Reads.{Whole, cliquesFrom, cliqueOf}
-use Rattle.layout.specs.Patterns.{Clique}
-use Rattle.layout.specs.Lists.{join}
-use Prim.Native.Nat.{ℕ, _≤_, _-_, _+_}
-use mathlib.Core.Path.{_≡_, refl, sym, ap, _∙_}
 use native.Mathlib.Omega.{arith}
-use borrow.Author.Needs.{needs}
+use Rattle.supernode_tree.proofs.Cliques.{first-whole}
+use Rattle.clique_tree.proofs.Snodes.{Counting, counting-start, counting-stops, counting-fits, counting-goes, counting-done}
 use Rattle.clique_tree.proofs.snode_total.Statement.{statement}
 use Rattle.clique_tree.proofs.snode_total.Tie as tie
 
 abbrev Inv-loop : tie.InvT-loop
-Inv-loop words first count total₀ at₀ left₀ total at left =
-    Whole words at left × (total ≤ at)
-    × (total + length (snodesOf (cliquesFrom words at left)) ≡ length (snodesOf (cliquesFrom words first count)))
+Inv-loop words first count total₀ at₀ left₀ total at left = Counting words first count total at left
 
 abbrev μ-loop : tie.MeasureT-loop
 μ-loop words first count total₀ at₀ left₀ total at left = left
 
 loop-holds : tie.Need-loop-holds Inv-loop μ-loop
-loop-holds c = (c .before .pre, omega arith, omega arith)
+loop-holds c = let a = c .before .args in counting-start (a .words .now) (a .first) (a .count) (c .before .pre)
 
 here-requires : tie.Need-here-requires Inv-loop μ-loop
-here-requires c κs =
-    let l = c .before in
-    first-whole (l .before .before .args .words .now) (l .loop .at) (l .loop .left) (c .loop-test .taken) (l .loop .inv .0)
-
-add-total : tie.Need-add-total Inv-loop μ-loop
-add-total c =
-    let inside = c .before .here .ensures .1 in omega arith
-
-sub-left : tie.Need-sub-left Inv-loop μ-loop
-sub-left c = search needs
-
-loop-less : tie.Need-loop-less Inv-loop μ-loop
-loop-less c = search needs
-
-loop-again : tie.Need-loop-again Inv-loop μ-loop
-loop-again c =
-    let h = c .before in
-    let l = h .before .before in
-    let ws = l .before .before .args .words .now in
-    let q = h .here .result in
-    let n = l .loop .left in
-    let more = h .before .loop-test .taken in
-    let inside = h .here .ensures .1 in
-    let f : Clique → List ℕ = λ d. d .snode in
-    let rest = cliquesFrom ws (q .next) (n - 1) in
-    let e : length (join f (cliquesFrom ws (l .loop .at) n)) ≡ q .«snode_count» + length (join f rest) =
-    ap (λ (cs : List Clique). length (join f cs)) (from-next ws (l .loop .at) n _ (h .here .ensures .0) more q refl (l .loop .inv .0))
-    ∙ length-append (cliqueOf ws q .snode) (join f rest)
-    ∙ ap (λ (m : ℕ). m + length (join f rest)) (length-part (q .snode) (q .«snode_count») ws (omega arith)) in
-    (sym (whole-next ws (l .loop .at) n _ (h .here .ensures .0) more q refl) ∙ l .loop .inv .0, omega arith, omega arith)
+here-requires c κs = let l = c .before .loop in first-whole (c .before .before .before .args .words .now) (l .at) (l .left) (c .loop-test .taken) (l .inv .stand)
 
 returns : tie.Need-returns Inv-loop μ-loop
 returns c =
-    let l = c .before in
-    let ws = l .before .before .args .words .now in
-    let f : Clique → List ℕ = λ d. d .snode in
-    let e : length (join f (cliquesFrom ws (l .loop .at) (l .loop .left))) ≡ 0 =
-    ap (λ (cs : List Clique). length (join f cs)) (from-none ws (l .loop .at) (l .loop .left) (c .loop-test .left)) in
-    omega arith
+    let h = c .before .before .here in
+    let l = c .before .before .before .before .loop in
+    let a = c .before .before .before .before .before .before .args in
+    counting-stops (a .words .now) (a .first) (a .count) (l .total) (l .at) (l .left) (l .inv) (c .before .before .before .loop-test .taken) (h .result) (h .ensures .0) (h .ensures .1) (c .if1 .taken)
+
+add-total : tie.Need-add-total Inv-loop μ-loop
+add-total c =
+    let h = c .before .before .before .here in
+    let l = c .before .before .before .before .before .loop in
+    let a = c .before .before .before .before .before .before .before .args in
+    omega (arith, counting-fits (a .words .now) (a .first) (a .count) (l .total) (l .at) (l .left) (l .inv) (c .before .before .before .before .loop-test .taken) (h .result) (h .ensures .0) (h .ensures .1))
+
+sub-left : tie.Need-sub-left Inv-loop μ-loop
+sub-left c = omega (arith, c .before .before .before .before .loop-test .taken)
+
+loop-less : tie.Need-loop-less Inv-loop μ-loop
+loop-less c = omega (arith, c .before .before .before .before .loop-test .taken)
+
+loop-again : tie.Need-loop-again Inv-loop μ-loop
+loop-again c =
+    let h = c .before .before .before .here in
+    let l = c .before .before .before .before .before .loop in
+    let a = c .before .before .before .before .before .before .before .args in
+    counting-goes (a .words .now) (a .first) (a .count) (l .total) (l .at) (l .left) (l .inv) (c .before .before .before .before .loop-test .taken) (h .result) (h .ensures .0) (h .ensures .1) (c .before .if1 .left)
+
+returns-2 : tie.Need-returns-2 Inv-loop μ-loop
+returns-2 c =
+    let l = c .before .loop in
+    let a = c .before .before .before .args in
+    counting-done (a .words .now) (a .first) (a .count) (l .total) (l .at) (l .left) (l .inv) (c .loop-test .left)
 
 pub snode-total-spec : {M : Type 1} → statement M
 snode-total-spec =
@@ -73,8 +57,9 @@ snode-total-spec =
     μ-loop
     loop-holds
     here-requires
+    returns
     add-total
     sub-left
     loop-less
     loop-again
-    returns)
+    returns-2)

@@ -4,18 +4,22 @@ use Rattle.supernode_tree.proofs.Cliques.{first-whole, whole-next, from-next, f
 use Rattle.clique_tree.proofs.Snodes.{repeats-front}
 use Rattle.utils.proofs.Windows.{marked-none}
 use Rattle.utils.specs.Windows.{within, Marked}
-use Rattle.supernode_tree.specs.Reads.{Whole, cliquesFrom, cliqueOf}
+use Rattle.supernode_tree.specs.Reads.{Whole, cliquesFrom, cliqueOf, CliqueInside}
+use Rattle.supernode_tree.specs.declared.Clique.{Clique as CliqueAt}
+use Rattle.supernode_tree.specs.declared.CliqueRead.the-variants.{Clique as Found}
 use Rattle.layout.specs.Patterns.{Clique}
 use Rattle.layout.specs.Lists.{join, keep, distinct}
 use borrow.Author.Tests.{not-true, not-false}
 use lib.ListN.{length}
 use lib.Dec.{T}
-use Prim.Native.Nat.{ℕ, _-_}
+use Prim.Native.Nat.{ℕ, _+_, _-_, _*_, _≤_}
+use native.Mathlib.Nat.{le-trans}
 use mathlib.Core.Path.{_≡_, refl, sym, ap, _∙_}
 use mathlib.Core.List.{List, [], _++_, append-assoc, append-nil}
 use mathlib.Core.Bool.{Bool, true}
 use native.Mathlib.Omega.{arith}
-use borrow.Author.Needs.{needs}
+use mir.Syntax.{w64}
+use mir.Val.{Fits}
 use Rattle.clique_tree.proofs.snodes_once_within.Statement.{statement}
 use Rattle.clique_tree.proofs.snodes_once_within.Tie as tie
 
@@ -61,8 +65,18 @@ stepped c =
       done .1,
     )
 
+-- a snode stands within the words
+starts-before : {a n : ℕ} (b : ℕ) → n ≡ a + b → a ≤ n
+starts-before b e = omega arith
+
+ends : (s : tie.Start Inv-loop μ-loop) (q : CliqueAt) (at : ℕ) → CliqueInside (length (s .args .words .now)) at (Found q) → (q .snode ≤ q .separator) × (q .separator ≤ length (s .args .words .now))
+ends s q at i = (starts-before _ (i .1), le-trans (starts-before _ (i .2)) (i .3))
+
+room : (s : tie.Start Inv-loop μ-loop) (k : ℕ) → k ≤ length (s .args .words .now) → Fits w64 (k * 4)
+room s k h = omega arith
+
 clear-requires : tie.Need-clear-requires Inv-loop μ-loop
-clear-requires c κs = search needs
+clear-requires c κs = tt
 
 loop-holds : tie.Need-loop-holds Inv-loop μ-loop
 loop-holds c =
@@ -76,22 +90,22 @@ here-requires c κs =
     first-whole (l .before .before .before .before .before .before .before .args .words .now) (l .loop .at) (l .loop .left) (c .loop-test .taken) (l .loop .inv .0)
 
 mul-mark : tie.Need-mul-mark Inv-loop μ-loop
-mul-mark c = let inside = c .here .ensures .1 in omega arith
+mul-mark c = let e = ends (c .before .before .before .before .before .before .before .before .before) (c .here .result) (c .before .before .loop .at) (c .here .ensures .1) in room (c .before .before .before .before .before .before .before .before .before) (c .here .result .snode) (le-trans (e .0) (e .1))
 
 sub-mark : tie.Need-sub-mark Inv-loop μ-loop
-sub-mark c = let inside = c .here .ensures .1 in omega arith
+sub-mark c = ends (c .before .before .before .before .before .before .before .before .before) (c .here .result) (c .before .before .loop .at) (c .here .ensures .1) .0
 
 part-mark-start : tie.Need-part-mark-start Inv-loop μ-loop
-part-mark-start c = let inside = c .here .ensures .1 in omega arith
+part-mark-start c = ends (c .before .before .before .before .before .before .before .before .before) (c .here .result) (c .before .before .loop .at) (c .here .ensures .1) .0
 
 part-mark-end : tie.Need-part-mark-end Inv-loop μ-loop
-part-mark-end c = let inside = c .here .ensures .1 in omega arith
+part-mark-end c = ends (c .before .before .before .before .before .before .before .before .before) (c .here .result) (c .before .before .loop .at) (c .here .ensures .1) .1
 
 mark-requires : tie.Need-mark-requires Inv-loop μ-loop
-mark-requires c κs = search needs
+mark-requires c κs = tt
 
 same-length : tie.Need-same-length Inv-loop μ-loop
-same-length c = search needs
+same-length c = c .before .before .before .mark .kept .1 .1 .0 ∙ c .before .before .before .before .before .before .before .before .loop .inv .1 ∙ c .before .before .before .before .before .before .before .before .before .before .before .clear .kept .0
 
 returns : tie.Need-returns Inv-loop μ-loop
 returns c =
@@ -101,7 +115,7 @@ returns c =
     let s = l .before .before .before .before .before .before .before in
     let m = stepped k in
     let low = s .args .low in
-    let n : length (l .loop .marks) ≡ length (s .args .marks .now) = omega arith in
+    let n : length (l .loop .marks) ≡ length (s .args .marks .now) = l .loop .inv .1 ∙ l .before .before .before .clear .kept .0 in
     let ws = s .args .words .now in
     let q = t .here .result in
     let p : ℕ → Bool = within low (length (s .args .marks .now)) in
@@ -110,10 +124,10 @@ returns c =
     (rw n at (sym (m .1) ∙ not-true _ (c .if1 .taken))))
 
 sub-left : tie.Need-sub-left Inv-loop μ-loop
-sub-left c = search needs
+sub-left c = omega (arith, c .before .before .before .before .before .before .before .loop-test .taken)
 
 loop-less : tie.Need-loop-less Inv-loop μ-loop
-loop-less c = search needs
+loop-less c = omega (arith, c .before .before .before .before .before .before .before .loop-test .taken)
 
 loop-again : tie.Need-loop-again Inv-loop μ-loop
 loop-again c =
@@ -125,14 +139,14 @@ loop-again c =
     let q = t .here .result in
     let m = stepped k in
     let yes = not-false _ (c .if1 .left) in
-    let n : length (k .mark .last .1 .1 .0) ≡ length (l .loop .marks) = omega arith in (
+    let n : length (k .mark .last .1 .1 .0) ≡ length (l .loop .marks) = k .mark .kept .1 .1 .0 in (
       sym (whole-next ws (l .loop .at) (l .loop .left) _ (t .here .ensures .0) (t .before .loop-test .taken) q refl) ∙ l .loop .inv .0,
-      omega arith,
+      n ∙ l .loop .inv .1,
       (l .loop .inv .2 .0 ++ cliqueOf ws q .snode, m .0, m .2 yes, rw n (passes _ (sym (m .1) ∙ yes))),
     )
 
 same-length-2 : tie.Need-same-length-2 Inv-loop μ-loop
-same-length-2 c = search needs
+same-length-2 c = c .before .loop .inv .1 ∙ c .before .before .before .before .clear .kept .0
 
 returns-2 : tie.Need-returns-2 Inv-loop μ-loop
 returns-2 c =
@@ -140,7 +154,7 @@ returns-2 c =
     let s = l .before .before .before .before .before .before .before in
     let ws = s .args .words .now in
     let i = l .loop .inv .2 in
-    let n : length (l .loop .marks) ≡ length (s .args .marks .now) = omega arith in
+    let n : length (l .loop .marks) ≡ length (s .args .marks .now) = l .loop .inv .1 ∙ l .before .before .before .clear .kept .0 in
     let e : i .0 ≡ join snode (cliquesFrom ws (s .args .first) (s .args .count)) =
     sym (append-nil (i .0)) ∙ ap (λ (cs : List Clique). i .0 ++ join snode cs) (sym (from-none ws (l .loop .at) (l .loop .left) (c .loop-test .left))) ∙ i .1 in
     sym (passed _ (rw (e, n) at (i .3)))
