@@ -1,6 +1,8 @@
 // Tells document 01's "Three projectors, one seam": the problem is cut on each route, and a solution of what the cut
 // wrote is joined again. The words are the standard input, with a # for each number that comes from the tables below or
 // from the calls; what they say of the seam can be read off those numbers.
+//
+// The lists that a function is lent have one lifetime, and a proof then follows one loan.
 use libc::STDIN_FILENO;
 use libc::STDOUT_FILENO;
 use stored::front_words;
@@ -80,6 +82,10 @@ const A_ROWS: u8 = 3;
 const CONES: u8 = 4;
 
 const PATTERN: u8 = 5;
+
+const MORE_STARTS: u8 = 6;
+
+const MORE_ROWS: u8 = 7;
 
 const TOLD: u8 = 8;
 
@@ -164,6 +170,8 @@ const B: u8 = 3;
 
 const ALPHAS: u8 = 4;
 
+const MORE_VALUES: u8 = 5;
+
 const TAU: f64 = 2.0;
 
 const KAPPA: f64 = 3.0;
@@ -202,9 +210,9 @@ const STANDARD: Step = Step {
 
 const REFUSED: Step = Step {
     route: 1,
-    a_starts: 6,
-    a_rows: 7,
-    a_values: 5,
+    a_starts: MORE_STARTS,
+    a_rows: MORE_ROWS,
+    a_values: MORE_VALUES,
     x: 6,
     both: 7,
     powers: 10,
@@ -283,7 +291,7 @@ fn tell_values(values: &[f64], n: u32) {
 }
 
 // A's columns, none of which is empty: its number, and each entry with its row.
-fn tell_columns(columns: u32, starts: &[u32], rows: &[u32], values: &[f64]) {
+fn tell_columns<'a>(columns: u32, starts: &'a [u32], rows: &'a [u32], values: &'a [f64]) {
     let count = item(starts, columns as usize);
     let mut k = 0;
     let mut i = 0;
@@ -320,17 +328,12 @@ fn tell_ones(n: u64) {
     }
 }
 
-// A row's value in an output.
-fn at(out: [f64; 32], row: u32) -> f64 {
-    out[(row % 32) as usize]
-}
-
 // The rows of the triangle. The sum for each has a power of two for every augmented row that is joined to it.
 fn tell_rows(sums: [f64; 32]) {
     let mut row = 0;
     while row < M {
         tell_row(row);
-        tell_ones(whole(at(sums, row)));
+        tell_ones(whole(sums[row as usize]));
         row += 1;
     }
 }
@@ -338,7 +341,7 @@ fn tell_rows(sums: [f64; 32]) {
 // ---- the problem told
 
 // The original vertices of the members at some words of the pattern.
-fn tell_members(pattern: &[u32], told: &[u32]) {
+fn tell_members<'a>(pattern: &'a [u32], told: &'a [u32]) {
     let mut i = 0;
     while i < told.len() {
         tell(item(pattern, 3 + item(pattern, item(told, i) as usize) as usize));
@@ -346,7 +349,12 @@ fn tell_members(pattern: &[u32], told: &[u32]) {
     }
 }
 
-fn tell_problem(words: &[u32], starts: &[usize], values: &[f64], value_starts: &[usize]) {
+fn tell_problem<'a>(
+    words: &'a [u32],
+    starts: &'a [usize],
+    values: &'a [f64],
+    value_starts: &'a [usize],
+) {
     tell(N);
     tell(M);
     tell_rows([0.0; 32]);
@@ -375,13 +383,13 @@ struct Joined {
 }
 
 // A solution whose s and z are the same.
-fn join(
+fn join<'a>(
     route: u32,
-    cones: &[u32],
-    pattern: &[u32],
-    map: &[u32],
-    x: &[f64],
-    both: &[f64],
+    cones: &'a [u32],
+    pattern: &'a [u32],
+    map: &'a [u32],
+    x: &'a [f64],
+    both: &'a [f64],
 ) -> Joined {
     let mut x_out = [0f64; 32];
     let mut s_out = [0f64; 32];
@@ -437,7 +445,7 @@ fn tell_joined(joined: Joined) {
     tell_front_values(scalars, 2);
 }
 
-fn tell_solution(lengths: &[u32], x: &[f64], both: &[f64]) {
+fn tell_solution<'a>(lengths: &'a [u32], x: &'a [f64], both: &'a [f64]) {
     tell_values(x, item(lengths, 3));
     tell_values(both, item(lengths, 7));
     tell_value(TAU);
@@ -445,15 +453,15 @@ fn tell_solution(lengths: &[u32], x: &[f64], both: &[f64]) {
 }
 
 // The rows that stand for the original ones, and a solution joined.
-fn tell_back(
+fn tell_back<'a>(
     route: u32,
-    lengths: &[u32],
-    cones: &[u32],
-    pattern: &[u32],
+    lengths: &'a [u32],
+    cones: &'a [u32],
+    pattern: &'a [u32],
     map_out: [u32; 32],
-    x: &[f64],
-    both: &[f64],
-    powers: &[f64],
+    x: &'a [f64],
+    both: &'a [f64],
+    powers: &'a [f64],
 ) {
     let map = front_words(&map_out, item(lengths, 10) as usize);
     let marked = join(route, cones, pattern, map, x, powers);
@@ -507,17 +515,17 @@ fn tell_matrix(
 }
 
 // Its cones and the cone map, and a solution of it joined again.
-fn tell_cones(
+fn tell_cones<'a>(
     answer: u32,
     route: u32,
-    lengths: &[u32],
-    cones: &[u32],
-    pattern: &[u32],
+    lengths: &'a [u32],
+    cones: &'a [u32],
+    pattern: &'a [u32],
     cones_out: [u32; 32],
     map_out: [u32; 32],
-    x: &[f64],
-    both: &[f64],
-    powers: &[f64],
+    x: &'a [f64],
+    both: &'a [f64],
+    powers: &'a [f64],
 ) {
     if answer != 0 {
         return;
@@ -562,23 +570,23 @@ fn tell_kept(
 }
 
 // The cut, whose outputs have more room than they need.
-fn tell_cut(
+fn tell_cut<'a>(
     route: u32,
-    p_starts: &[u32],
-    p_rows: &[u32],
-    p_values: &[f64],
-    q: &[f64],
-    a_starts: &[u32],
-    a_rows: &[u32],
-    a_values: &[f64],
-    b: &[f64],
-    cones: &[u32],
-    alphas: &[f64],
-    pattern: &[u32],
-    lengths: &[u32],
-    x: &[f64],
-    both: &[f64],
-    powers: &[f64],
+    p_starts: &'a [u32],
+    p_rows: &'a [u32],
+    p_values: &'a [f64],
+    q: &'a [f64],
+    a_starts: &'a [u32],
+    a_rows: &'a [u32],
+    a_values: &'a [f64],
+    b: &'a [f64],
+    cones: &'a [u32],
+    alphas: &'a [f64],
+    pattern: &'a [u32],
+    lengths: &'a [u32],
+    x: &'a [f64],
+    both: &'a [f64],
+    powers: &'a [f64],
 ) {
     let mut p_starts_out = [BEFORE; 32];
     let mut p_rows_out = [BEFORE; 32];
@@ -663,7 +671,13 @@ fn tell_sizes(answer: u32, lengths: &[u32]) {
     }
 }
 
-fn tell_step(step: Step, words: &[u32], starts: &[usize], values: &[f64], value_starts: &[usize]) {
+fn tell_step<'a>(
+    step: Step,
+    words: &'a [u32],
+    starts: &'a [usize],
+    values: &'a [f64],
+    value_starts: &'a [usize],
+) {
     let p_starts = words_at(words, starts, P_STARTS);
     let p_rows = words_at(words, starts, P_ROWS);
     let p_values = values_at(values, value_starts, P_VALUES);
@@ -715,15 +729,15 @@ fn tell_step(step: Step, words: &[u32], starts: &[usize], values: &[f64], value_
     );
 }
 
-fn story(words: &[u32], starts: &[usize], values: &[f64], value_starts: &[usize]) {
+fn story<'a>(words: &'a [u32], starts: &'a [usize], values: &'a [f64], value_starts: &'a [usize]) {
     tell_problem(words, starts, values, value_starts);
     tell_step(COMPACT, words, starts, values, value_starts);
     tell_step(STANDARD, words, starts, values, value_starts);
     tell_columns(
         N,
-        words_at(words, starts, REFUSED.a_starts),
-        words_at(words, starts, REFUSED.a_rows),
-        values_at(values, value_starts, REFUSED.a_values),
+        words_at(words, starts, MORE_STARTS),
+        words_at(words, starts, MORE_ROWS),
+        values_at(values, value_starts, MORE_VALUES),
     );
     tell_step(REFUSED, words, starts, values, value_starts);
 }

@@ -15,8 +15,14 @@ loop-holds c = search needs
 tell-row-requires : tie.Need-tell-row-requires Inv-loop μ-loop
 tell-row-requires c κs = search needs
 
-at-requires : tie.Need-at-requires Inv-loop μ-loop
-at-requires c κs = search needs
+cast-whole : tie.Need-cast-whole Inv-loop μ-loop
+cast-whole c = search needs
+
+mul-whole : tie.Need-mul-whole Inv-loop μ-loop
+mul-whole c = search needs
+
+array-read-whole : tie.Need-array-read-whole Inv-loop μ-loop
+array-read-whole c = search needs
 
 whole-requires : tie.Need-whole-requires Inv-loop μ-loop
 whole-requires c κs = search needs
@@ -44,7 +50,9 @@ tell-rows-spec =
     μ-loop
     loop-holds
     tell-row-requires
-    at-requires
+    cast-whole
+    mul-whole
+    array-read-whole
     whole-requires
     tell-ones-requires
     add-row
