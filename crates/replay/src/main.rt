@@ -32,12 +32,22 @@ use stored::words_at;
 const DIFFERS: u32 = 4294967295;
 
 // The room for the k-th list, with what an output holds before a call.
-fn words_room<'a>(out: &'a mut [u32], words: &[u32], starts: &[usize], k: u8) -> &'a mut [u32] {
+fn words_room<'a, 'b>(
+    out: &'a mut [u32],
+    words: &'b [u32],
+    starts: &'b [usize],
+    k: u8,
+) -> &'a mut [u32] {
     prefill_words(&mut *out);
     front_words_mut(out, words_at(words, starts, k).len())
 }
 
-fn values_room<'a>(out: &'a mut [f64], values: &[f64], starts: &[usize], k: u8) -> &'a mut [f64] {
+fn values_room<'a, 'b>(
+    out: &'a mut [f64],
+    values: &'b [f64],
+    starts: &'b [usize],
+    k: u8,
+) -> &'a mut [f64] {
     prefill_values(&mut *out);
     front_values_mut(out, values_at(values, starts, k).len())
 }
@@ -518,19 +528,19 @@ fn next_agrees(fd: i32, family: u8, answer: u8) -> bool {
     agrees(family, answer, &words, &starts, &values, &value_starts)
 }
 
-fn tell<'a>(before: &'a [u8], n: u32, after: &'a [u8]) {
-    io::write_all(STDOUT_FILENO, before);
+fn tell(n: u32, what: &[u8]) {
+    io::write_all(STDOUT_FILENO, b": ");
     io::print_decimal(STDOUT_FILENO, n as u64);
-    io::write_all(STDOUT_FILENO, after);
+    io::write_all(STDOUT_FILENO, what);
 }
 
-// A family's line: how many cases it has, or the first that differs, from 0 on.
+// A family's line: how many cases it has, or how many are equal before one that is not.
 fn report(name: &[u8], cases: u32, equal: u32) {
     io::write_all(STDOUT_FILENO, name);
     if equal == cases {
-        tell(b": ", cases, b" cases, all equal\n");
+        tell(cases, b" cases, all equal\n");
     } else {
-        tell(b": case ", equal, b" differs\n");
+        tell(equal, b" cases equal and the next one not\n");
     }
 }
 
