@@ -1,12 +1,14 @@
 // Tells document 01's "Three projectors, one seam": the problem is cut on each route, and a solution of what the cut
-// wrote is joined again. The words are the standard input, with a # for each number; the numbers that are put in come
-// from the tables below and from the calls.
-ghost use Prim.Native.Nat.{_≤_};
+// wrote is joined again. The words are the standard input, with a # for each number that comes from the tables below or
+// from the calls; what they say of the seam can be read off those numbers.
+//
+// The lists that a function is lent have one lifetime, and a proof then follows one loan.
 use libc::STDIN_FILENO;
 use libc::STDOUT_FILENO;
-use stored::front_values;
 use stored::front_words;
 use stored::item;
+use stored::same_values;
+use stored::same_words;
 use stored::values_at;
 use stored::words_at;
 
@@ -19,10 +21,11 @@ const M: u32 = 6;
 // All tables are lists that lie one after the other, the k-th from starts[k] to starts[k + 1] (crate stored).
 //
 // Those of u32: P's starts, P's rows, of which there are none, A's starts 0 5, A's rows 0 1 2 4 5, the cones 6 3 0, the
-// pattern, and the starts 0 6 and the rows 0 1 2 3 4 5 of an A with an entry more. The pattern has cone 0, 3 vertices,
-// 2 cliques and the ordering 0 1 2; then, from its words 6 and 11 on, a clique: parent, snode count, separator count,
-// snode, separator. 4294967295 says that there is no parent.
-const WORDS: [u32; 36] = [
+// pattern, the starts 0 6 and the rows 0 1 2 3 4 5 of an A with an entry more, and the pattern's words that are told. The
+// pattern has cone 0, 3 vertices, 2 cliques and the ordering 0 1 2; then, from its words 6 and 11 on, a clique: parent,
+// snode count, separator count, snode, separator. 4294967295 says that there is no parent. Told are the first clique's
+// snode and separator, its separator again, and the second clique's snode.
+const WORDS: [u32; 41] = [
     0,
     0,
     0,
@@ -59,21 +62,37 @@ const WORDS: [u32; 36] = [
     3,
     4,
     5,
+    9,
+    10,
+    10,
+    14,
+    15,
 ];
 
-const STARTS: [usize; 9] = [0, 2, 2, 4, 9, 12, 28, 30, 36];
+const STARTS: [usize; 10] = [0, 2, 2, 4, 9, 12, 28, 30, 36, 41];
 
 const P_STARTS: u8 = 0;
 
 const P_ROWS: u8 = 1;
 
+const A_STARTS: u8 = 2;
+
+const A_ROWS: u8 = 3;
+
 const CONES: u8 = 4;
 
 const PATTERN: u8 = 5;
 
+const MORE_STARTS: u8 = 6;
+
+const MORE_ROWS: u8 = 7;
+
+const TOLD: u8 = 8;
+
 // Those of f64: P's values, q, A's values, b, α, of which there is none, and the other A's values; then two solutions,
-// each x and the values that s and z both have; then the powers of two.
-const VALUES: [f64; 57] = [
+// each x and the values that s and z both have; then for each as
+// many powers of two.
+const VALUES: [f64; 63] = [
     0.0,
     10.0,
     20.0,
@@ -125,6 +144,12 @@ const VALUES: [f64; 57] = [
     8.0,
     16.0,
     32.0,
+    1.0,
+    2.0,
+    4.0,
+    8.0,
+    16.0,
+    32.0,
     64.0,
     128.0,
     256.0,
@@ -133,23 +158,26 @@ const VALUES: [f64; 57] = [
     2048.0,
 ];
 
-const VALUE_STARTS: [usize; 12] = [0, 0, 1, 6, 12, 12, 18, 20, 26, 33, 45, 57];
+const VALUE_STARTS: [usize; 13] = [0, 0, 1, 6, 12, 12, 18, 20, 26, 33, 45, 51, 63];
 
 const P_VALUES: u8 = 0;
 
 const Q: u8 = 1;
 
+const A_VALUES: u8 = 2;
+
 const B: u8 = 3;
 
 const ALPHAS: u8 = 4;
 
-const POWERS: u8 = 10;
+const MORE_VALUES: u8 = 5;
 
 const TAU: f64 = 2.0;
 
 const KAPPA: f64 = 3.0;
 
-// A step of the story: a route, 0 standard or 1 compact; the lists of A; those of a solution of what the cut writes.
+// A step of the story: a route, 0 standard or 1 compact; the lists of A; those of a solution of what the cut writes, and of
+// one that shows which rows are joined: the sum of any of its values tells them all.
 struct Step {
     route: u32,
     a_starts: u8,
@@ -157,33 +185,37 @@ struct Step {
     a_values: u8,
     x: u8,
     both: u8,
+    powers: u8,
 }
 
 const COMPACT: Step = Step {
     route: 1,
-    a_starts: 2,
-    a_rows: 3,
-    a_values: 2,
+    a_starts: A_STARTS,
+    a_rows: A_ROWS,
+    a_values: A_VALUES,
     x: 6,
     both: 7,
+    powers: 10,
 };
 
 const STANDARD: Step = Step {
     route: 0,
-    a_starts: 2,
-    a_rows: 3,
-    a_values: 2,
+    a_starts: A_STARTS,
+    a_rows: A_ROWS,
+    a_values: A_VALUES,
     x: 8,
     both: 9,
+    powers: 11,
 };
 
 const REFUSED: Step = Step {
     route: 1,
-    a_starts: 6,
-    a_rows: 7,
-    a_values: 5,
+    a_starts: MORE_STARTS,
+    a_rows: MORE_ROWS,
+    a_values: MORE_VALUES,
     x: 6,
     both: 7,
+    powers: 10,
 };
 
 // ---- words and numbers
@@ -237,37 +269,29 @@ fn tell_value(v: f64) {
     }
 }
 
-fn tell_all(list: &[u32]) {
-    let mut i = 0;
-    while i < list.len() {
-        tell(list[i]);
-        i += 1;
-    }
-}
-
-fn tell_values(values: &[f64]) {
-    let mut i = 0;
-    while i < values.len() {
-        tell_value(values[i]);
-        i += 1;
-    }
-}
-
-// What a call left at the front of an output.
-fn tell_front(out: [u32; 32], n: u32) {
-    tell_all(front_words(&out, n as usize));
-}
-
-fn tell_front_values(out: [f64; 32], n: u32) {
-    tell_values(front_values(&out, n as usize));
-}
-
 fn value(values: &[f64], i: usize) -> f64 {
     if i < values.len() { values[i] } else { 0.0 }
 }
 
+// The first n of a list.
+fn tell_all(list: &[u32], n: u32) {
+    let mut i = 0;
+    while i < n {
+        tell(item(list, i as usize));
+        i += 1;
+    }
+}
+
+fn tell_values(values: &[f64], n: u32) {
+    let mut i = 0;
+    while i < n {
+        tell_value(value(values, i as usize));
+        i += 1;
+    }
+}
+
 // A's columns, none of which is empty: its number, and each entry with its row.
-fn tell_columns(columns: u32, starts: &[u32], rows: &[u32], values: &[f64]) {
+fn tell_columns<'a>(columns: u32, starts: &'a [u32], rows: &'a [u32], values: &'a [f64]) {
     let count = item(starts, columns as usize);
     let mut k = 0;
     let mut i = 0;
@@ -316,31 +340,36 @@ fn tell_rows(sums: [f64; 32]) {
 
 // ---- the problem told
 
-// The original vertices of the members in a part of the pattern.
-fn tell_members(pattern: &[u32], from: usize, end: usize) {
-    let mut i = from;
-    while i < end {
-        tell(item(pattern, 3 + item(pattern, i) as usize));
+// The original vertices of the members at some words of the pattern.
+fn tell_members<'a>(pattern: &'a [u32], told: &'a [u32]) {
+    let mut i = 0;
+    while i < told.len() {
+        tell(item(pattern, 3 + item(pattern, item(told, i) as usize) as usize));
         i += 1;
     }
 }
 
-fn tell_problem(words: &[u32], starts: &[usize], values: &[f64], value_starts: &[usize]) {
+fn tell_problem<'a>(
+    words: &'a [u32],
+    starts: &'a [usize],
+    values: &'a [f64],
+    value_starts: &'a [usize],
+) {
     tell(N);
     tell(M);
     tell_rows([0.0; 32]);
     tell_columns(
         N,
-        words_at(words, starts, COMPACT.a_starts),
-        words_at(words, starts, COMPACT.a_rows),
-        values_at(values, value_starts, COMPACT.a_values),
+        words_at(words, starts, A_STARTS),
+        words_at(words, starts, A_ROWS),
+        values_at(values, value_starts, A_VALUES),
     );
-    tell_values(values_at(values, value_starts, B));
-    tell_all(words_at(words, starts, CONES));
-    let pattern = words_at(words, starts, PATTERN);
-    tell_members(pattern, 9, 11);
-    tell_members(pattern, 10, 11);
-    tell_members(pattern, 14, 16);
+    tell_values(values_at(values, value_starts, B), M);
+    tell_all(words_at(words, starts, CONES), 3);
+    tell_members(
+        words_at(words, starts, PATTERN),
+        words_at(words, starts, TOLD),
+    );
 }
 
 // ---- the joining
@@ -354,13 +383,13 @@ struct Joined {
 }
 
 // A solution whose s and z are the same.
-fn join(
+fn join<'a>(
     route: u32,
-    words: &[u32],
-    starts: &[usize],
-    map: &[u32],
-    x: &[f64],
-    both: &[f64],
+    cones: &'a [u32],
+    pattern: &'a [u32],
+    map: &'a [u32],
+    x: &'a [f64],
+    both: &'a [f64],
 ) -> Joined {
     let mut x_out = [0f64; 32];
     let mut s_out = [0f64; 32];
@@ -370,9 +399,9 @@ fn join(
         route,
         N,
         M,
-        words_at(words, starts, CONES),
+        cones,
         1,
-        words_at(words, starts, PATTERN),
+        pattern,
         x,
         both,
         both,
@@ -393,69 +422,18 @@ fn join(
     }
 }
 
-// ---- the seam
-
-// An original row, and its first two augmented ones.
-struct Seam {
-    row: u32,
-    first: u32,
-    second: u32,
-}
-
-// The first original row that has two.
-fn seam_of(sums: [f64; 32]) -> Seam {
-    let mut row = 0;
-    while row < M {
-        let ones = whole(sums[row as usize]);
-        if 0 < ones {
-            let others = ones & (ones - 1);
-            if 0 < others {
-                return Seam {
-                    row: row,
-                    first: u64::trailing_zeros(ones),
-                    second: u64::trailing_zeros(others),
-                };
-            }
-        }
-        row += 1;
-    }
-    Seam {
-        row: M,
-        first: 0,
-        second: 0,
-    }
-}
-
-// The added column that has an entry in an augmented row; each added column has two entries.
-fn added_column(starts: [u32; 32], rows: [u32; 32], row: u32) -> u32 {
-    let begin = starts[N as usize];
-    let mut i = begin;
-    while i < 32 {
-        if rows[i as usize] == row {
-            return N + (i - begin) / 2;
-        }
-        i += 1;
-    }
-    0
-}
-
-// The column or the two columns that tie the seam's rows, those rows, and what they stand for.
-fn tell_overlap(starts: [u32; 32], rows: [u32; 32], seam: Seam) {
-    let c = added_column(starts, rows, seam.first);
-    let d = added_column(starts, rows, seam.second);
-    tell(c);
-    if c != d {
-        tell(d);
-    }
-    tell(seam.first);
-    tell(seam.second);
-    tell_row(seam.row);
-}
-
 // ---- the steps
 
-// What is joined; then the seam's row, its two augmented rows with their values, and what became of these in s and z.
-fn tell_joined(joined: Joined, seam: Seam, both: &[f64]) {
+// The front of an output.
+fn tell_front(out: [u32; 32], n: u32) {
+    tell_all(&out, n);
+}
+
+fn tell_front_values(out: [f64; 32], n: u32) {
+    tell_values(&out, n);
+}
+
+fn tell_joined(joined: Joined) {
     tell(joined.answer);
     let x = joined.x;
     tell_front_values(x, N);
@@ -465,43 +443,32 @@ fn tell_joined(joined: Joined, seam: Seam, both: &[f64]) {
     tell_front_values(z, M);
     let scalars = joined.scalars;
     tell_front_values(scalars, 2);
-    tell(seam.row);
-    tell(seam.first);
-    tell(seam.second);
-    tell_value(value(both, seam.first as usize));
-    tell_value(value(both, seam.second as usize));
-    let row = (seam.row % 32) as usize;
-    tell_value(s[row]);
-    tell_value(z[row]);
 }
 
-// The rows that stand for the original ones, and a solution joined. To see which do, a solution is joined whose s is a
-// power of two in each row.
-fn tell_back(
-    step: Step,
-    words: &[u32],
-    starts: &[usize],
-    values: &[f64],
-    value_starts: &[usize],
-    map: [u32; 32],
-    map_length: u32,
-    a_starts: [u32; 32],
-    a_rows: [u32; 32],
-) {
-    let map = front_words(&map, map_length as usize);
-    let x = values_at(values, value_starts, step.x);
-    let both = values_at(values, value_starts, step.both);
-    let powers = front_values(values_at(values, value_starts, POWERS), both.len());
-    let marked = join(step.route, words, starts, map, x, powers);
-    let sums = marked.s;
-    tell_rows(sums);
-    let seam = seam_of(sums);
-    tell_overlap(a_starts, a_rows, seam);
-    tell_values(x);
-    tell_values(both);
+fn tell_solution<'a>(lengths: &'a [u32], x: &'a [f64], both: &'a [f64]) {
+    tell_values(x, item(lengths, 3));
+    tell_values(both, item(lengths, 7));
     tell_value(TAU);
     tell_value(KAPPA);
-    tell_joined(join(step.route, words, starts, map, x, both), seam, both);
+}
+
+// The rows that stand for the original ones, and a solution joined.
+fn tell_back<'a>(
+    route: u32,
+    lengths: &'a [u32],
+    cones: &'a [u32],
+    pattern: &'a [u32],
+    map_out: [u32; 32],
+    x: &'a [f64],
+    both: &'a [f64],
+    powers: &'a [f64],
+) {
+    let map = front_words(&map_out, item(lengths, 10) as usize);
+    let marked = join(route, cones, pattern, map, x, powers);
+    let sums = marked.s;
+    tell_rows(sums);
+    tell_solution(lengths, x, both);
+    tell_joined(join(route, cones, pattern, map, x, both));
 }
 
 // What every place of an output holds before the cut, so that a place not written shows.
@@ -509,75 +476,67 @@ const BEFORE: u32 = 77;
 
 const BEFORE_VALUE: f64 = 77.0;
 
-// Whether an output holds what it held: 1 or 0.
-fn kept_words(out: [u32; 32]) -> u32
-    ensures { λ r. ⌜ r ≤ 1 ⌝ }
-{
-    let mut i = 0;
-    while i < 32 {
-        if out[i] != BEFORE {
-            return 0;
-        }
-        i += 1;
+// How many outputs hold what they held: one more where this one does.
+fn kept_words(kept: u32, out: [u32; 32]) -> u32 {
+    if same_words(&out, &[BEFORE; 32]) {
+        std::num::wrapping_add_u32(kept, 1)
+    } else {
+        kept
     }
-    1
 }
 
-fn kept_values(out: [f64; 32]) -> u32
-    ensures { λ r. ⌜ r ≤ 1 ⌝ }
-{
-    let mut i = 0;
-    while i < 32 {
-        if out[i] != BEFORE_VALUE {
-            return 0;
-        }
-        i += 1;
+fn kept_values(kept: u32, out: [f64; 32]) -> u32 {
+    if same_values(&out, &[BEFORE_VALUE; 32]) {
+        std::num::wrapping_add_u32(kept, 1)
+    } else {
+        kept
     }
-    1
 }
 
-// What the cut wrote, and a solution of it joined again.
-fn tell_augmented(
-    step: Step,
-    words: &[u32],
-    starts: &[usize],
-    values: &[f64],
-    value_starts: &[usize],
-    lengths: [u32; 11],
+// What the cut answers, and the augmented problem's sizes, A and b.
+fn tell_matrix(
+    answer: u32,
+    lengths: &[u32],
     a_starts: [u32; 32],
     a_rows: [u32; 32],
     a_values: [f64; 32],
     b: [f64; 32],
-    cones: [u32; 32],
-    map: [u32; 32],
 ) {
-    tell(lengths[7]);
-    tell(lengths[3]);
-    tell_columns(lengths[3], &a_starts, &a_rows, &a_values);
-    tell_front_values(b, lengths[7]);
-    tell_front(cones, lengths[8]);
-    tell_front(map, lengths[10]);
-    tell_back(
-        step,
-        words,
-        starts,
-        values,
-        value_starts,
-        map,
-        lengths[10],
-        a_starts,
-        a_rows,
-    );
+    tell(answer);
+    if answer != 0 {
+        return;
+    }
+    let m = item(lengths, 7);
+    let n = item(lengths, 3);
+    tell(m);
+    tell(n);
+    tell_columns(n, &a_starts, &a_rows, &a_values);
+    tell_front_values(b, m);
 }
 
-// What the cut answers, and its outputs. Refused, each holds what it held.
-fn tell_outputs(
-    step: Step,
-    words: &[u32],
-    starts: &[usize],
-    values: &[f64],
-    value_starts: &[usize],
-    lengths: [u32; 11],
+// Its cones and the cone map, and a solution of it joined again.
+fn tell_cones<'a>(
+    answer: u32,
+    route: u32,
+    lengths: &'a [u32],
+    cones: &'a [u32],
+    pattern: &'a [u32],
+    cones_out: [u32; 32],
+    map_out: [u32; 32],
+    x: &'a [f64],
+    both: &'a [f64],
+    powers: &'a [f64],
+) {
+    if answer != 0 {
+        return;
+    }
+    tell_front(cones_out, item(lengths, 8));
+    tell_front(map_out, item(lengths, 10));
+    tell_back(route, lengths, cones, pattern, map_out, x, both, powers);
+}
+
+// Refused, each output holds what it held.
+fn tell_kept(
     answer: u32,
     p_starts: [u32; 32],
     p_rows: [u32; 32],
@@ -591,96 +550,59 @@ fn tell_outputs(
     alphas: [f64; 32],
     map: [u32; 32],
 ) {
-    tell(answer);
     if answer == 0 {
-        tell_augmented(
-            step,
-            words,
-            starts,
-            values,
-            value_starts,
-            lengths,
-            a_starts,
-            a_rows,
-            a_values,
-            b,
-            cones,
-            map,
-        );
         return;
     }
+    let mut kept = 0;
+    kept = kept_words(kept, p_starts);
+    kept = kept_words(kept, p_rows);
+    kept = kept_values(kept, p_values);
+    kept = kept_values(kept, q);
+    kept = kept_words(kept, a_starts);
+    kept = kept_words(kept, a_rows);
+    kept = kept_values(kept, a_values);
+    kept = kept_values(kept, b);
+    kept = kept_words(kept, cones);
+    kept = kept_values(kept, alphas);
+    kept = kept_words(kept, map);
     tell(BEFORE);
-    tell(
-        kept_words(p_starts)
-            + kept_words(p_rows)
-            + kept_values(p_values)
-            + kept_values(q)
-            + kept_words(a_starts)
-            + kept_words(a_rows)
-            + kept_values(a_values)
-            + kept_values(b)
-            + kept_words(cones)
-            + kept_values(alphas)
-            + kept_words(map),
-    );
+    tell(kept);
 }
 
 // The cut, whose outputs have more room than they need.
-fn tell_cut(
-    step: Step,
-    words: &[u32],
-    starts: &[usize],
-    values: &[f64],
-    value_starts: &[usize],
-    lengths: [u32; 11],
+fn tell_cut<'a>(
+    route: u32,
+    p_starts: &'a [u32],
+    p_rows: &'a [u32],
+    p_values: &'a [f64],
+    q: &'a [f64],
+    a_starts: &'a [u32],
+    a_rows: &'a [u32],
+    a_values: &'a [f64],
+    b: &'a [f64],
+    cones: &'a [u32],
+    alphas: &'a [f64],
+    pattern: &'a [u32],
+    lengths: &'a [u32],
+    x: &'a [f64],
+    both: &'a [f64],
+    powers: &'a [f64],
 ) {
-    let mut p_starts = [BEFORE; 32];
-    let mut p_rows = [BEFORE; 32];
-    let mut p_values = [BEFORE_VALUE; 32];
-    let mut q = [BEFORE_VALUE; 32];
-    let mut a_starts = [BEFORE; 32];
-    let mut a_rows = [BEFORE; 32];
-    let mut a_values = [BEFORE_VALUE; 32];
-    let mut b = [BEFORE_VALUE; 32];
-    let mut cones = [BEFORE; 32];
-    let mut alphas = [BEFORE_VALUE; 32];
-    let mut map = [BEFORE; 32];
+    let mut p_starts_out = [BEFORE; 32];
+    let mut p_rows_out = [BEFORE; 32];
+    let mut p_values_out = [BEFORE_VALUE; 32];
+    let mut q_out = [BEFORE_VALUE; 32];
+    let mut a_starts_out = [BEFORE; 32];
+    let mut a_rows_out = [BEFORE; 32];
+    let mut a_values_out = [BEFORE_VALUE; 32];
+    let mut b_out = [BEFORE_VALUE; 32];
+    let mut cones_out = [BEFORE; 32];
+    let mut alphas_out = [BEFORE_VALUE; 32];
+    let mut map_out = [BEFORE; 32];
     let answer = decomp_augment::cut(
-        step.route,
+        route,
         N,
         M,
-        words_at(words, starts, P_STARTS),
-        words_at(words, starts, P_ROWS),
-        values_at(values, value_starts, P_VALUES),
-        values_at(values, value_starts, Q),
-        words_at(words, starts, step.a_starts),
-        words_at(words, starts, step.a_rows),
-        values_at(values, value_starts, step.a_values),
-        values_at(values, value_starts, B),
-        words_at(words, starts, CONES),
-        values_at(values, value_starts, ALPHAS),
-        1,
-        words_at(words, starts, PATTERN),
-        &mut p_starts,
-        &mut p_rows,
-        &mut p_values,
-        &mut q,
-        &mut a_starts,
-        &mut a_rows,
-        &mut a_values,
-        &mut b,
-        &mut cones,
-        &mut alphas,
-        &mut map,
-    );
-    tell_outputs(
-        step,
-        words,
-        starts,
-        values,
-        value_starts,
-        lengths,
-        answer,
         p_starts,
         p_rows,
         p_values,
@@ -691,51 +613,131 @@ fn tell_cut(
         b,
         cones,
         alphas,
-        map,
+        1,
+        pattern,
+        &mut p_starts_out,
+        &mut p_rows_out,
+        &mut p_values_out,
+        &mut q_out,
+        &mut a_starts_out,
+        &mut a_rows_out,
+        &mut a_values_out,
+        &mut b_out,
+        &mut cones_out,
+        &mut alphas_out,
+        &mut map_out,
+    );
+    tell_matrix(
+        answer,
+        lengths,
+        a_starts_out,
+        a_rows_out,
+        a_values_out,
+        b_out,
+    );
+    tell_cones(
+        answer,
+        route,
+        lengths,
+        cones,
+        pattern,
+        cones_out,
+        map_out,
+        x,
+        both,
+        powers,
+    );
+    tell_kept(
+        answer,
+        p_starts_out,
+        p_rows_out,
+        p_values_out,
+        q_out,
+        a_starts_out,
+        a_rows_out,
+        a_values_out,
+        b_out,
+        cones_out,
+        alphas_out,
+        map_out,
     );
 }
 
 // The length of each of the cut's outputs. Refused, they are not written.
-fn tell_sizes(answer: u32, lengths: [u32; 11]) {
+fn tell_sizes(answer: u32, lengths: &[u32]) {
     tell(answer);
     if answer == 0 {
-        tell_all(&lengths);
+        tell_all(lengths, 11);
     }
 }
 
-fn tell_step(step: Step, words: &[u32], starts: &[usize], values: &[f64], value_starts: &[usize]) {
+fn tell_step<'a>(
+    step: Step,
+    words: &'a [u32],
+    starts: &'a [usize],
+    values: &'a [f64],
+    value_starts: &'a [usize],
+) {
+    let p_starts = words_at(words, starts, P_STARTS);
+    let p_rows = words_at(words, starts, P_ROWS);
+    let p_values = values_at(values, value_starts, P_VALUES);
+    let q = values_at(values, value_starts, Q);
+    let a_starts = words_at(words, starts, step.a_starts);
+    let a_rows = words_at(words, starts, step.a_rows);
+    let a_values = values_at(values, value_starts, step.a_values);
+    let b = values_at(values, value_starts, B);
+    let cones = words_at(words, starts, CONES);
+    let alphas = values_at(values, value_starts, ALPHAS);
+    let pattern = words_at(words, starts, PATTERN);
     let mut lengths = [0u32; 11];
     let answer = decomp::sizes(
         step.route,
         N,
         M,
-        words_at(words, starts, P_STARTS),
-        words_at(words, starts, P_ROWS),
-        values_at(values, value_starts, P_VALUES),
-        values_at(values, value_starts, Q),
-        words_at(words, starts, step.a_starts),
-        words_at(words, starts, step.a_rows),
-        values_at(values, value_starts, step.a_values),
-        values_at(values, value_starts, B),
-        words_at(words, starts, CONES),
-        values_at(values, value_starts, ALPHAS),
+        p_starts,
+        p_rows,
+        p_values,
+        q,
+        a_starts,
+        a_rows,
+        a_values,
+        b,
+        cones,
+        alphas,
         1,
-        words_at(words, starts, PATTERN),
+        pattern,
         &mut lengths,
     );
-    tell_sizes(answer, lengths);
-    tell_cut(step, words, starts, values, value_starts, lengths);
+    tell_sizes(answer, &lengths);
+    tell_cut(
+        step.route,
+        p_starts,
+        p_rows,
+        p_values,
+        q,
+        a_starts,
+        a_rows,
+        a_values,
+        b,
+        cones,
+        alphas,
+        pattern,
+        &lengths,
+        values_at(values, value_starts, step.x),
+        values_at(values, value_starts, step.both),
+        values_at(values, value_starts, step.powers),
+    );
 }
 
-fn story(words: &[u32], starts: &[usize], values: &[f64], value_starts: &[usize]) {
+fn story<'a>(words: &'a [u32], starts: &'a [usize], values: &'a [f64], value_starts: &'a [usize]) {
     tell_problem(words, starts, values, value_starts);
     tell_step(COMPACT, words, starts, values, value_starts);
     tell_step(STANDARD, words, starts, values, value_starts);
     tell_columns(
         N,
-        words_at(words, starts, REFUSED.a_starts),
-        words_at(words, starts, REFUSED.a_rows),
-        values_at(values, value_starts, REFUSED.a_values),
+        words_at(words, starts, MORE_STARTS),
+        words_at(words, starts, MORE_ROWS),
+        values_at(values, value_starts, MORE_VALUES),
     );
     tell_step(REFUSED, words, starts, values, value_starts);
 }

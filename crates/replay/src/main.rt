@@ -2,8 +2,8 @@
 // each. The answers were worked out by make_answers.py and by the comparison's plain reading of document 01
 // (compare/run --store crates/replay/data --cases 120 --seed 11); crate stored says how they are written.
 //
-// A further family is a function that makes its call, a case of Family with its arm in call, a line of numbers_and_patterns
-// or whole_problems and one of stdout, and a function that makes its answers.
+// A further family is a number with its call, a line of numbers_and_patterns or whole_problems and one of stdout, and a
+// function that makes its answers.
 use libc::STDOUT_FILENO;
 use stored::front_values;
 use stored::front_values_mut;
@@ -23,80 +23,136 @@ use stored::words_at;
 // A case's lists of u32 are the call's numbers, its answer, its inputs and its outputs; its lists of f64 are
 // its inputs and its outputs. An output's list is what the whole of its room holds after the call, so it
 // also says how much room the call is given.
-enum Family {
-    PairIndex,
-    PairBack,
-    Inverse,
-    Renumber,
-    CheckProblem,
-    SameLayout,
-    Sizes,
-    Cut,
-    Join,
+//
+// The lists that a function is lent have one lifetime, and a proof then follows one loan.
+
+// ---- the room of an output, and what it holds after a call
+
+// No call answers this number: an output does not hold what is stored.
+const DIFFERS: u32 = 4294967295;
+
+// The room for the k-th list, with what an output holds before a call.
+fn words_room<'a, 'b>(
+    out: &'a mut [u32],
+    words: &'b [u32],
+    starts: &'b [usize],
+    k: u8,
+) -> &'a mut [u32] {
+    prefill_words(&mut *out);
+    front_words_mut(out, words_at(words, starts, k).len())
 }
 
-// ---- the calls that have one output, of u32, or none
-
-fn pair_index(words: &[u32], starts: &[usize], out: &mut [u32]) -> u32 {
-    let given = words_at(words, starts, 0);
-    scalarmath::pair_index(item(given, 0), item(given, 1), out)
+fn values_room<'a, 'b>(
+    out: &'a mut [f64],
+    values: &'b [f64],
+    starts: &'b [usize],
+    k: u8,
+) -> &'a mut [f64] {
+    prefill_values(&mut *out);
+    front_values_mut(out, values_at(values, starts, k).len())
 }
 
-fn pair_back(words: &[u32], starts: &[usize], out: &mut [u32]) -> u32 {
-    scalarmath::pair_back(item(words_at(words, starts, 0), 0), out)
+// A call's answer, where its output holds the k-th list.
+fn holds<'a>(answer: u32, words: &'a [u32], starts: &'a [usize], k: u8, out: [u32; 4096]) -> u32 {
+    let want = words_at(words, starts, k);
+    if same_words(front_words(&out, want.len()), want) {
+        answer
+    } else {
+        DIFFERS
+    }
 }
 
-fn inverse(words: &[u32], starts: &[usize], out: &mut [u32]) -> u32 {
-    utils::inverse(words_at(words, starts, 1), out)
-}
-
-fn renumber(words: &[u32], starts: &[usize], out: &mut [u32]) -> u32 {
-    reorder::reorder_snode_consecutively(words_at(words, starts, 1), out)
-}
-
-fn check_problem(words: &[u32], starts: &[usize], values: &[f64], value_starts: &[usize]) -> u32 {
-    let given = words_at(words, starts, 0);
-    checks::check_problem(
-        item(given, 0),
-        item(given, 1),
-        words_at(words, starts, 2),
-        words_at(words, starts, 3),
-        values_at(values, value_starts, 0),
-        values_at(values, value_starts, 1),
-        words_at(words, starts, 4),
-        words_at(words, starts, 5),
-        values_at(values, value_starts, 2),
-        values_at(values, value_starts, 3),
-        words_at(words, starts, 6),
-        values_at(values, value_starts, 4),
-        item(given, 2),
-        words_at(words, starts, 7),
-    )
-}
-
-fn same_layout(
-    words: &[u32],
-    starts: &[usize],
-    values: &[f64],
-    value_starts: &[usize],
-    out: &mut [u32],
+fn values_hold<'a>(
+    answer: u32,
+    values: &'a [f64],
+    starts: &'a [usize],
+    k: u8,
+    out: [f64; 4096],
 ) -> u32 {
-    let given = words_at(words, starts, 0);
-    same_layout::same_layout(
+    let want = values_at(values, starts, k);
+    if same_values(front_values(&out, want.len()), want) {
+        answer
+    } else {
+        DIFFERS
+    }
+}
+
+// ---- the calls on numbers and patterns
+
+const PAIR_INDEX: u8 = 0;
+
+const PAIR_BACK: u8 = 1;
+
+const INVERSE: u8 = 2;
+
+const RENUMBER: u8 = 3;
+
+fn call_on_pattern<'a>(family: u8, given: &'a [u32], list: &'a [u32], room: &mut [u32]) -> u32 {
+    match family {
+        PAIR_INDEX => scalarmath::pair_index(item(given, 0), item(given, 1), room),
+        PAIR_BACK => scalarmath::pair_back(item(given, 0), room),
+        INVERSE => utils::inverse(list, room),
+        _ => reorder::reorder_snode_consecutively(list, room),
+    }
+}
+
+fn on_pattern<'a>(family: u8, words: &'a [u32], starts: &'a [usize]) -> u32 {
+    let mut out = [0u32; 4096];
+    let room = words_room(&mut out, words, starts, 2);
+    let r = call_on_pattern(
+        family,
+        words_at(words, starts, 0),
+        words_at(words, starts, 1),
+        room,
+    );
+    holds(r, words, starts, 2, out)
+}
+
+// ---- the calls on a whole problem
+
+const CHECK_PROBLEM: u8 = 4;
+
+const SAME_LAYOUT: u8 = 5;
+
+const SIZES: u8 = 6;
+
+const CUT: u8 = 7;
+
+// The second problem's lists follow the first one's.
+fn same_layout<'a>(
+    given: &'a [u32],
+    p_starts: &'a [u32],
+    p_rows: &'a [u32],
+    p_values: &'a [f64],
+    q: &'a [f64],
+    a_starts: &'a [u32],
+    a_rows: &'a [u32],
+    a_values: &'a [f64],
+    b: &'a [f64],
+    cones: &'a [u32],
+    alphas: &'a [f64],
+    pattern: &'a [u32],
+    words: &'a [u32],
+    starts: &'a [usize],
+    values: &'a [f64],
+    value_starts: &'a [usize],
+) -> u32 {
+    let mut out = [0u32; 4096];
+    let r = same_layout::same_layout(
         item(given, 0),
         item(given, 1),
-        words_at(words, starts, 2),
-        words_at(words, starts, 3),
-        values_at(values, value_starts, 0),
-        values_at(values, value_starts, 1),
-        words_at(words, starts, 4),
-        words_at(words, starts, 5),
-        values_at(values, value_starts, 2),
-        values_at(values, value_starts, 3),
-        words_at(words, starts, 6),
-        values_at(values, value_starts, 4),
+        p_starts,
+        p_rows,
+        p_values,
+        q,
+        a_starts,
+        a_rows,
+        a_values,
+        b,
+        cones,
+        alphas,
         item(given, 2),
-        words_at(words, starts, 7),
+        pattern,
         item(given, 3),
         item(given, 4),
         words_at(words, starts, 8),
@@ -111,72 +167,56 @@ fn same_layout(
         values_at(values, value_starts, 9),
         item(given, 5),
         words_at(words, starts, 13),
-        out,
-    )
+        words_room(&mut out, words, starts, 14),
+    );
+    holds(r, words, starts, 14, out)
 }
 
-fn sizes(
-    words: &[u32],
-    starts: &[usize],
-    values: &[f64],
-    value_starts: &[usize],
-    out: &mut [u32],
+fn sizes<'a>(
+    given: &'a [u32],
+    p_starts: &'a [u32],
+    p_rows: &'a [u32],
+    p_values: &'a [f64],
+    q: &'a [f64],
+    a_starts: &'a [u32],
+    a_rows: &'a [u32],
+    a_values: &'a [f64],
+    b: &'a [f64],
+    cones: &'a [u32],
+    alphas: &'a [f64],
+    pattern: &'a [u32],
+    words: &'a [u32],
+    starts: &'a [usize],
 ) -> u32 {
-    let given = words_at(words, starts, 0);
-    decomp::sizes(
+    let mut out = [0u32; 4096];
+    let r = decomp::sizes(
         item(given, 0),
         item(given, 1),
         item(given, 2),
-        words_at(words, starts, 2),
-        words_at(words, starts, 3),
-        values_at(values, value_starts, 0),
-        values_at(values, value_starts, 1),
-        words_at(words, starts, 4),
-        words_at(words, starts, 5),
-        values_at(values, value_starts, 2),
-        values_at(values, value_starts, 3),
-        words_at(words, starts, 6),
-        values_at(values, value_starts, 4),
+        p_starts,
+        p_rows,
+        p_values,
+        q,
+        a_starts,
+        a_rows,
+        a_values,
+        b,
+        cones,
+        alphas,
         item(given, 3),
-        words_at(words, starts, 7),
-        out,
-    )
-}
-
-// ---- the cut and the joining, which have several outputs
-
-// No call answers this number: an output does not hold what is stored.
-const DIFFERS: u32 = 4294967295;
-
-// The room for the k-th list, with what an output holds before a call.
-fn words_room<'a>(out: &'a mut [u32], words: &[u32], starts: &[usize], k: u8) -> &'a mut [u32] {
-    prefill_words(&mut *out);
-    front_words_mut(out, words_at(words, starts, k).len())
-}
-
-fn values_room<'a>(out: &'a mut [f64], values: &[f64], starts: &[usize], k: u8) -> &'a mut [f64] {
-    prefill_values(&mut *out);
-    front_values_mut(out, values_at(values, starts, k).len())
-}
-
-// Whether an output holds the k-th list.
-fn holds(words: &[u32], starts: &[usize], k: u8, out: [u32; 4096]) -> bool {
-    let want = words_at(words, starts, k);
-    same_words(front_words(&out, want.len()), want)
-}
-
-fn values_hold(values: &[f64], starts: &[usize], k: u8, out: [f64; 4096]) -> bool {
-    let want = values_at(values, starts, k);
-    same_values(front_values(&out, want.len()), want)
+        pattern,
+        words_room(&mut out, words, starts, 8),
+    );
+    holds(r, words, starts, 8, out)
 }
 
 // The cut's answer, where the outputs hold what is stored.
-fn cut_answer(
-    r: u32,
-    words: &[u32],
-    starts: &[usize],
-    values: &[f64],
-    value_starts: &[usize],
+fn cut_answer<'a>(
+    answer: u32,
+    words: &'a [u32],
+    starts: &'a [usize],
+    values: &'a [f64],
+    value_starts: &'a [usize],
     p_starts: [u32; 4096],
     p_rows: [u32; 4096],
     p_values: [f64; 4096],
@@ -189,67 +229,54 @@ fn cut_answer(
     alphas: [f64; 4096],
     map: [u32; 4096],
 ) -> u32 {
-    let same = holds(words, starts, 8, p_starts)
-        & holds(words, starts, 9, p_rows)
-        & holds(words, starts, 10, a_starts)
-        & holds(words, starts, 11, a_rows)
-        & holds(words, starts, 12, cones)
-        & holds(words, starts, 13, map)
-        & values_hold(values, value_starts, 5, p_values)
-        & values_hold(values, value_starts, 6, q)
-        & values_hold(values, value_starts, 7, a_values)
-        & values_hold(values, value_starts, 8, b)
-        & values_hold(values, value_starts, 9, alphas);
-    if same { r } else { DIFFERS }
+    let mut r = answer;
+    r = holds(r, words, starts, 8, p_starts);
+    r = holds(r, words, starts, 9, p_rows);
+    r = values_hold(r, values, value_starts, 5, p_values);
+    r = values_hold(r, values, value_starts, 6, q);
+    r = holds(r, words, starts, 10, a_starts);
+    r = holds(r, words, starts, 11, a_rows);
+    r = values_hold(r, values, value_starts, 7, a_values);
+    r = values_hold(r, values, value_starts, 8, b);
+    r = holds(r, words, starts, 12, cones);
+    r = values_hold(r, values, value_starts, 9, alphas);
+    r = holds(r, words, starts, 13, map);
+    r
 }
 
-fn cut(words: &[u32], starts: &[usize], values: &[f64], value_starts: &[usize]) -> u32 {
-    let mut p_starts = [0u32; 4096];
-    let mut p_rows = [0u32; 4096];
-    let mut p_values = [0f64; 4096];
-    let mut q = [0f64; 4096];
-    let mut a_starts = [0u32; 4096];
-    let mut a_rows = [0u32; 4096];
-    let mut a_values = [0f64; 4096];
-    let mut b = [0f64; 4096];
-    let mut cones = [0u32; 4096];
-    let mut alphas = [0f64; 4096];
-    let mut map = [0u32; 4096];
-    let given = words_at(words, starts, 0);
+fn cut<'a>(
+    given: &'a [u32],
+    p_starts: &'a [u32],
+    p_rows: &'a [u32],
+    p_values: &'a [f64],
+    q: &'a [f64],
+    a_starts: &'a [u32],
+    a_rows: &'a [u32],
+    a_values: &'a [f64],
+    b: &'a [f64],
+    cones: &'a [u32],
+    alphas: &'a [f64],
+    pattern: &'a [u32],
+    words: &'a [u32],
+    starts: &'a [usize],
+    values: &'a [f64],
+    value_starts: &'a [usize],
+) -> u32 {
+    let mut p_starts_out = [0u32; 4096];
+    let mut p_rows_out = [0u32; 4096];
+    let mut p_values_out = [0f64; 4096];
+    let mut q_out = [0f64; 4096];
+    let mut a_starts_out = [0u32; 4096];
+    let mut a_rows_out = [0u32; 4096];
+    let mut a_values_out = [0f64; 4096];
+    let mut b_out = [0f64; 4096];
+    let mut cones_out = [0u32; 4096];
+    let mut alphas_out = [0f64; 4096];
+    let mut map_out = [0u32; 4096];
     let r = decomp_augment::cut(
         item(given, 0),
         item(given, 1),
         item(given, 2),
-        words_at(words, starts, 2),
-        words_at(words, starts, 3),
-        values_at(values, value_starts, 0),
-        values_at(values, value_starts, 1),
-        words_at(words, starts, 4),
-        words_at(words, starts, 5),
-        values_at(values, value_starts, 2),
-        values_at(values, value_starts, 3),
-        words_at(words, starts, 6),
-        values_at(values, value_starts, 4),
-        item(given, 3),
-        words_at(words, starts, 7),
-        words_room(&mut p_starts, words, starts, 8),
-        words_room(&mut p_rows, words, starts, 9),
-        values_room(&mut p_values, values, value_starts, 5),
-        values_room(&mut q, values, value_starts, 6),
-        words_room(&mut a_starts, words, starts, 10),
-        words_room(&mut a_rows, words, starts, 11),
-        values_room(&mut a_values, values, value_starts, 7),
-        values_room(&mut b, values, value_starts, 8),
-        words_room(&mut cones, words, starts, 12),
-        values_room(&mut alphas, values, value_starts, 9),
-        words_room(&mut map, words, starts, 13),
-    );
-    cut_answer(
-        r,
-        words,
-        starts,
-        values,
-        value_starts,
         p_starts,
         p_rows,
         p_values,
@@ -260,39 +287,182 @@ fn cut(words: &[u32], starts: &[usize], values: &[f64], value_starts: &[usize]) 
         b,
         cones,
         alphas,
-        map,
+        item(given, 3),
+        pattern,
+        words_room(&mut p_starts_out, words, starts, 8),
+        words_room(&mut p_rows_out, words, starts, 9),
+        values_room(&mut p_values_out, values, value_starts, 5),
+        values_room(&mut q_out, values, value_starts, 6),
+        words_room(&mut a_starts_out, words, starts, 10),
+        words_room(&mut a_rows_out, words, starts, 11),
+        values_room(&mut a_values_out, values, value_starts, 7),
+        values_room(&mut b_out, values, value_starts, 8),
+        words_room(&mut cones_out, words, starts, 12),
+        values_room(&mut alphas_out, values, value_starts, 9),
+        words_room(&mut map_out, words, starts, 13),
+    );
+    cut_answer(
+        r,
+        words,
+        starts,
+        values,
+        value_starts,
+        p_starts_out,
+        p_rows_out,
+        p_values_out,
+        q_out,
+        a_starts_out,
+        a_rows_out,
+        a_values_out,
+        b_out,
+        cones_out,
+        alphas_out,
+        map_out,
     )
 }
+
+fn call_on_problem<'a>(
+    family: u8,
+    given: &'a [u32],
+    p_starts: &'a [u32],
+    p_rows: &'a [u32],
+    p_values: &'a [f64],
+    q: &'a [f64],
+    a_starts: &'a [u32],
+    a_rows: &'a [u32],
+    a_values: &'a [f64],
+    b: &'a [f64],
+    cones: &'a [u32],
+    alphas: &'a [f64],
+    pattern: &'a [u32],
+    words: &'a [u32],
+    starts: &'a [usize],
+    values: &'a [f64],
+    value_starts: &'a [usize],
+) -> u32 {
+    match family {
+        CHECK_PROBLEM => checks::check_problem(
+            item(given, 0),
+            item(given, 1),
+            p_starts,
+            p_rows,
+            p_values,
+            q,
+            a_starts,
+            a_rows,
+            a_values,
+            b,
+            cones,
+            alphas,
+            item(given, 2),
+            pattern,
+        ),
+        SAME_LAYOUT => same_layout(
+            given,
+            p_starts,
+            p_rows,
+            p_values,
+            q,
+            a_starts,
+            a_rows,
+            a_values,
+            b,
+            cones,
+            alphas,
+            pattern,
+            words,
+            starts,
+            values,
+            value_starts,
+        ),
+        SIZES => sizes(
+            given,
+            p_starts,
+            p_rows,
+            p_values,
+            q,
+            a_starts,
+            a_rows,
+            a_values,
+            b,
+            cones,
+            alphas,
+            pattern,
+            words,
+            starts,
+        ),
+        _ => cut(
+            given,
+            p_starts,
+            p_rows,
+            p_values,
+            q,
+            a_starts,
+            a_rows,
+            a_values,
+            b,
+            cones,
+            alphas,
+            pattern,
+            words,
+            starts,
+            values,
+            value_starts,
+        ),
+    }
+}
+
+// The problem's lists, which all these calls have at the same places.
+fn on_problem<'a>(
+    family: u8,
+    words: &'a [u32],
+    starts: &'a [usize],
+    values: &'a [f64],
+    value_starts: &'a [usize],
+) -> u32 {
+    call_on_problem(
+        family,
+        words_at(words, starts, 0),
+        words_at(words, starts, 2),
+        words_at(words, starts, 3),
+        values_at(values, value_starts, 0),
+        values_at(values, value_starts, 1),
+        words_at(words, starts, 4),
+        words_at(words, starts, 5),
+        values_at(values, value_starts, 2),
+        values_at(values, value_starts, 3),
+        words_at(words, starts, 6),
+        values_at(values, value_starts, 4),
+        words_at(words, starts, 7),
+        words,
+        starts,
+        values,
+        value_starts,
+    )
+}
+
+// ---- the joining
+
+const JOIN: u8 = 8;
 
 // The number at a place of a list, or 0.
 fn value(list: &[f64], i: usize) -> f64 {
     if i < list.len() { list[i] } else { 0.0 }
 }
 
-fn join_answer(
-    r: u32,
-    values: &[f64],
-    value_starts: &[usize],
-    x: [f64; 4096],
-    s: [f64; 4096],
-    z: [f64; 4096],
-    both: [f64; 4096],
+fn join<'a>(
+    words: &'a [u32],
+    starts: &'a [usize],
+    values: &'a [f64],
+    value_starts: &'a [usize],
 ) -> u32 {
-    let same = values_hold(values, value_starts, 4, x)
-        & values_hold(values, value_starts, 5, s)
-        & values_hold(values, value_starts, 6, z)
-        & values_hold(values, value_starts, 7, both);
-    if same { r } else { DIFFERS }
-}
-
-fn join(words: &[u32], starts: &[usize], values: &[f64], value_starts: &[usize]) -> u32 {
     let mut x = [0f64; 4096];
     let mut s = [0f64; 4096];
     let mut z = [0f64; 4096];
     let mut both = [0f64; 4096];
     let given = words_at(words, starts, 0);
     let scalars = values_at(values, value_starts, 3);
-    let r = decomp_reverse::join(
+    let mut r = decomp_reverse::join(
         item(given, 0),
         item(given, 1),
         item(given, 2),
@@ -310,95 +480,78 @@ fn join(words: &[u32], starts: &[usize], values: &[f64], value_starts: &[usize])
         values_room(&mut z, values, value_starts, 6),
         values_room(&mut both, values, value_starts, 7),
     );
-    join_answer(r, values, value_starts, x, s, z, both)
+    r = values_hold(r, values, value_starts, 4, x);
+    r = values_hold(r, values, value_starts, 5, s);
+    r = values_hold(r, values, value_starts, 6, z);
+    values_hold(r, values, value_starts, 7, both)
 }
 
 // ---- a case
 
-// What a case's call answers; out is the room of its output, where it has one.
-fn call(
-    family: Family,
-    words: &[u32],
-    starts: &[usize],
-    values: &[f64],
-    value_starts: &[usize],
-    out: &mut [u32],
+// What a case's call answers, where it leaves in its outputs what is stored.
+fn call<'a>(
+    family: u8,
+    words: &'a [u32],
+    starts: &'a [usize],
+    values: &'a [f64],
+    value_starts: &'a [usize],
 ) -> u32 {
-    match family {
-        Family::PairIndex => pair_index(words, starts, out),
-        Family::PairBack => pair_back(words, starts, out),
-        Family::Inverse => inverse(words, starts, out),
-        Family::Renumber => renumber(words, starts, out),
-        Family::CheckProblem => check_problem(words, starts, values, value_starts),
-        Family::SameLayout => same_layout(words, starts, values, value_starts, out),
-        Family::Sizes => sizes(words, starts, values, value_starts, out),
-        Family::Cut => cut(words, starts, values, value_starts),
-        Family::Join => join(words, starts, values, value_starts),
+    if family <= RENUMBER {
+        on_pattern(family, words, starts)
+    } else if family <= CUT {
+        on_problem(family, words, starts, values, value_starts)
+    } else {
+        join(words, starts, values, value_starts)
     }
 }
 
-// Whether it answers what is stored, and leaves that in its output.
-fn agrees(
-    family: Family,
+// Whether it answers what is stored, which is the first number of a list.
+fn agrees<'a>(
+    family: u8,
     answer: u8,
-    output: u8,
-    words: &[u32],
-    starts: &[usize],
-    values: &[f64],
-    value_starts: &[usize],
+    words: &'a [u32],
+    starts: &'a [usize],
+    values: &'a [f64],
+    value_starts: &'a [usize],
 ) -> bool {
-    let mut out = [0u32; 4096];
-    let room = words_room(&mut out, words, starts, output);
-    let r = call(family, words, starts, values, value_starts, room);
-    (r == item(words_at(words, starts, answer), 0)) & holds(words, starts, output, out)
+    call(family, words, starts, values, value_starts) == item(words_at(words, starts, answer), 0)
 }
 
 // The next case of a file. It has up to 63 lists of each kind, of 16,384 numbers in all.
-fn next_agrees(fd: i32, family: Family, answer: u8, output: u8) -> bool {
+fn next_agrees(fd: i32, family: u8, answer: u8) -> bool {
     let mut words = [0u32; 16384];
     let mut starts = [0usize; 64];
     let mut values = [0f64; 16384];
     let mut value_starts = [0usize; 64];
     load_words(fd, &mut words, &mut starts);
     load_values(fd, &mut values, &mut value_starts);
-    agrees(
-        family,
-        answer,
-        output,
-        &words,
-        &starts,
-        &values,
-        &value_starts,
-    )
+    agrees(family, answer, &words, &starts, &values, &value_starts)
 }
 
-// The end of a line where a case differs.
-fn report_equal(equal: u32) {
-    io::write_all(STDOUT_FILENO, b", ");
-    io::print_decimal(STDOUT_FILENO, equal as u64);
-    io::write_all(STDOUT_FILENO, b" equal and the next one not\n");
+fn tell(n: u32, what: &[u8]) {
+    io::write_all(STDOUT_FILENO, b": ");
+    io::print_decimal(STDOUT_FILENO, n as u64);
+    io::write_all(STDOUT_FILENO, what);
 }
 
+// A family's line: how many cases it has, or how many are equal before one that is not.
 fn report(name: &[u8], cases: u32, equal: u32) {
     io::write_all(STDOUT_FILENO, name);
-    io::write_all(STDOUT_FILENO, b": ");
-    io::print_decimal(STDOUT_FILENO, cases as u64);
-    io::write_all(STDOUT_FILENO, b" cases");
     if equal == cases {
-        io::write_all(STDOUT_FILENO, b", all equal\n");
+        tell(cases, b" cases, all equal\n");
     } else {
-        report_equal(equal);
+        tell(equal, b" cases equal and the next one not\n");
     }
 }
 
-// A family's cases up to the first that differs. Its answer and its output, where it has one, are lists of
-// a case. A file that is missing has no case, which the line shows.
-fn replay(name: &[u8], family: Family, answer: u8, output: u8) {
+// A family's cases up to the first that differs. Its answer is the first number of
+// a list of a case. A file that is missing has no case, which the line shows.
+fn replay(name: &[u8], family: u8, answer: u8) {
     let fd = os::open_read(name);
     let cases = word(fd);
     let mut k = 0;
     while k < cases {
-        if !next_agrees(fd, family, answer, output) {
+        if !next_agrees(fd, family, answer) {
             break;
         }
         k += 1;
@@ -407,22 +560,19 @@ fn replay(name: &[u8], family: Family, answer: u8, output: u8) {
     report(name, cases, k);
 }
 
-// No list of a case has this number.
-const NONE: u8 = 255;
-
 fn numbers_and_patterns() {
-    replay(b"pair_index", Family::PairIndex, 1, 2);
-    replay(b"pair_back", Family::PairBack, 1, 2);
-    replay(b"inverse", Family::Inverse, 0, 2);
-    replay(b"renumber", Family::Renumber, 0, 2);
+    replay(b"pair_index", PAIR_INDEX, 1);
+    replay(b"pair_back", PAIR_BACK, 1);
+    replay(b"inverse", INVERSE, 0);
+    replay(b"renumber", RENUMBER, 0);
 }
 
 fn whole_problems() {
-    replay(b"check_problem", Family::CheckProblem, 1, NONE);
-    replay(b"same_layout", Family::SameLayout, 1, 14);
-    replay(b"sizes", Family::Sizes, 1, 8);
-    replay(b"cut", Family::Cut, 1, NONE);
-    replay(b"join", Family::Join, 1, NONE);
+    replay(b"check_problem", CHECK_PROBLEM, 1);
+    replay(b"same_layout", SAME_LAYOUT, 1);
+    replay(b"sizes", SIZES, 1);
+    replay(b"cut", CUT, 1);
+    replay(b"join", JOIN, 1);
 }
 
 fn main() {

@@ -1,23 +1,22 @@
 use Prim.Native.Nat.{_-_, _≤_}
-use lib.ListN.{length}
 use borrow.Author.Needs.{needs}
 use Rattle.projectors.proofs.tell_all.Statement.{statement}
 use Rattle.projectors.proofs.tell_all.Tie as tie
 
 abbrev Inv-loop : tie.InvT-loop
-Inv-loop list i₀ i = i ≤ length list
+Inv-loop list n i₀ i = i ≤ n
 
 abbrev μ-loop : tie.MeasureT-loop
-μ-loop list i₀ i = length list - i
+μ-loop list n i₀ i = n - i
 
 loop-holds : tie.Need-loop-holds Inv-loop μ-loop
 loop-holds c = search needs
 
-mul-tell : tie.Need-mul-tell Inv-loop μ-loop
-mul-tell c = search needs
+cast-item : tie.Need-cast-item Inv-loop μ-loop
+cast-item c = search needs
 
-shared-slice-read-tell : tie.Need-shared-slice-read-tell Inv-loop μ-loop
-shared-slice-read-tell c = search needs
+item-requires : tie.Need-item-requires Inv-loop μ-loop
+item-requires c κs = search needs
 
 tell-requires : tie.Need-tell-requires Inv-loop μ-loop
 tell-requires c κs = search needs
@@ -41,8 +40,8 @@ tell-all-spec =
     Inv-loop
     μ-loop
     loop-holds
-    mul-tell
-    shared-slice-read-tell
+    cast-item
+    item-requires
     tell-requires
     add-i
     loop-less

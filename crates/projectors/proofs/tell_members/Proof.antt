@@ -1,13 +1,14 @@
-use Prim.Native.Nat.{_-_, _≤_}
 use borrow.Author.Needs.{needs}
+use Prim.Native.Nat.{_-_, _≤_}
+use lib.ListN.{length}
 use Rattle.projectors.proofs.tell_members.Statement.{statement}
 use Rattle.projectors.proofs.tell_members.Tie as tie
 
 abbrev Inv-loop : tie.InvT-loop
-Inv-loop pattern from end i₀ i = from ≤ i
+Inv-loop pattern told i₀ i = i ≤ length told
 
 abbrev μ-loop : tie.MeasureT-loop
-μ-loop pattern from end i₀ i = end - i
+μ-loop pattern told i₀ i = length told - i
 
 loop-holds : tie.Need-loop-holds Inv-loop μ-loop
 loop-holds c = search needs
@@ -18,11 +19,17 @@ item-requires c κs = search needs
 cast-item : tie.Need-cast-item Inv-loop μ-loop
 cast-item c = search needs
 
+item-requires-2 : tie.Need-item-requires-2 Inv-loop μ-loop
+item-requires-2 c κs = search needs
+
+cast-item-2 : tie.Need-cast-item-2 Inv-loop μ-loop
+cast-item-2 c = search needs
+
 add-item : tie.Need-add-item Inv-loop μ-loop
 add-item c = search needs
 
-item-requires-2 : tie.Need-item-requires-2 Inv-loop μ-loop
-item-requires-2 c κs = search needs
+item-requires-3 : tie.Need-item-requires-3 Inv-loop μ-loop
+item-requires-3 c κs = search needs
 
 tell-requires : tie.Need-tell-requires Inv-loop μ-loop
 tell-requires c κs = search needs
@@ -48,8 +55,10 @@ tell-members-spec =
     loop-holds
     item-requires
     cast-item
-    add-item
     item-requires-2
+    cast-item-2
+    add-item
+    item-requires-3
     tell-requires
     add-i
     loop-less

@@ -1,23 +1,22 @@
 use Prim.Native.Nat.{_-_, _≤_}
-use lib.ListN.{length}
 use borrow.Author.Needs.{needs}
 use Rattle.projectors.proofs.tell_values.Statement.{statement}
 use Rattle.projectors.proofs.tell_values.Tie as tie
 
 abbrev Inv-loop : tie.InvT-loop
-Inv-loop values i₀ i = i ≤ length values
+Inv-loop values n i₀ i = i ≤ n
 
 abbrev μ-loop : tie.MeasureT-loop
-μ-loop values i₀ i = length values - i
+μ-loop values n i₀ i = n - i
 
 loop-holds : tie.Need-loop-holds Inv-loop μ-loop
 loop-holds c = search needs
 
-mul-tell-value : tie.Need-mul-tell-value Inv-loop μ-loop
-mul-tell-value c = search needs
+cast-value : tie.Need-cast-value Inv-loop μ-loop
+cast-value c = search needs
 
-shared-slice-read-tell-value : tie.Need-shared-slice-read-tell-value Inv-loop μ-loop
-shared-slice-read-tell-value c = search needs
+value-requires : tie.Need-value-requires Inv-loop μ-loop
+value-requires c κs = search needs
 
 tell-value-requires : tie.Need-tell-value-requires Inv-loop μ-loop
 tell-value-requires c κs = search needs
@@ -41,8 +40,8 @@ tell-values-spec =
     Inv-loop
     μ-loop
     loop-holds
-    mul-tell-value
-    shared-slice-read-tell-value
+    cast-value
+    value-requires
     tell-value-requires
     add-i
     loop-less

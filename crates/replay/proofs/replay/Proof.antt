@@ -4,10 +4,10 @@ use Rattle.replay.proofs.replay.Statement.{statement}
 use Rattle.replay.proofs.replay.Tie as tie
 
 abbrev Inv-loop : tie.InvT-loop
-Inv-loop name family answer output fd cases k₀ k = k ≤ cases
+Inv-loop name family answer fd cases k₀ k = k ≤ cases
 
 abbrev μ-loop : tie.MeasureT-loop
-μ-loop name family answer output fd cases k₀ k = cases - k
+μ-loop name family answer fd cases k₀ k = cases - k
 
 open-read-requires : tie.Need-open-read-requires Inv-loop μ-loop
 open-read-requires c κs = search needs
