@@ -599,7 +599,7 @@ fn tell_cut<'a>(
     let mut cones_out = [BEFORE; 32];
     let mut alphas_out = [BEFORE_VALUE; 32];
     let mut map_out = [BEFORE; 32];
-    let answer = decomp_augment::cut(
+    let answer = door::chordal_cut(
         route,
         N,
         M,

@@ -273,7 +273,7 @@ fn cut<'a>(
     let mut cones_out = [0u32; 4096];
     let mut alphas_out = [0f64; 4096];
     let mut map_out = [0u32; 4096];
-    let r = decomp_augment::cut(
+    let r = door::chordal_cut(
         item(given, 0),
         item(given, 1),
         item(given, 2),

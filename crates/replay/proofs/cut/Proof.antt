@@ -83,8 +83,8 @@ slice-aggregate-words-room-6 c = sym (length-replicate {A = ℕ} 4096 0)
 words-room-requires-6 : tie.Need-words-room-requires-6
 words-room-requires-6 c κs = tt
 
-cut-requires : tie.Need-cut-requires
-cut-requires c κs = tt
+chordal-cut-requires : tie.Need-chordal-cut-requires
+chordal-cut-requires c κs = tt
 
 cut-answer-requires : tie.Need-cut-answer-requires
 cut-answer-requires c κs = tt
@@ -122,6 +122,6 @@ cut-spec =
     values-room-requires-5
     slice-aggregate-words-room-6
     words-room-requires-6
-    cut-requires
+    chordal-cut-requires
     cut-answer-requires
     returns)
