@@ -1,17 +1,11 @@
--- What the definitions of specs/Entries.antt say: the same map is an equal one, and the words of a map read as its entries.
-use Prim.Native.Nat.{ℕ, zero, suc, _+_, _*_, _<_}
-use native.Mathlib.Nat.{not-suc-le-zero, le-of-suc-le-suc}
-use native.Mathlib.Omega.{arith}
-use mathlib.Core.Path.{_≡_, refl, sym, ap, ap₂, _∙_}
-use mathlib.Core.Bool.{cond}
-use mathlib.Core.List.{List, [], _∷_, _++_}
+-- What the definitions of specs/Entries.antt say: the same map is an equal one.
+use mathlib.Core.Path.{_≡_, refl, sym, ap, ap₂}
+use mathlib.Core.List.{List, [], _∷_}
 use mathlib.Core.Logic.{_↔_}
-use lib.ListN.{length, getD}
 use lib.Dec.{T, eqb, eqb-refl}
-use borrow.Author.Tests.{ne-eqb}
-use Rattle.layout.specs.Compact.{MapEntry, wholeCone, blockOf, entryWords, mapWords, noPatternNumber}
+use Rattle.layout.specs.Compact.{MapEntry, wholeCone, blockOf}
 use Rattle.layout.proofs.Tests.{and-iff, eqb-iff}
-use Rattle.cone_map.specs.Entries.{readEntry, sameEntry, sameMap}
+use Rattle.cone_map.specs.Entries.{sameEntry, sameMap}
 
 -- ---- the same entry, the same map
 
@@ -41,29 +35,3 @@ map-equal (e ∷ es) (f ∷ fs) h =
 
 pub same-map : (es fs : List MapEntry) → T (sameMap es fs) ↔ (es ≡ fs)
 same-map es fs = (map-equal es fs, λ e. rw (sym e) (map-same es))
-
--- ---- words read back, where no pattern has the number that marks none
-
-abbrev pub Numbered : MapEntry → Type 0
-Numbered (wholeCone i) = Unit {0}
-Numbered (blockOf i k c) = k < noPatternNumber
-
-first-back : (e : MapEntry) (ws : List ℕ) → Numbered e → readEntry (entryWords e ++ ws) 0 ≡ e
-first-back (wholeCone i) ws h = refl
-first-back (blockOf i k c) ws h = simp (ne-eqb k noPatternNumber (λ e. absurd (omega arith)))
-
-word-back : (e : MapEntry) (ws : List ℕ) (n m : ℕ) → n ≡ suc (suc (suc m)) → getD (entryWords e ++ ws) n 0 ≡ getD ws m 0
-word-back (wholeCone i) ws n m h = ap (λ (j : ℕ). getD (entryWords (wholeCone i) ++ ws) j 0) h
-word-back (blockOf i k c) ws n m h = ap (λ (j : ℕ). getD (entryWords (blockOf i k c) ++ ws) j 0) h
-
-later-back : (e : MapEntry) (ws : List ℕ) (k : ℕ) → readEntry (entryWords e ++ ws) (suc k) ≡ readEntry ws k
-later-back e ws k =
-    let i = word-back e ws (suc k * 3) (k * 3) (omega arith) in
-    let p = word-back e ws (suc k * 3 + 1) (k * 3 + 1) (omega arith) in
-    let c = word-back e ws (suc k * 3 + 2) (k * 3 + 2) (omega arith) in
-    λ z. cond (eqb (p z) noPatternNumber) (wholeCone (i z)) (blockOf (i z) (p z) (c z))
-
-pub read-back : (es : List MapEntry) (k : ℕ) (d : MapEntry) → k < length es → Numbered (getD es k d) → readEntry (mapWords es) k ≡ getD es k d
-read-back [] k d l h = absurd (not-suc-le-zero l)
-read-back (e ∷ es) zero d l h = first-back e (mapWords es) h
-read-back (e ∷ es) (suc k) d l h = later-back e (mapWords es) k ∙ read-back es k d (le-of-suc-le-suc l) h

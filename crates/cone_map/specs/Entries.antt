@@ -1,8 +1,7 @@
--- The cone map's entries: what a struct stands for among layout's, how words read as entries, and when two maps are the same.
-use Prim.Native.Nat.{ℕ, _+_, _*_}
-use mathlib.Core.Bool.{Bool, false, cond, _&&_}
+-- The cone map's entries: what a struct stands for among layout's, its words, and when two maps are the same.
+use Prim.Native.Nat.{ℕ}
+use mathlib.Core.Bool.{Bool, false, _&&_}
 use mathlib.Core.List.{List}
-use lib.ListN.{getD}
 use lib.Dec.{eqb}
 use Rattle.layout.specs.Compact.{MapEntry, wholeCone, blockOf, noPatternNumber}
 use Rattle.layout.specs.Lists.{sameBy}
@@ -23,7 +22,7 @@ abbrev pub structOf : MapEntry → ConeMapEntry
 structOf (wholeCone i) = record { «orig_index» = i; «tree_and_clique» = None }
 structOf (blockOf i k c) = record { «orig_index» = i; «tree_and_clique» = In k c }
 
--- ---- an entry's words, and words read as entries
+-- ---- an entry's words
 
 abbrev pub patternWord : TreeAndClique → ℕ
 patternWord None = noPatternNumber
@@ -32,12 +31,6 @@ patternWord (In k c) = k
 abbrev pub cliqueWord : TreeAndClique → ℕ
 cliqueWord None = 0
 cliqueWord (In k c) = c
-
-abbrev pub readEntry : List ℕ → ℕ → MapEntry
-readEntry ws k =
-    let i = getD ws (k * 3) 0 in
-    let pattern = getD ws (k * 3 + 1) 0 in
-    cond (eqb pattern noPatternNumber) (wholeCone i) (blockOf i pattern (getD ws (k * 3 + 2) 0))
 
 -- ---- the same entry, and the same map
 

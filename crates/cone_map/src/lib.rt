@@ -1,14 +1,12 @@
 // An entry of the cone map as a struct, and the walk over a problem's map, entry by entry.
 ghost use mathlib.Core.Path.{_≡_};
 ghost use mathlib.Core.Bool.{true, false, not, _&&_};
-ghost use Prim.Native.Nat.{_+_, _*_, _≤_};
-ghost use lib.ListN.{length, drop};
-ghost use Rattle.layout.specs.Lists.{written};
+ghost use lib.ListN.{drop};
 ghost use Rattle.layout.specs.Checks.{Sound};
-ghost use Rattle.layout.specs.Compact.{entryWords, coneMap};
+ghost use Rattle.layout.specs.Compact.{coneMap};
 ghost use Rattle.layout.specs.Answers.{joinedParts};
 ghost use Rattle.parts.specs.Ahead.{ahead, Stands};
-ghost use Rattle.cone_map.specs.Entries.{placed, meant, structOf, patternWord, cliqueWord, readEntry, sameEntry};
+ghost use Rattle.cone_map.specs.Entries.{placed, meant, patternWord, cliqueWord, sameEntry};
 ghost use Rattle.cone_map.specs.Walking.{entriesFrom, unlessRefused, Valid, Compares};
 use parts::Met;
 use parts::Place;
@@ -82,41 +80,6 @@ impl TreeAndClique {
 impl ConeMapEntry {
     // the mark for none in the place of a pattern's number
     pub const NONE: u32 = 4294967295;
-
-    // how many words an entry has
-    pub const WORDS: usize = 3;
-
-    // Entry k of a map's words.
-    pub fn read(words: &[u32], k: usize) -> ConeMapEntry
-        requires { ⌜ k * 3 + 3 ≤ length (now words) ⌝ }
-        ensures { λ r. ⌜ r ≡ structOf (readEntry (now (words .entry)) k) ⌝ }
-    {
-        let at = k * ConeMapEntry::WORDS;
-        let orig_index = words[at];
-        let pattern = words[at + 1];
-        let clique = words[at + 2];
-        if pattern == ConeMapEntry::NONE {
-            return ConeMapEntry {
-                orig_index: orig_index,
-                tree_and_clique: TreeAndClique::None,
-            };
-        }
-        ConeMapEntry {
-            orig_index: orig_index,
-            tree_and_clique: TreeAndClique::In(pattern, clique),
-        }
-    }
-
-    // Its words.
-    pub fn write(self, out: &mut [u32])
-        requires { ⌜ 3 ≤ length (now out) ⌝ }
-        ensures { λ _. ⌜ now (out .exit) ≡ written (entryWords (meant self)) (now (out .entry)) ⌝ }
-    {
-        let place = self.tree_and_clique;
-        out[0] = self.orig_index;
-        out[1] = place.pattern_word();
-        out[2] = place.clique_word();
-    }
 
     pub fn same(self, other: ConeMapEntry) -> bool
         ensures { λ r. ⌜ r ≡ sameEntry (meant self) (meant other) ⌝ }

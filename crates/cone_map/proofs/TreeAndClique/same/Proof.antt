@@ -15,10 +15,10 @@ is-in-requires : tie.Need-is-in-requires
 is-in-requires c κs = search needs
 
 returns : tie.Need-returns
-returns c = search needs
+returns c = rw (c .before .enum-told .given .1) (c .is-none .ensures)
 
 returns-2 : tie.Need-returns-2
-returns-2 c = cc
+returns-2 c = rw (c .before .before .self .given .1) (c .is-in .ensures)
 
 pub same-spec : {M : Type 1} → statement M
 same-spec =
