@@ -2,10 +2,10 @@
 use Prim.Native.Nat.{ℕ, suc, _+_, _≤_, _<_}
 use mathlib.Core.Path.{_≡_}
 use mathlib.Core.Bool.{true, cond}
-use mathlib.Core.List.{List, map}
+use mathlib.Core.List.{List, map, reverse}
 use lib.ListN.{length, getD, drop}
 use lib.Dec.{eqb}
-use Rattle.layout.specs.Lists.{sum}
+use Rattle.layout.specs.Lists.{sum, below, join, written}
 use Rattle.layout.specs.Triangle.{triangle}
 use Rattle.layout.specs.Patterns.{readClique, blockSize}
 use Rattle.layout.specs.Blocks.{pairs}
@@ -42,3 +42,21 @@ pub record Tied (ws ordering os starts : List ℕ) : Type 0 where
   pub parents : (c : ℕ) → suc c < length os → cliqueHere ws (getD os c 0) .parent < length os
   pub starting : length os ≤ length starts
   pub low : (c : ℕ) → c < length os → getD starts c 0 ≤ 262144
+
+-- the codes of all cliques, from last to first
+abbrev pub codesDown : ℕ → List ℕ → List ℕ → List ℕ → List ℕ → List ℕ
+codesDown base ws ordering os starts = join (codesHere base ws ordering os starts) (reverse (below (length os)))
+
+-- whichever table holds the first rows, the cliques are tied, and there is room for their codes
+abbrev pub Ready : ℕ → ℕ → List ℕ → List ℕ → List ℕ → ℕ → Type 0
+Ready base first ws ordering os room =
+    (starts : List ℕ) → length os ≤ length starts → FirstRows ws os first starts
+    → Tied ws ordering os starts × (length (codesDown base ws ordering os starts) ≤ room)
+
+-- r codes were written, by a table of the first rows
+pub record Coded (base first : ℕ) (ws ordering os : List ℕ) (r : ℕ) (old new : List ℕ) : Type 0 where
+  pub starts : List ℕ
+  pub room : length os ≤ length starts
+  pub rows : FirstRows ws os first starts
+  pub count : r ≡ length (codesDown base ws ordering os starts)
+  pub wrote : new ≡ written (codesDown base ws ordering os starts) old

@@ -13,14 +13,13 @@ ghost use Rattle.supernode_tree.specs.Reads.{whole, patternAt};
 ghost use Rattle.blocks.specs.Cliques.{cliqueHere, verticesHere, Stands};
 ghost use Rattle.codes.specs.Codes.{cutCode};
 ghost use Rattle.parent_rows.specs.Places.{Places};
-ghost use Rattle.overlaps.specs.Tables.{AllFound, sizeHere, FirstRows, Tied, tiedHere, codesHere};
+ghost use Rattle.overlaps.specs.Tables.{AllFound, sizeHere, FirstRows, Tied, tiedHere, codesHere, Ready, Coded};
 use blocks::clique_rows;
 use blocks::clique_vertices;
 use parent_rows::code_block;
 use parent_rows::note_places;
 use supernode_tree::Clique;
 use supernode_tree::Pattern;
-use supernode_tree::PatternRead;
 use supernode_tree::clique_offsets;
 
 // ---- where each block starts
@@ -154,6 +153,26 @@ fn codes_down(
     t
 }
 
+// The codes of the cliques at some offsets, whose blocks start at row first; how many.
+fn block_codes(
+    words: &[u32],
+    ordering: &[u32],
+    offsets: &[usize],
+    base: u32,
+    first: u32,
+    out: &mut [u32],
+) -> usize
+    requires { ⌜ AllFound (now words) (now offsets) × (length (now offsets) ≤ 256) ⌝ }
+    requires { ⌜ first + sum (map (sizeHere (now words)) (now offsets)) ≤ 262144 ⌝ }
+    requires { ⌜ base + triangle (length (now ordering)) ≤ 65536 ⌝ }
+    requires { ⌜ Ready base first (now words) (now ordering) (now offsets) (length (now out)) ⌝ }
+    ensures { λ r. ⌜ Coded base first (now (words .entry)) (now (ordering .entry)) (now (offsets .entry)) r (now (out .entry)) (now (out .exit)) ⌝ }
+{
+    let mut starts = [0u32; 256];
+    first_rows(words, offsets, first, &mut starts);
+    codes_down(words, ordering, offsets, &starts, base, out)
+}
+
 // The compact cut's rows of the pattern at an offset, which start at row first, cliques from last to first; how many.
 pub fn compact_pattern_rows(
     words: &[u32],
@@ -168,15 +187,11 @@ pub fn compact_pattern_rows(
     ensures { λ r. ⌜ r ≡ blockRows (patternAt (now (words .entry)) at) ⌝ }
     ensures { λ _. ⌜ now (out .exit) ≡ written (map cutCode (patternRows (patternAt (now (words .entry)) at) base first)) (now (out .entry)) ⌝ }
 {
-    let PatternRead::Pattern(p) = Pattern::read(words, at) else {
-        return 0;
-    };
+    let p = Pattern::here(words, at);
     let mut offsets = [0usize; 256];
     clique_offsets(words, p.cliques, p.clique_count, &mut offsets);
-    let k = p.clique_count as usize;
-    let mut starts = [0u32; 256];
-    first_rows(words, &offsets[..k], first, &mut starts);
     let a = p.ordering;
     let e = p.cliques;
-    codes_down(words, &words[a..e], &offsets[..k], &starts, base, out)
+    let k = p.clique_count as usize;
+    block_codes(words, &words[a..e], &offsets[..k], base, first, out)
 }
