@@ -2,6 +2,7 @@
 use Prim.Native.Nat.{ℕ, _+_, _-_, _≤_}
 use native.Mathlib.Omega.{arith}
 use mathlib.Core.Path.{_≡_, refl, ap, sym, _∙_}
+use mathlib.Core.Logic.{_⊎_, inl, inr}
 use mathlib.Core.List.{List, [], _∷_, _++_, map}
 use lib.ListN.{length, take, drop}
 use lib.Seq.{length-take-le}
@@ -17,6 +18,8 @@ use Rattle.layout.proofs.Starts.{length-written}
 use Rattle.layout.proofs.Buffers.{written-next}
 use Rattle.tables.specs.Tables.{wholeCodes, cutCodes, partCodes, codesFrom}
 use Rattle.tables.proofs.Laws.{part-done}
+use denote.Enum.Declared.{tagOf}
+use Rattle.tables.proofs.Table.{the-type}
 use Rattle.tables.specs.declared.Table.{Table}
 use Rattle.tables.specs.declared.Table.the-variants.{HRows, CutRows, StandardCones, CompactCones, ConeMap}
 
@@ -25,26 +28,36 @@ pub renamed : (codes xs : List ℕ) → codes ≡ xs → (r : ℕ) (old new : Li
     → (r ≡ length codes) × (new ≡ written codes old)
 renamed codes xs e r old new n w = (n ∙ sym (ap length e), w ∙ ap (λ (ys : List ℕ). written ys old) (sym e))
 
-module _ (table : Table) (i : ℕ) (c : Cone) (row : ℕ) where
-  pub whole-h : table ≡ HRows → wholeCodes table i c row ≡ upFrom row (rowCount c)
-  unfolding wholeCodes
-  whole-h e = ap (λ (t : Table). wholeCodes t i c row) e
+-- a whole cone, by the variant's number
+abbrev tag : Table → ℕ
+tag table = tagOf the-type table
 
-  pub whole-cut : table ≡ CutRows → wholeCodes table i c row ≡ upFrom row (rowCount c)
+module _ (i : ℕ) (c : Cone) (row : ℕ) where
+  pub whole-rows : (table : Table) → (tag table ≡ 0) ⊎ (tag table ≡ 1) → wholeCodes table i c row ≡ upFrom row (rowCount c)
   unfolding wholeCodes
-  whole-cut e = ap (λ (t : Table). wholeCodes t i c row) e
+  whole-rows HRows h = refl
+  whole-rows CutRows h = refl
+  whole-rows StandardCones (inl e) = absurd (omega (arith, e))
+  whole-rows StandardCones (inr e) = absurd (omega (arith, e))
+  whole-rows CompactCones (inl e) = absurd (omega (arith, e))
+  whole-rows CompactCones (inr e) = absurd (omega (arith, e))
+  whole-rows ConeMap (inl e) = absurd (omega (arith, e))
+  whole-rows ConeMap (inr e) = absurd (omega (arith, e))
 
-  pub whole-standard : table ≡ StandardCones → wholeCodes table i c row ≡ coneWords c
+  pub whole-words : (table : Table) → (tag table ≡ 2) ⊎ (tag table ≡ 3) → wholeCodes table i c row ≡ coneWords c
   unfolding wholeCodes
-  whole-standard e = ap (λ (t : Table). wholeCodes t i c row) e
+  whole-words HRows (inl e) = absurd (omega (arith, e))
+  whole-words HRows (inr e) = absurd (omega (arith, e))
+  whole-words CutRows (inl e) = absurd (omega (arith, e))
+  whole-words CutRows (inr e) = absurd (omega (arith, e))
+  whole-words StandardCones h = refl
+  whole-words CompactCones h = refl
+  whole-words ConeMap (inl e) = absurd (omega (arith, e))
+  whole-words ConeMap (inr e) = absurd (omega (arith, e))
 
-  pub whole-compact : table ≡ CompactCones → wholeCodes table i c row ≡ coneWords c
+  pub whole-map : (table : Table) → table ≡ ConeMap → wholeCodes table i c row ≡ entryWords (wholeCone i)
   unfolding wholeCodes
-  whole-compact e = ap (λ (t : Table). wholeCodes t i c row) e
-
-  pub whole-map : table ≡ ConeMap → wholeCodes table i c row ≡ entryWords (wholeCone i)
-  unfolding wholeCodes
-  whole-map e = ap (λ (t : Table). wholeCodes t i c row) e
+  whole-map table e = ap (λ (t : Table). wholeCodes t i c row) e
 
 module _ (table : Table) (t i row k : ℕ) (p : Pattern) where
   pub cut-h : table ≡ HRows → cutCodes table t i row k p ≡ standardPatternRows p row

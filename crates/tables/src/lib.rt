@@ -89,10 +89,8 @@ fn write_whole(table: Table, i: usize, row: u32, rows: u32, cones: &[u32], out: 
     ensures { λ _. ⌜ now (out .exit) ≡ written (wholeCodes table i (getD (records (now (cones .entry))) i noCone) row) (now (out .entry)) ⌝ }
 {
     match table {
-        Table::HRows => count_up(out, row, rows),
-        Table::CutRows => count_up(out, row, rows),
-        Table::StandardCones => copy_record(cones, i, out),
-        Table::CompactCones => copy_record(cones, i, out),
+        Table::HRows | Table::CutRows => count_up(out, row, rows),
+        Table::StandardCones | Table::CompactCones => copy_record(cones, i, out),
         Table::ConeMap => whole_entry(i, out),
     }
 }
