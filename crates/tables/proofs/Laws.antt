@@ -2,10 +2,10 @@
 use Prim.Native.Nat.{ℕ, _+_, _*_, _≤_, _<_}
 use native.Mathlib.Numerals.{add-one}
 use native.Mathlib.Omega.{arith}
-use mathlib.Core.Path.{_≡_, refl, ap, sym, _∙_}
-use mathlib.Core.List.{List, [], _∷_, _++_, append-assoc}
-use lib.ListN.{length, getD, take, drop, set, length-append, length-drop}
-use lib.Seq.{take-add, take-at, drop-at, drop-drop, getD-drop}
+use mathlib.Core.Path.{_≡_, refl, ap, ap₂, sym, _∙_}
+use mathlib.Core.List.{List, [], _∷_, _++_, append-assoc, append-nil}
+use lib.ListN.{length, take, drop, set, length-append, length-drop, take-append-drop}
+use lib.Seq.{take-add, take-at, drop-at, drop-drop, length-take-le}
 use Rattle.layout.specs.Lists.{join, upFrom, written}
 use Rattle.layout.specs.Compact.{blockOf, entryWords}
 use Rattle.layout.proofs.Members.{length-upFrom}
@@ -21,6 +21,56 @@ three-more {A} xs old u v w t e h =
     ∙ set-written ((xs ++ (u ∷ [])) ++ (v ∷ [])) old w (t + 2)
     (omega (arith, length-append xs (u ∷ []), length-append (xs ++ (u ∷ [])) (v ∷ []))) h
     ∙ ap (λ (l : List A). written l old) (ap (λ (l : List A). l ++ (w ∷ [])) (append-assoc xs (u ∷ []) (v ∷ [])) ∙ append-assoc xs (u ∷ v ∷ []) (w ∷ []))
+
+-- three stored at t
+module _ {A : Type 0} (o : List A) (t : ℕ) (u v w : A) (h : t + 3 ≤ length o) where
+  abbrev stored : List A
+  stored = set (set (set o t u) (t + 1) v) (t + 2) w
+
+  size : length (take t o) ≡ t
+  size = length-take-le t o (omega arith)
+
+  after : length (take t o ++ (u ∷ v ∷ w ∷ [])) ≡ t + 3
+  after = omega (arith, length-append (take t o) (u ∷ v ∷ w ∷ []), size)
+
+  three-set : stored ≡ (take t o ++ (u ∷ v ∷ w ∷ [])) ++ drop (t + 3) o
+  three-set =
+      ap (λ (l : List A). set (set (set l t u) (t + 1) v) (t + 2) w) (sym (take-append-drop t o) ∙ ap (λ (n : ℕ). take t o ++ drop n o) (sym size))
+      ∙ three-more (take t o) o u v w t (sym size) (omega arith)
+      ∙ ap (λ (n : ℕ). (take t o ++ (u ∷ v ∷ w ∷ [])) ++ drop n o) after
+
+  -- what stands up to the three, after them, and from them on
+  pub stored-front : take (t + 3) stored ≡ take t o ++ (u ∷ v ∷ w ∷ [])
+  stored-front = ap (take (t + 3)) three-set ∙ take-at (take t o ++ (u ∷ v ∷ w ∷ [])) (drop (t + 3) o) (t + 3) after
+
+  pub stored-rest : drop (t + 3) stored ≡ drop (t + 3) o
+  stored-rest = ap (drop (t + 3)) three-set ∙ drop-at (take t o ++ (u ∷ v ∷ w ∷ [])) (drop (t + 3) o) (t + 3) after
+
+  pub stored-from : drop t stored ≡ u ∷ v ∷ w ∷ drop (t + 3) o
+  stored-from =
+      ap (drop t) (three-set ∙ append-assoc (take t o) (u ∷ v ∷ w ∷ []) (drop (t + 3) o))
+      ∙ drop-at (take t o) (u ∷ v ∷ w ∷ drop (t + 3) o) t size
+
+  -- a list written from its first element on, and one from its last on, of which rest is left
+  module _ (new rest total : List A) (e : new ≡ stored) where
+    pub up-more : (old : List A) → take t o ++ (u ∷ v ∷ w ∷ rest) ≡ total → drop t o ≡ drop t old
+        → (take (t + 3) new ++ rest ≡ total) × (drop (t + 3) new ≡ drop (t + 3) old)
+    up-more old f g = (
+      ap (λ (l : List A). take (t + 3) l ++ rest) e ∙ ap (λ (l : List A). l ++ rest) stored-front ∙ append-assoc (take t o) (u ∷ v ∷ w ∷ []) rest ∙ f,
+      ap (drop (t + 3)) e ∙ stored-rest ∙ sym (drop-drop 3 t o) ∙ ap (drop 3) g ∙ drop-drop 3 t old,
+    )
+
+    pub down-more : (rest ++ (u ∷ v ∷ w ∷ [])) ++ drop (t + 3) o ≡ total → rest ++ drop t new ≡ total
+    down-more f =
+        ap (λ (l : List A). rest ++ drop t l) e ∙ ap (λ (l : List A). rest ++ l) stored-from
+        ∙ sym (append-assoc rest (u ∷ v ∷ w ∷ []) (drop (t + 3) o)) ∙ f
+
+-- all of it is written
+pub up-done : {A : Type 0} (out old full : List A) (t : ℕ) → t ≤ length out → take t out ++ [] ≡ full → drop t out ≡ drop t old → out ≡ written full old
+up-done {A} out old full t h e g =
+    let f : take t out ≡ full = sym (append-nil (take t out)) ∙ e in
+    sym (take-append-drop t out) ∙ ap₂ (λ (x y : List A). x ++ y) f g
+    ∙ ap (λ (n : ℕ). full ++ drop n old) (sym (length-take-le t out h) ∙ ap length f)
 
 -- one more row
 pub count-more : (old : List ℕ) (first i : ℕ) → i < length old
@@ -42,16 +92,6 @@ abbrev pub entryOf : ℕ → ℕ → ℕ → List ℕ
 entryOf i k c = entryWords (blockOf i k c)
 
 -- ---- a list written part by part
-
--- an element at a place, and those after it
-pub first-of-drop : {A : Type 0} (xs ys : List A) (c : ℕ) (x d : A) → drop c xs ≡ x ∷ ys → (c < length xs) × (getD xs c d ≡ x)
-first-of-drop {A} xs ys c x d e = (
-  omega (arith, ap length e, length-drop c xs),
-  ap (λ (n : ℕ). getD xs n d) (omega arith) ∙ sym (getD-drop c xs 0 d) ∙ ap (λ (l : List A). getD l 0 d) e,
-)
-
-pub rest-of-drop : {A : Type 0} (xs ys : List A) (c : ℕ) (x : A) → drop c xs ≡ x ∷ ys → drop (c + 1) xs ≡ ys
-rest-of-drop xs ys c x e = sym (drop-drop 1 c xs) ∙ ap (drop 1) e
 
 -- what is left of a list is a part and the rest
 pub part-done : {A : Type 0} (full xs rest : List A) (t : ℕ) → t ≤ length full → drop t full ≡ xs ++ rest

@@ -19,7 +19,6 @@ use parts::Place;
 use parts::clique_count;
 use supernode_tree::Clique;
 use supernode_tree::Pattern;
-use supernode_tree::PatternRead;
 use supportedcone::SupportedCone;
 
 // The mark for none where the cone map has a pattern's number.
@@ -97,68 +96,54 @@ fn write_whole(table: Table, i: usize, row: u32, rows: u32, cones: &[u32], out: 
 
 // ---- a cut cone
 
-// The block sizes of count cliques.
-fn block_sizes(words: &[u32], first: usize, count: u32, out: &mut [u32])
-    requires { ⌜ Whole (now words) first count × (count ≤ length (now out)) ⌝ }
+// A PSD cone for each of count cliques, from the first to the last; how many words.
+fn cones_up(words: &[u32], first: usize, count: u32, out: &mut [u32]) -> usize
+    requires { ⌜ Whole (now words) first count × (count * 3 ≤ length (now out)) ⌝ }
     requires { ⌜ all (atMost 256) (cliquesFrom (now words) first count) ≡ true ⌝ }
-    ensures { λ _. ⌜ now (out .exit) ≡ written (map blockSize (cliquesFrom (now (words .entry)) first count)) (now (out .entry)) ⌝ }
+    ensures { λ r. ⌜ r ≡ count * 3 ⌝ }
+    ensures { λ _. ⌜ now (out .exit) ≡ written (join psdWords (map blockSize (cliquesFrom (now (words .entry)) first count))) (now (out .entry)) ⌝ }
 {
     let mut at = first;
-    let mut c = 0;
+    let mut t = 0;
     let mut left = count;
     while 0 < left {
         let q = Clique::here(words, at);
-        out[c] = q.get_nblk() as u32;
+        put(
+            &mut *out,
+            t,
+            SupportedCone::PSD_TRIANGLE,
+            q.get_nblk() as u32,
+            0,
+        );
         at = q.next;
-        c += 1;
+        t += 3;
         left -= 1;
     }
-}
-
-// The block sizes of the pattern at an offset; how many.
-fn pattern_sizes(words: &[u32], at: usize, out: &mut [u32]) -> usize
-    requires { ⌜ RightPattern (patternAt (now words) at) ⌝ }
-    requires { ⌜ (patternAt (now words) at .vertexCount ≤ 256) × (256 ≤ length (now out)) ⌝ }
-    ensures { λ r. ⌜ r ≡ cliqueCount (patternAt (now (words .entry)) at) ⌝ }
-    ensures { λ _. ⌜ now (out .exit) ≡ written (map blockSize (patternAt (now (words .entry)) at .cliques)) (now (out .entry)) ⌝ }
-{
-    let PatternRead::Pattern(p) = Pattern::read(words, at) else {
-        return 0;
-    };
-    block_sizes(words, p.cliques, p.clique_count, out);
-    p.clique_count as usize
-}
-
-// A PSD cone for each size, from the first to the last; how many words.
-fn psd_up(sizes: &[u32], out: &mut [u32]) -> usize
-    requires { ⌜ length (now sizes) * 3 ≤ length (now out) ⌝ }
-    ensures { λ r. ⌜ r ≡ length (now (sizes .entry)) * 3 ⌝ }
-    ensures { λ _. ⌜ now (out .exit) ≡ written (join psdWords (now (sizes .entry))) (now (out .entry)) ⌝ }
-{
-    let mut t = 0;
-    let mut c = 0;
-    while c < sizes.len() {
-        put(&mut *out, t, SupportedCone::PSD_TRIANGLE, sizes[c], 0);
-        t += 3;
-        c += 1;
-    }
     t
 }
 
-// The same from the last to the first.
-fn psd_down(sizes: &[u32], out: &mut [u32]) -> usize
-    requires { ⌜ length (now sizes) * 3 ≤ length (now out) ⌝ }
-    ensures { λ r. ⌜ r ≡ length (now (sizes .entry)) * 3 ⌝ }
-    ensures { λ _. ⌜ now (out .exit) ≡ written (join psdWords (reverse (now (sizes .entry)))) (now (out .entry)) ⌝ }
+// The same from the last to the first: the last place is filled first.
+fn cones_down(words: &[u32], first: usize, count: u32, out: &mut [u32]) -> usize
+    requires { ⌜ Whole (now words) first count × (count * 3 ≤ length (now out)) ⌝ }
+    requires { ⌜ all (atMost 256) (cliquesFrom (now words) first count) ≡ true ⌝ }
+    ensures { λ r. ⌜ r ≡ count * 3 ⌝ }
+    ensures { λ _. ⌜ now (out .exit) ≡ written (join psdWords (reverse (map blockSize (cliquesFrom (now (words .entry)) first count)))) (now (out .entry)) ⌝ }
 {
-    let mut t = 0;
-    let mut c = sizes.len();
-    while 0 < c {
-        c -= 1;
-        put(&mut *out, t, SupportedCone::PSD_TRIANGLE, sizes[c], 0);
-        t += 3;
+    let mut at = first;
+    let mut left = count;
+    while 0 < left {
+        let q = Clique::here(words, at);
+        left -= 1;
+        put(
+            &mut *out,
+            left as usize * 3,
+            SupportedCone::PSD_TRIANGLE,
+            q.get_nblk() as u32,
+            0,
+        );
+        at = q.next;
     }
-    t
+    count as usize * 3
 }
 
 // A route's cones of the pattern at an offset, cliques from first to last or from last to first; how many words.
@@ -168,12 +153,11 @@ fn pattern_cones(standard: bool, words: &[u32], at: usize, out: &mut [u32]) -> u
     ensures { λ r. ⌜ r ≡ cliqueCount (patternAt (now (words .entry)) at) * 3 ⌝ }
     ensures { λ _. ⌜ now (out .exit) ≡ written (routePart standard (cut 0 0 0 (patternAt (now (words .entry)) at))) (now (out .entry)) ⌝ }
 {
-    let mut sizes = [0u32; 256];
-    let k = pattern_sizes(words, at, &mut sizes);
+    let p = Pattern::here(words, at);
     if standard {
-        return psd_up(&sizes[..k], out);
+        return cones_up(words, p.cliques, p.clique_count, out);
     }
-    psd_down(&sizes[..k], out)
+    cones_down(words, p.cliques, p.clique_count, out)
 }
 
 // The map entries of count cliques of one pattern, from the last to the first; how many words.
