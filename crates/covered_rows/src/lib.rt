@@ -19,7 +19,6 @@ use blocks::clique_vertices;
 use parts::Met;
 use parts::Place;
 use supernode_tree::Pattern;
-use supernode_tree::PatternRead;
 use supernode_tree::clique_offsets;
 
 // ---- the rows that stand on an augmented row are marked, in a table by original row
@@ -93,9 +92,7 @@ fn mark_pattern(words: &[u32], at: usize, base: u32, covered: &mut [bool])
     requires { ⌜ BlockFits base (patternAt (now words) at .vertexCount) (length (now covered)) ⌝ }
     ensures { λ _. ⌜ MarksPattern (patternAt (now (words .entry)) at) base (now (covered .entry)) (now (covered .exit)) ⌝ }
 {
-    let PatternRead::Pattern(p) = Pattern::read(words, at) else {
-        return;
-    };
+    let p = Pattern::here(words, at);
     let mut offsets = [0usize; 256];
     clique_offsets(words, p.cliques, p.clique_count, &mut offsets);
     let a = p.ordering;

@@ -1,6 +1,6 @@
 use Prim.Native.Nat.{ℕ, _≤_, _-_}
 use mathlib.Core.Bool.{true}
-use mathlib.Core.Path.{_≡_, ap, sym, _∙_}
+use mathlib.Core.Path.{_≡_, refl, ap, sym, _∙_}
 use mathlib.Core.List.{List, reverse}
 use lib.ListN.{length, take, drop, length-replicate}
 use lib.Seq.{length-take-le}
@@ -9,8 +9,8 @@ use Rattle.layout.specs.Patterns.{cliqueCount}
 use Rattle.supernode_tree.specs.Reads.{patternAt, PatternInside}
 use Rattle.supernode_tree.specs.declared.PatternRead.the-variants.{Pattern as Found}
 use Rattle.blocks.specs.Cliques.{rowsHere}
-use Rattle.blocks.proofs.Patterns.{cliques-few}
-use Rattle.blocks.proofs.Offsets.{StandAt, not-short, cliques-here, cliques-count, ordering-part, stand-here, all-stand, rows-down}
+use Rattle.supernode_tree.proofs.Cliques.{right-head}
+use Rattle.blocks.proofs.Offsets.{StandAt, cliques-here, cliques-count, count-few, ordering-part, stand-here, all-stand, rows-down}
 use Rattle.blocks.specs.Vertices.{marked}
 use native.Mathlib.Omega.{arith}
 use borrow.Author.Needs.{needs}
@@ -18,52 +18,41 @@ use Rattle.covered_rows.proofs.mark_pattern.Statement.{statement}
 use Rattle.covered_rows.proofs.mark_pattern.Tie as tie
 
 -- the pattern's head lies in the words
-inside : (k : tie.After-known-told) → PatternInside (length (k .before .before .before .before .before .before .args .words .now)) (k .before .before .before .before .before .before .args .at) (Found (k .before .p .given .0 .0))
-inside k = rw (k .before .p .given .1) at (k .before .before .before .read .ensures .1)
+inside : (k : tie.After-here) → PatternInside (length (k .before .before .before .args .words .now)) (k .before .before .before .args .at) (Found (k .here .result))
+inside k = k .here .ensures .1
 
 -- as many cliques as were read, and few
-count : (k : tie.After-known-told) → cliqueCount (patternAt (k .before .before .before .before .before .before .args .words .now) (k .before .before .before .before .before .before .args .at)) ≡ k .before .p .given .0 .0 .«clique_count»
+count : (k : tie.After-here) → cliqueCount (patternAt (k .before .before .before .args .words .now) (k .before .before .before .args .at)) ≡ k .here .result .«clique_count»
 count k =
-    let s = k .before .before .before .before .before .before in
-    cliques-count (s .args .words .now) (s .args .at) _ (s .pre .0 .0) (k .before .before .before .read .ensures .0) (k .before .p .given .0 .0) (k .before .p .given .1)
+    let s = k .before .before .before in
+    cliques-count (s .args .words .now) (s .args .at) _ (s .pre .0 .0) (k .here .ensures .0) (k .here .result) refl
 
-few : (k : tie.After-known-told) → k .before .p .given .0 .0 .«clique_count» ≤ 256
+few : (k : tie.After-here) → k .here .result .«clique_count» ≤ 256
 few k =
-    let s = k .before .before .before .before .before .before in
-    omega (arith, count k, cliques-few (patternAt (s .args .words .now) (s .args .at)) (s .pre .0 .0), s .pre .0 .1)
+    let s = k .before .before .before in
+    count-few (s .args .words .now) (s .args .at) _ (s .pre .0 .0) (k .here .ensures .0) (k .here .result) refl (s .pre .0 .1)
 
-ordering-here : (k : tie.After-known-told)
-    → let a = k .before .before .before .before .before .before .args in
-    let q = k .before .p .given .0 .0 in
+ordering-here : (k : tie.After-here)
+    → let a = k .before .before .before .args in
+    let q = k .here .result in
     take (q .cliques - q .ordering) (drop (q .ordering) (a .words .now)) ≡ patternAt (a .words .now) (a .at) .ordering
 ordering-here k =
-    let s = k .before .before .before .before .before .before in
-    ordering-part (s .args .words .now) (s .args .at) _ (s .pre .0 .0) (k .before .before .before .read .ensures .0) (k .before .p .given .0 .0) (k .before .p .given .1) (inside k)
+    let s = k .before .before .before in
+    ordering-part (s .args .words .now) (s .args .at) _ (s .pre .0 .0) (k .here .ensures .0) (k .here .result) refl (inside k)
 
 -- the table of offsets
-room : (o : tie.After-clique-offsets) → o .before .before .before .p .given .0 .0 .«clique_count» ≤ length (o .clique-offsets .last .1 .1 .1 .0)
+room : (o : tie.After-clique-offsets) → o .before .before .here .result .«clique_count» ≤ length (o .clique-offsets .last .1 .1 .1 .0)
 room o = omega (arith, few (o .before .before), o .clique-offsets .kept .1 .1 .1 .0, length-replicate {A = ℕ} 256 0)
 
 standing : (o : tie.After-clique-offsets)
-    → let a = o .before .before .before .before .before .before .before .before .args in
+    → let a = o .before .before .before .before .before .args in
     StandAt (a .words .now) (patternAt (a .words .now) (a .at) .cliques) (o .clique-offsets .last .1 .1 .1 .0)
 standing o =
-    let s = o .before .before .before .before .before .before .before .before in
-    stand-here (s .args .words .now) (s .args .at) _ (s .pre .0 .0) (o .before .before .before .before .before .read .ensures .0) (o .before .before .before .p .given .0 .0) (o .before .before .before .p .given .1) (o .clique-offsets .last .1 .1 .1 .0) (o .clique-offsets .ensures)
+    let s = o .before .before .before .before .before in
+    stand-here (s .args .words .now) (s .args .at) _ (s .pre .0 .0) (o .before .before .here .ensures .0) (o .before .before .here .result) refl (o .clique-offsets .last .1 .1 .1 .0) (o .clique-offsets .ensures)
 
-read-requires : tie.Need-read-requires
-read-requires c κs = search needs
-
-enum-known-p : tie.Need-enum-known-p
-enum-known-p c = search needs
-
-enum-told : tie.Need-enum-told
-enum-told c = search needs
-
-returns : tie.Need-returns
-returns c =
-    let s = c .before .before .before .before .before in
-    absurd (not-short (s .args .words .now) (s .args .at) _ (s .pre .0 .0) (c .before .before .read .ensures .0) (c .enum-told .given .1))
+here-requires : tie.Need-here-requires
+here-requires c κs = let s = c .before .before in right-head (s .args .words .now) (s .args .at) (s .pre .0 .0 .tree)
 
 slice-aggregate-clique-offsets : tie.Need-slice-aggregate-clique-offsets
 slice-aggregate-clique-offsets c = search needs
@@ -71,8 +60,8 @@ slice-aggregate-clique-offsets c = search needs
 clique-offsets-requires : tie.Need-clique-offsets-requires
 clique-offsets-requires c κs =
     let k = c .before in
-    let s = k .before .before .before .before .before .before in (
-      cliques-here (s .args .words .now) (s .args .at) _ (s .pre .0 .0) (k .before .before .before .read .ensures .0) (k .before .p .given .0 .0) (k .before .p .given .1),
+    let s = k .before .before .before in (
+      cliques-here (s .args .words .now) (s .args .at) _ (s .pre .0 .0) (k .here .ensures .0) (k .here .result) refl,
       omega (arith, few k, length-replicate {A = ℕ} 256 0),
     )
 
@@ -103,7 +92,7 @@ mark-cliques-requires : tie.Need-mark-cliques-requires
 mark-cliques-requires c κs =
     let o = c .before .before .before .before .before in
     let k = o .before .before in
-    let s = k .before .before .before .before .before .before in
+    let s = k .before .before .before in
     let p = patternAt (s .args .words .now) (s .args .at) in
     rw (ordering-here k) (
       all-stand p (s .pre .0 .0) (s .args .words .now) (o .clique-offsets .last .1 .1 .1 .0) _ (count k) (room o) (standing o) (s .pre .0 .1),
@@ -113,14 +102,14 @@ mark-cliques-requires c κs =
 same-length : tie.Need-same-length
 same-length c = search needs
 
-returns-2 : tie.Need-returns-2
-returns-2 c =
+returns : tie.Need-returns
+returns c =
     let w = c .before .before in
     let o = w .before .before .before .before .before .before in
     let k = o .before .before in
-    let s = k .before .before .before .before .before .before in
+    let s = k .before .before .before in
     let p = patternAt (s .args .words .now) (s .args .at) in
-    let os = take (k .before .p .given .0 .0 .«clique_count») (o .clique-offsets .last .1 .1 .1 .0) in
+    let os = take (k .here .result .«clique_count») (o .clique-offsets .last .1 .1 .1 .0) in
     λ first.
     w .mark-cliques .ensures
     ∙ ap (λ (ordering : List ℕ). marked true (join (rowsHere (s .args .base) (s .args .words .now) ordering) (reverse os)) (s .args .covered .now)) (ordering-here k)
@@ -131,10 +120,7 @@ pub mark-pattern-spec : {M : Type 1} → statement M
 mark-pattern-spec =
     tie.close
     (tie.spec
-    read-requires
-    enum-known-p
-    enum-told
-    returns
+    here-requires
     slice-aggregate-clique-offsets
     clique-offsets-requires
     cast-k
@@ -146,4 +132,4 @@ mark-pattern-spec =
     slice-aggregate-mark-cliques
     mark-cliques-requires
     same-length
-    returns-2)
+    returns)
