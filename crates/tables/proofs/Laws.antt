@@ -1,15 +1,18 @@
 -- Lists written in order: one more number, three more words; and lists of three words joined.
-use Prim.Native.Nat.{ℕ, _+_, _*_, _≤_, _<_}
+use Prim.Native.Nat.{ℕ, zero, suc, _+_, _*_, _≤_, _<_}
 use native.Mathlib.Numerals.{add-one}
 use native.Mathlib.Omega.{arith}
 use mathlib.Core.Path.{_≡_, refl, ap, ap₂, sym, _∙_}
 use mathlib.Core.List.{List, [], _∷_, _++_, append-assoc, append-nil}
-use lib.ListN.{length, take, drop, set, length-append, length-drop, take-append-drop}
+use lib.ListN.{length, getD, take, drop, set, length-append, length-drop, take-append-drop}
 use lib.Seq.{take-add, take-at, drop-at, drop-drop, length-take-le}
 use Rattle.layout.specs.Lists.{join, upFrom, written}
-use Rattle.layout.specs.Compact.{blockOf, entryWords}
+use Rattle.layout.specs.Cones.{Cone, records}
+use Rattle.layout.specs.Checks.{noCone}
+use Rattle.layout.specs.Compact.{coneWords, blockOf, entryWords}
 use Rattle.layout.proofs.Members.{length-upFrom}
 use Rattle.layout.proofs.Joins.{upFrom-last}
+use Rattle.layout.proofs.Records.{record-at}
 use Rattle.layout.proofs.Buffers.{set-written}
 
 -- three more
@@ -78,6 +81,15 @@ pub count-more : (old : List ℕ) (first i : ℕ) → i < length old
 count-more old first i h =
     set-written (upFrom first i) old (first + i) i (sym (length-upFrom first i)) h
     ∙ ap (λ (l : List ℕ). written l old) (sym (ap (upFrom first) (add-one i) ∙ upFrom-last first i))
+
+-- the words of record i
+pub word-of : (ws : List ℕ) (i j : ℕ) → i * 3 + 3 ≤ length ws → j < 3 → getD ws (i * 3 + j) 0 ≡ getD (coneWords (getD (records ws) i noCone)) j 0
+word-of ws i zero h l =
+    let e : i * 3 + 0 ≡ i * 3 = omega arith in
+    ap (λ (n : ℕ). getD ws n 0) e ∙ sym (ap (λ (c : Cone). c .kind) (record-at ws i noCone h))
+word-of ws i (suc zero) h l = sym (ap (λ (c : Cone). c .first) (record-at ws i noCone h))
+word-of ws i (suc (suc zero)) h l = sym (ap (λ (c : Cone). c .second) (record-at ws i noCone h))
+word-of ws i (suc (suc (suc j))) h l = absurd (omega arith)
 
 -- ---- joined lists
 

@@ -66,18 +66,12 @@ fn copy_record(cones: &[u32], i: usize, out: &mut [u32]) -> usize
     ensures { λ _. ⌜ now (out .exit) ≡ written (coneWords (getD (records (now (cones .entry))) i noCone)) (now (out .entry)) ⌝ }
 {
     let at = i * 3;
-    put(out, 0, cones[at], cones[at + 1], cones[at + 2]);
-    3
-}
-
-// The map entry of a whole cone; how many words.
-fn whole_entry(i: usize, out: &mut [u32]) -> usize
-    requires { ⌜ (i < 1024) × (3 ≤ length (now out)) ⌝ }
-    ensures { λ r. ⌜ r ≡ 3 ⌝ }
-    ensures { λ _. ⌜ now (out .exit) ≡ written (entryWords (wholeCone i)) (now (out .entry)) ⌝ }
-{
-    put(out, 0, i as u32, NO_PATTERN, 0);
-    3
+    let mut j = 0;
+    while j < 3 {
+        out[j] = cones[at + j];
+        j += 1;
+    }
+    j
 }
 
 // What a whole cone writes: number i, from its first row on; how many words.
@@ -90,7 +84,10 @@ fn write_whole(table: Table, i: usize, row: u32, rows: u32, cones: &[u32], out: 
     match table {
         Table::HRows | Table::CutRows => count_up(out, row, rows),
         Table::StandardCones | Table::CompactCones => copy_record(cones, i, out),
-        Table::ConeMap => whole_entry(i, out),
+        Table::ConeMap => {
+            put(out, 0, i as u32, NO_PATTERN, 0);
+            3
+        }
     }
 }
 
@@ -176,17 +173,6 @@ fn map_down(cone: u32, pattern: u32, count: u32, out: &mut [u32]) -> usize
     t
 }
 
-// The map entries of cone i, which pattern k at an offset cuts; how many words.
-fn cut_entries(words: &[u32], at: usize, i: usize, k: u32, out: &mut [u32]) -> usize
-    requires { ⌜ RightPattern (patternAt (now words) at) × (i < 1024) ⌝ }
-    requires { ⌜ cliqueCount (patternAt (now words) at) * 3 ≤ length (now out) ⌝ }
-    ensures { λ r. ⌜ r ≡ cliqueCount (patternAt (now (words .entry)) at) * 3 ⌝ }
-    ensures { λ _. ⌜ now (out .exit) ≡ written (mapWords (mapPart (cut i 0 k (patternAt (now (words .entry)) at)))) (now (out .entry)) ⌝ }
-{
-    let count = clique_count(words, at);
-    map_down(i as u32, k, count, out)
-}
-
 // What cone i writes where pattern k at an offset cuts it, from its first row on; t words are written before. How many words.
 fn write_cut(
     table: Table,
@@ -209,7 +195,7 @@ fn write_cut(
         Table::CutRows => overlaps::compact_pattern_rows(words, at, row, t as u32, out),
         Table::StandardCones => pattern_cones(true, words, at, out),
         Table::CompactCones => pattern_cones(false, words, at, out),
-        Table::ConeMap => cut_entries(words, at, i, k, out),
+        Table::ConeMap => map_down(i as u32, k, clique_count(words, at), out),
     }
 }
 

@@ -14,7 +14,6 @@ use lib.ListN.{length, take, drop, length-take}
 use Rattle.layout.specs.Patterns.{Clique, blockSize}
 use Rattle.tables.proofs.Laws.{up-more, up-done}
 use native.Mathlib.Omega.{arith}
-use borrow.Author.Needs.{needs}
 use Rattle.tables.proofs.cones_up.Statement.{statement}
 use Rattle.tables.proofs.cones_up.Tie as tie
 

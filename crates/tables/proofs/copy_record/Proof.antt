@@ -1,75 +1,88 @@
-use Prim.Native.Nat.{_+_, _*_}
-use mathlib.Core.Path.{refl, ap, sym, _∙_}
-use mathlib.Core.List.{[]}
-use lib.ListN.{getD}
+use Prim.Native.Nat.{ℕ, _-_, _≤_, _<_}
+use mathlib.Core.Path.{_≡_, refl, ap₂, _∙_}
+use mathlib.Core.List.{List}
+use lib.ListN.{length, getD, take, set, length-set}
 use Rattle.layout.specs.Lists.{written}
-use Rattle.layout.specs.Cones.{Cone}
+use Rattle.layout.specs.Cones.{records}
 use Rattle.layout.specs.Checks.{noCone}
 use Rattle.layout.specs.Compact.{coneWords}
-use Rattle.layout.proofs.Records.{record-at}
-use Rattle.tables.proofs.Laws.{three-more}
+use Rattle.layout.proofs.Buffers.{copy-more, copy-done}
+use Rattle.tables.proofs.Laws.{word-of}
 use native.Mathlib.Omega.{arith}
 use borrow.Author.Needs.{needs}
 use Rattle.tables.proofs.copy_record.Statement.{statement}
 use Rattle.tables.proofs.copy_record.Tie as tie
 
-mul-at : tie.Need-mul-at
+abbrev Inv-loop : tie.InvT-loop
+Inv-loop cones i out₀ at j₀ out j = (j ≤ 3) × (length out ≡ length out₀) × (out ≡ written (take j (coneWords (getD (records cones) i noCone))) out₀)
+
+abbrev μ-loop : tie.MeasureT-loop
+μ-loop cones i out₀ at j₀ out j = 3 - j
+
+mul-at : tie.Need-mul-at Inv-loop μ-loop
 mul-at c = search needs
 
-mul-put : tie.Need-mul-put
-mul-put c = search needs
+loop-holds : tie.Need-loop-holds Inv-loop μ-loop
+loop-holds c = (omega arith, refl, refl)
 
-shared-slice-read-put : tie.Need-shared-slice-read-put
-shared-slice-read-put c = search needs
+add-out : tie.Need-add-out Inv-loop μ-loop
+add-out c = omega arith
 
-add-put : tie.Need-add-put
-add-put c = search needs
+mul-out : tie.Need-mul-out Inv-loop μ-loop
+mul-out c = omega arith
 
-mul-put-2 : tie.Need-mul-put-2
-mul-put-2 c = search needs
+shared-slice-read-out : tie.Need-shared-slice-read-out Inv-loop μ-loop
+shared-slice-read-out c = omega arith
 
-shared-slice-read-put-2 : tie.Need-shared-slice-read-put-2
-shared-slice-read-put-2 c = search needs
+mul-out-2 : tie.Need-mul-out-2 Inv-loop μ-loop
+mul-out-2 c = omega arith
 
-add-put-2 : tie.Need-add-put-2
-add-put-2 c = search needs
+slice-write-out : tie.Need-slice-write-out Inv-loop μ-loop
+slice-write-out c = omega arith
 
-mul-put-3 : tie.Need-mul-put-3
-mul-put-3 c = search needs
+add-j : tie.Need-add-j Inv-loop μ-loop
+add-j c = omega arith
 
-shared-slice-read-put-3 : tie.Need-shared-slice-read-put-3
-shared-slice-read-put-3 c = search needs
+loop-less : tie.Need-loop-less Inv-loop μ-loop
+loop-less c = omega arith
 
-put-requires : tie.Need-put-requires
-put-requires c κs = search needs
-
-same-length : tie.Need-same-length
-same-length c = search needs
-
-returns : tie.Need-returns
-returns c =
-    let p = c .before .before in
-    let a = p .before .before .before .before .before .before .before .args in
-    let ws = a .cones .now in
-    let i = a .i in (
-      refl,
-      p .put .ensures ∙ three-more [] (a .out .now) (getD ws (i * 3) 0) (getD ws (i * 3 + 1) 0) (getD ws (i * 3 + 2) 0) 0 refl (omega arith)
-          ∙ ap (λ (r : Cone). written (coneWords r) (a .out .now)) (sym (record-at ws i noCone (omega arith))),
+loop-again : tie.Need-loop-again Inv-loop μ-loop
+loop-again c =
+    let l = c .before .before in
+    let s = l .before in
+    let a = s .args in
+    let j = l .loop .j in
+    let ws = coneWords (getD (records (a .cones .now)) (a .i) noCone) in
+    let m : j < 3 = c .before .loop-test .taken in (
+      omega arith,
+      simp length-set (l .loop .inv .1),
+      ap₂ (λ (o : List ℕ) (x : ℕ). set o j x) (l .loop .inv .2) (word-of (a .cones .now) (a .i) j (s .pre .0) m) ∙ copy-more ws (a .out .now) j 0 m (s .pre .2),
     )
+
+same-length : tie.Need-same-length Inv-loop μ-loop
+same-length c = c .before .loop .inv .1
+
+returns : tie.Need-returns Inv-loop μ-loop
+returns c =
+    let l = c .before in
+    let a = l .before .args in
+    (omega (arith, l .loop .inv .0, c .loop-test .left), l .loop .inv .2 ∙ copy-done (coneWords (getD (records (a .cones .now)) (a .i) noCone)) (a .out .now) (l .loop .j) (c .loop-test .left))
 
 pub copy-record-spec : {M : Type 1} → statement M
 copy-record-spec =
     tie.close
     (tie.spec
+    Inv-loop
+    μ-loop
     mul-at
-    mul-put
-    shared-slice-read-put
-    add-put
-    mul-put-2
-    shared-slice-read-put-2
-    add-put-2
-    mul-put-3
-    shared-slice-read-put-3
-    put-requires
+    loop-holds
+    add-out
+    mul-out
+    shared-slice-read-out
+    mul-out-2
+    slice-write-out
+    add-j
+    loop-less
+    loop-again
     same-length
     returns)

@@ -14,7 +14,6 @@ use Rattle.blocks.proofs.Offsets.{cliques-here, pattern-here, cliques-count}
 use Rattle.tables.specs.Tables.{routePart}
 use Rattle.tables.proofs.Cones.{sizes-up, sizes-down}
 use native.Mathlib.Omega.{arith}
-use borrow.Author.Needs.{needs}
 use Rattle.tables.proofs.pattern_cones.Statement.{statement}
 use Rattle.tables.proofs.pattern_cones.Tie as tie
 
@@ -51,7 +50,7 @@ cones-up-requires c κs =
     ((whole k, omega (arith, count k, k .before .before .before .pre .1)), small k)
 
 same-length : tie.Need-same-length
-same-length c = search needs
+same-length c = c .before .before .cones-up .kept .1 .1 .1 .0
 
 returns : tie.Need-returns
 returns c =
@@ -71,7 +70,7 @@ cones-down-requires c κs =
     ((whole k, omega (arith, count k, k .before .before .before .pre .1)), small k)
 
 same-length-2 : tie.Need-same-length-2
-same-length-2 c = search needs
+same-length-2 c = c .before .before .cones-down .kept .1 .1 .1 .0
 
 returns-2 : tie.Need-returns-2
 returns-2 c =

@@ -1,11 +1,12 @@
-use Prim.Native.Nat.{_≤_, _+_}
+use Prim.Native.Nat.{ℕ, _≤_, _+_, _*_}
 use mathlib.Core.Path.{_≡_, ap, sym, _∙_}
-use mathlib.Core.List.{map}
+use mathlib.Core.List.{map, reverse}
+use Rattle.layout.specs.Lists.{below, written}
 use lib.ListN.{length}
 use mathlib.Core.Path.{subst}
 use lib.ListN.{length-map}
 use Rattle.layout.specs.Blocks.{cut, patternRows, blockRows}
-use Rattle.layout.specs.Compact.{compactPart, mapPart, mapWords}
+use Rattle.layout.specs.Compact.{blockOf, compactPart, mapPart, mapWords}
 use Rattle.layout.specs.Standard.{standardPart}
 use Rattle.layout.proofs.Rows.{rows-count}
 use Rattle.codes.specs.Codes.{cutCode}
@@ -17,7 +18,6 @@ use Rattle.tables.specs.declared.Table.{Table}
 use Rattle.tables.proofs.Cones.{standard-words, compact-words, map-words}
 use Rattle.tables.proofs.Codes.{renamed, cut-h, cut-cut, cut-standard, cut-compact, cut-map}
 use native.Mathlib.Omega.{arith}
-use borrow.Author.Needs.{needs}
 use Rattle.tables.proofs.write_cut.Statement.{statement}
 use Rattle.tables.proofs.write_cut.Tie as tie
 
@@ -71,7 +71,7 @@ few c =
     subst (λ (x : Table). Few x (a .t + blockRows (patternAt (a .words .now) (a .at)))) (c .enum-told2 .given .1) (s .pre .1 .0)
 
 enum-told : tie.Need-enum-told
-enum-told c = search needs
+enum-told c = c .match .keys1
 
 standard-pattern-rows-requires : tie.Need-standard-pattern-rows-requires
 standard-pattern-rows-requires c κs =
@@ -82,7 +82,7 @@ standard-pattern-rows-requires c κs =
     (ok, ((s .pre .0 .1, s .pre .0 .2), omega (arith, ap length (rows-h (c .before)), standard-rows-count p ok (a .row), s .pre .1 .1)))
 
 enum-told-2 : tie.Need-enum-told-2
-enum-told-2 c = search needs
+enum-told-2 c = c .match .keys2
 
 cast-compact-pattern-rows : tie.Need-cast-compact-pattern-rows
 cast-compact-pattern-rows c = omega (arith, few c)
@@ -96,7 +96,7 @@ compact-pattern-rows-requires c κs =
     (ok, ((s .pre .0 .1, s .pre .0 .2), (few (c .before), omega (arith, ap length (rows-cut (c .before)), (length-map (patternRows p (a .row) (a .t)) cutCode ∙ rows-count p ok (a .row) (a .t)), s .pre .1 .1))))
 
 enum-told-3 : tie.Need-enum-told-3
-enum-told-3 c = search needs
+enum-told-3 c = c .match .keys3
 
 pattern-cones-requires : tie.Need-pattern-cones-requires
 pattern-cones-requires c κs =
@@ -107,7 +107,7 @@ pattern-cones-requires c κs =
     ((ok, s .pre .0 .1), omega (arith, ap length (words-standard (c .before)), standard-words p (a .i) (a .row) (a .k), s .pre .1 .1))
 
 enum-told-4 : tie.Need-enum-told-4
-enum-told-4 c = search needs
+enum-told-4 c = c .match .keys4
 
 pattern-cones-requires-2 : tie.Need-pattern-cones-requires-2
 pattern-cones-requires-2 c κs =
@@ -118,18 +118,23 @@ pattern-cones-requires-2 c κs =
     ((ok, s .pre .0 .1), omega (arith, ap length (words-compact (c .before)), compact-words p (a .i) (a .row) (a .k), s .pre .1 .1))
 
 enum-told-5 : tie.Need-enum-told-5
-enum-told-5 c = search needs
+enum-told-5 c = c .match .keys5
 
-cut-entries-requires : tie.Need-cut-entries-requires
-cut-entries-requires c κs =
-    let s = c .before .before .before .before .before in
+cast-map-down : tie.Need-cast-map-down
+cast-map-down c = omega (arith, c .before .before .before .before .pre .0 .3)
+
+clique-count-requires : tie.Need-clique-count-requires
+clique-count-requires c κs = c .before .before .before .before .pre .0 .0
+
+map-down-requires : tie.Need-map-down-requires
+map-down-requires c κs =
+    let n = c .before in
+    let s = n .before .before .before .before .before in
     let a = s .args in
-    let p = patternAt (a .words .now) (a .at) in
-    let ok = s .pre .0 .0 in
-    ((ok, s .pre .0 .3), omega (arith, ap length (words-map (c .before)), map-words p (a .i) (a .row) (a .k), s .pre .1 .1))
+    omega (arith, n .clique-count .ensures, ap length (words-map (n .before)), map-words (patternAt (a .words .now) (a .at)) (a .i) (a .row) (a .k), s .pre .1 .1)
 
 same-length : tie.Need-same-length
-same-length c = search needs
+same-length c = c .before .before .standard-pattern-rows .kept .1 .1 .1 .0
 
 returns : tie.Need-returns
 returns c =
@@ -141,7 +146,7 @@ returns c =
     renamed _ (standardPatternRows p (a .row)) (rows-h (c .before .before .before .before)) _ _ _ (w .ensures .0 ∙ sym (standard-rows-count p ok (a .row))) (w .ensures .1)
 
 same-length-2 : tie.Need-same-length-2
-same-length-2 c = search needs
+same-length-2 c = c .before .before .compact-pattern-rows .kept .1 .1 .1 .1 .0
 
 returns-2 : tie.Need-returns-2
 returns-2 c =
@@ -153,7 +158,7 @@ returns-2 c =
     renamed _ (map cutCode (patternRows p (a .row) (a .t))) (rows-cut (c .before .before .before .before)) _ _ _ (w .ensures .0 ∙ sym ((length-map (patternRows p (a .row) (a .t)) cutCode ∙ rows-count p ok (a .row) (a .t)))) (w .ensures .1)
 
 same-length-3 : tie.Need-same-length-3
-same-length-3 c = search needs
+same-length-3 c = c .before .before .pattern-cones .kept .1 .1 .1 .0
 
 returns-3 : tie.Need-returns-3
 returns-3 c =
@@ -165,7 +170,7 @@ returns-3 c =
     renamed _ (standardPart (cut (a .i) (a .row) (a .k) p)) (words-standard (c .before .before .before .before)) _ _ _ (w .ensures .0 ∙ sym (standard-words p (a .i) (a .row) (a .k))) (w .ensures .1)
 
 same-length-4 : tie.Need-same-length-4
-same-length-4 c = search needs
+same-length-4 c = c .before .before .pattern-cones2 .kept .1 .1 .1 .0
 
 returns-4 : tie.Need-returns-4
 returns-4 c =
@@ -177,16 +182,17 @@ returns-4 c =
     renamed _ (compactPart (cut (a .i) (a .row) (a .k) p)) (words-compact (c .before .before .before .before)) _ _ _ (w .ensures .0 ∙ sym (compact-words p (a .i) (a .row) (a .k))) (w .ensures .1)
 
 same-length-5 : tie.Need-same-length-5
-same-length-5 c = search needs
+same-length-5 c = c .before .before .map-down .kept .1 .1 .1 .0
 
 returns-5 : tie.Need-returns-5
 returns-5 c =
-    let w = c .before .before .cut-entries in
-    let s = c .before .before .before .before .before .before .before .before in
-    let a = s .args in
+    let w = c .before .before .map-down in
+    let n = c .before .before .before .before in
+    let a = n .before .before .before .before .before .args in
     let p = patternAt (a .words .now) (a .at) in
-    let ok = s .pre .0 .0 in
-    renamed _ (mapWords (mapPart (cut (a .i) (a .row) (a .k) p))) (words-map (c .before .before .before .before)) _ _ _ (w .ensures .0 ∙ sym (map-words p (a .i) (a .row) (a .k))) (w .ensures .1)
+    renamed _ (mapWords (mapPart (cut (a .i) (a .row) (a .k) p))) (words-map (n .before)) _ _ _
+    (w .ensures .0 ∙ ap (λ (m : ℕ). m * 3) (n .clique-count .ensures) ∙ sym (map-words p (a .i) (a .row) (a .k)))
+    (w .ensures .1 ∙ ap (λ (m : ℕ). written (mapWords (map (blockOf (a .i) (a .k)) (reverse (below m)))) (a .out .now)) (n .clique-count .ensures))
 
 pub write-cut-spec : {M : Type 1} → statement M
 write-cut-spec =
@@ -202,7 +208,9 @@ write-cut-spec =
     enum-told-4
     pattern-cones-requires-2
     enum-told-5
-    cut-entries-requires
+    cast-map-down
+    clique-count-requires
+    map-down-requires
     same-length
     returns
     same-length-2

@@ -18,7 +18,6 @@ use Rattle.tables.specs.Tables.{tableOf, partCodes, codesFrom}
 use Rattle.tables.proofs.Codes.{codes-none, part-fits, wrote-part}
 use Rattle.tables.proofs.Tables.{table-is, few-part}
 use native.Mathlib.Omega.{arith}
-use borrow.Author.Needs.{needs}
 use Rattle.tables.proofs.write_table.Statement.{statement}
 use Rattle.tables.proofs.write_table.Tie as tie
 
@@ -121,7 +120,7 @@ next-requires : tie.Need-next-requires Inv-loop μ-loop
 next-requires c κs = c .loop .inv .4
 
 enum-known-met : tie.Need-enum-known-met Inv-loop μ-loop
-enum-known-met c = search needs
+enum-known-met c = c .match .keys1
 
 mul-write-whole : tie.Need-mul-write-whole Inv-loop μ-loop
 mul-write-whole c = omega (arith, fits-whole c, room (c .before .before .before .before .before .before .before .before .before))
@@ -164,7 +163,7 @@ loop-again c =
     (e .0, e .1, e .2, e .3, met-whole k .1 .5)
 
 enum-known-met-2 : tie.Need-enum-known-met-2 Inv-loop μ-loop
-enum-known-met-2 c = search needs
+enum-known-met-2 c = c .match .keys2
 
 mul-write-cut : tie.Need-mul-write-cut Inv-loop μ-loop
 mul-write-cut c = omega (arith, fits-cut c, room (c .before .before .before .before .before .before .before .before .before))
@@ -214,7 +213,7 @@ loop-again-2 c =
     (e .0, e .1, e .2, e .3, met-cut k .1 .6)
 
 enum-told : tie.Need-enum-told Inv-loop μ-loop
-enum-told c = search needs
+enum-told c = c .match .keys3
 
 same-length : tie.Need-same-length Inv-loop μ-loop
 same-length c = c .before .before .before .loop .inv .1

@@ -1,4 +1,5 @@
-use mathlib.Core.Path.{_≡_, ap, sym, _∙_}
+use mathlib.Core.Path.{_≡_, refl, ap, sym, _∙_}
+use mathlib.Core.List.{[]}
 use lib.ListN.{length, getD}
 use Rattle.layout.specs.Lists.{upFrom}
 use Rattle.layout.specs.Cones.{records}
@@ -6,6 +7,7 @@ use Rattle.layout.specs.Checks.{noCone}
 use Rattle.layout.specs.Compact.{coneWords, wholeCone, entryWords}
 use Rattle.layout.proofs.Members.{length-upFrom}
 use Rattle.tables.specs.Tables.{wholeCodes}
+use Rattle.tables.proofs.Laws.{three-more}
 use Rattle.tables.proofs.Codes.{renamed, whole-rows, whole-words, whole-map}
 use native.Mathlib.Omega.{arith}
 use borrow.Author.Needs.{needs}
@@ -49,13 +51,16 @@ copy-record-requires c κs =
 enum-told : tie.Need-enum-told
 enum-told c = c .match .keys3
 
-whole-entry-requires : tie.Need-whole-entry-requires
-whole-entry-requires c κs =
+cast-put : tie.Need-cast-put
+cast-put c = search needs
+
+put-requires : tie.Need-put-requires
+put-requires c κs =
     let s = c .before .before .before .before .before in
-    omega (arith, ap length (entry (c .before)), s .pre .0, s .pre .1)
+    omega (arith, ap length (entry (c .before)), s .pre .1)
 
 same-length : tie.Need-same-length
-same-length c = search needs
+same-length c = c .before .before .count-up .kept .0
 
 returns : tie.Need-returns
 returns c =
@@ -65,7 +70,7 @@ returns c =
     renamed _ (upFrom (a .row) (a .rows)) (rows k) _ _ _ (w .ensures .0 ∙ sym (length-upFrom (a .row) (a .rows))) (w .ensures .1)
 
 same-length-2 : tie.Need-same-length-2
-same-length-2 c = search needs
+same-length-2 c = c .before .before .copy-record .kept .1 .1 .0
 
 returns-2 : tie.Need-returns-2
 returns-2 c =
@@ -75,14 +80,15 @@ returns-2 c =
     renamed _ (coneWords (getD (records (a .cones .now)) (a .i) noCone)) (words k) _ _ _ (w .ensures .0) (w .ensures .1)
 
 same-length-3 : tie.Need-same-length-3
-same-length-3 c = search needs
+same-length-3 c = c .before .before .put .kept .0
 
 returns-3 : tie.Need-returns-3
 returns-3 c =
-    let w = c .before .before .whole-entry in
     let k = c .before .before .before .before in
-    let a = k .before .before .before .before .args in
-    renamed _ (entryWords (wholeCone (a .i))) (entry k) _ _ _ (w .ensures .0) (w .ensures .1)
+    let s = k .before .before .before .before in
+    let a = s .args in
+    renamed _ (entryWords (wholeCone (a .i))) (entry k) _ _ _ refl
+    (c .before .before .put .ensures ∙ three-more [] (a .out .now) (a .i) 4294967295 0 0 refl (omega (arith, ap length (entry k), s .pre .1)))
 
 pub write-whole-spec : {M : Type 1} → statement M
 write-whole-spec =
@@ -91,7 +97,8 @@ write-whole-spec =
     count-up-requires
     copy-record-requires
     enum-told
-    whole-entry-requires
+    cast-put
+    put-requires
     same-length
     returns
     same-length-2
