@@ -74,18 +74,18 @@ fn copy_record(cones: &[u32], i: usize, out: &mut [u32]) -> usize
     j
 }
 
-// What a whole cone writes: number i, from its first row on; how many words.
-fn write_whole(table: Table, i: usize, row: u32, rows: u32, cones: &[u32], out: &mut [u32]) -> usize
-    requires { ⌜ (rows ≡ rowCount (getD (records (now cones)) i noCone)) × (row + rows ≤ 65536) × (i < 1024) × (i * 3 + 3 ≤ length (now cones)) ⌝ }
-    requires { ⌜ length (wholeCodes table i (getD (records (now cones)) i noCone) row) ≤ length (now out) ⌝ }
-    ensures { λ r. ⌜ r ≡ length (wholeCodes table i (getD (records (now (cones .entry))) i noCone) row) ⌝ }
-    ensures { λ _. ⌜ now (out .exit) ≡ written (wholeCodes table i (getD (records (now (cones .entry))) i noCone) row) (now (out .entry)) ⌝ }
+// What the cone at a place writes, which is whole; how many words.
+fn write_whole(table: Table, place: Place, rows: u32, cones: &[u32], out: &mut [u32]) -> usize
+    requires { ⌜ (rows ≡ rowCount (getD (records (now cones)) (place .cone) noCone)) × (place .row + rows ≤ 65536) × (place .cone < 1024) × (place .cone * 3 + 3 ≤ length (now cones)) ⌝ }
+    requires { ⌜ length (wholeCodes table (place .cone) (getD (records (now cones)) (place .cone) noCone) (place .row)) ≤ length (now out) ⌝ }
+    ensures { λ r. ⌜ r ≡ length (wholeCodes table (place .cone) (getD (records (now (cones .entry))) (place .cone) noCone) (place .row)) ⌝ }
+    ensures { λ _. ⌜ now (out .exit) ≡ written (wholeCodes table (place .cone) (getD (records (now (cones .entry))) (place .cone) noCone) (place .row)) (now (out .entry)) ⌝ }
 {
     match table {
-        Table::HRows | Table::CutRows => count_up(out, row, rows),
-        Table::StandardCones | Table::CompactCones => copy_record(cones, i, out),
+        Table::HRows | Table::CutRows => count_up(out, place.row, rows),
+        Table::StandardCones | Table::CompactCones => copy_record(cones, place.cone, out),
         Table::ConeMap => {
-            put(out, 0, i as u32, NO_PATTERN, 0);
+            put(out, 0, place.cone as u32, NO_PATTERN, 0);
             3
         }
     }
@@ -173,29 +173,32 @@ fn map_down(cone: u32, pattern: u32, count: u32, out: &mut [u32]) -> usize
     t
 }
 
-// What cone i writes where pattern k at an offset cuts it, from its first row on; t words are written before. How many words.
+// What the cone at a place writes, which the pattern at an offset cuts; t words are written before. How many words.
 fn write_cut(
     table: Table,
-    i: usize,
-    row: u32,
-    k: u32,
+    place: Place,
     words: &[u32],
     at: usize,
     t: usize,
     out: &mut [u32],
 ) -> usize
-    requires { ⌜ RightPattern (patternAt (now words) at) × (patternAt (now words) at .vertexCount ≤ 256) × (row + triangle (patternAt (now words) at .vertexCount) ≤ 65536) × (i < 1024) ⌝ }
+    requires { ⌜ RightPattern (patternAt (now words) at) × (patternAt (now words) at .vertexCount ≤ 256) × (place .row + triangle (patternAt (now words) at .vertexCount) ≤ 65536) × (place .cone < 1024) ⌝ }
     requires { ⌜ Few table (t + blockRows (patternAt (now words) at)) ⌝ }
-    requires { ⌜ length (cutCodes table t i row k (patternAt (now words) at)) ≤ length (now out) ⌝ }
-    ensures { λ r. ⌜ r ≡ length (cutCodes table t i row k (patternAt (now (words .entry)) at)) ⌝ }
-    ensures { λ _. ⌜ now (out .exit) ≡ written (cutCodes table t i row k (patternAt (now (words .entry)) at)) (now (out .entry)) ⌝ }
+    requires { ⌜ length (cutCodes table t (place .cone) (place .row) (place .pattern) (patternAt (now words) at)) ≤ length (now out) ⌝ }
+    ensures { λ r. ⌜ r ≡ length (cutCodes table t (place .cone) (place .row) (place .pattern) (patternAt (now (words .entry)) at)) ⌝ }
+    ensures { λ _. ⌜ now (out .exit) ≡ written (cutCodes table t (place .cone) (place .row) (place .pattern) (patternAt (now (words .entry)) at)) (now (out .entry)) ⌝ }
 {
     match table {
-        Table::HRows => blocks::standard_pattern_rows(words, at, row, out),
-        Table::CutRows => overlaps::compact_pattern_rows(words, at, row, t as u32, out),
+        Table::HRows => blocks::standard_pattern_rows(words, at, place.row, out),
+        Table::CutRows => overlaps::compact_pattern_rows(words, at, place.row, t as u32, out),
         Table::StandardCones => pattern_cones(true, words, at, out),
         Table::CompactCones => pattern_cones(false, words, at, out),
-        Table::ConeMap => map_down(i as u32, k, clique_count(words, at), out),
+        Table::ConeMap => map_down(
+            place.cone as u32,
+            place.pattern,
+            clique_count(words, at),
+            out,
+        ),
     }
 }
 
@@ -222,20 +225,11 @@ pub fn write_table(
         let met = place.next(m, cones, words);
         match met {
             Met::Whole(rows, next) => {
-                t += write_whole(table, place.cone, place.row, rows, cones, &mut out[t..]);
+                t += write_whole(table, place, rows, cones, &mut out[t..]);
                 place = next;
             }
             Met::Cut(at, next) => {
-                t += write_cut(
-                    table,
-                    place.cone,
-                    place.row,
-                    place.pattern,
-                    words,
-                    at,
-                    t,
-                    &mut out[t..],
-                );
+                t += write_cut(table, place, words, at, t, &mut out[t..]);
                 place = next;
             }
             Met::Done => {

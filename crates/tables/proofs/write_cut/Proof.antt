@@ -25,42 +25,42 @@ use Rattle.tables.proofs.write_cut.Tie as tie
 rows-h : (c : tie.After-enum-told)
     → let a = c .before .before .before .before .args in
     let p = patternAt (a .words .now) (a .at) in
-    cutCodes (a .table) (a .t) (a .i) (a .row) (a .k) p ≡ standardPatternRows p (a .row)
+    cutCodes (a .table) (a .t) (a .place .cone) (a .place .row) (a .place .pattern) p ≡ standardPatternRows p (a .place .row)
 rows-h c =
     let a = c .before .before .before .before .args in
-    cut-h (a .table) (a .t) (a .i) (a .row) (a .k) (patternAt (a .words .now) (a .at)) (c .enum-told .given .1)
+    cut-h (a .table) (a .t) (a .place .cone) (a .place .row) (a .place .pattern) (patternAt (a .words .now) (a .at)) (c .enum-told .given .1)
 
 rows-cut : (c : tie.After-enum-told2)
     → let a = c .before .before .before .before .args in
     let p = patternAt (a .words .now) (a .at) in
-    cutCodes (a .table) (a .t) (a .i) (a .row) (a .k) p ≡ map cutCode (patternRows p (a .row) (a .t))
+    cutCodes (a .table) (a .t) (a .place .cone) (a .place .row) (a .place .pattern) p ≡ map cutCode (patternRows p (a .place .row) (a .t))
 rows-cut c =
     let a = c .before .before .before .before .args in
-    cut-cut (a .table) (a .t) (a .i) (a .row) (a .k) (patternAt (a .words .now) (a .at)) (c .enum-told2 .given .1)
+    cut-cut (a .table) (a .t) (a .place .cone) (a .place .row) (a .place .pattern) (patternAt (a .words .now) (a .at)) (c .enum-told2 .given .1)
 
 words-standard : (c : tie.After-enum-told3)
     → let a = c .before .before .before .before .args in
     let p = patternAt (a .words .now) (a .at) in
-    cutCodes (a .table) (a .t) (a .i) (a .row) (a .k) p ≡ standardPart (cut (a .i) (a .row) (a .k) p)
+    cutCodes (a .table) (a .t) (a .place .cone) (a .place .row) (a .place .pattern) p ≡ standardPart (cut (a .place .cone) (a .place .row) (a .place .pattern) p)
 words-standard c =
     let a = c .before .before .before .before .args in
-    cut-standard (a .table) (a .t) (a .i) (a .row) (a .k) (patternAt (a .words .now) (a .at)) (c .enum-told3 .given .1)
+    cut-standard (a .table) (a .t) (a .place .cone) (a .place .row) (a .place .pattern) (patternAt (a .words .now) (a .at)) (c .enum-told3 .given .1)
 
 words-compact : (c : tie.After-enum-told4)
     → let a = c .before .before .before .before .args in
     let p = patternAt (a .words .now) (a .at) in
-    cutCodes (a .table) (a .t) (a .i) (a .row) (a .k) p ≡ compactPart (cut (a .i) (a .row) (a .k) p)
+    cutCodes (a .table) (a .t) (a .place .cone) (a .place .row) (a .place .pattern) p ≡ compactPart (cut (a .place .cone) (a .place .row) (a .place .pattern) p)
 words-compact c =
     let a = c .before .before .before .before .args in
-    cut-compact (a .table) (a .t) (a .i) (a .row) (a .k) (patternAt (a .words .now) (a .at)) (c .enum-told4 .given .1)
+    cut-compact (a .table) (a .t) (a .place .cone) (a .place .row) (a .place .pattern) (patternAt (a .words .now) (a .at)) (c .enum-told4 .given .1)
 
 words-map : (c : tie.After-enum-told5)
     → let a = c .before .before .before .before .args in
     let p = patternAt (a .words .now) (a .at) in
-    cutCodes (a .table) (a .t) (a .i) (a .row) (a .k) p ≡ mapWords (mapPart (cut (a .i) (a .row) (a .k) p))
+    cutCodes (a .table) (a .t) (a .place .cone) (a .place .row) (a .place .pattern) p ≡ mapWords (mapPart (cut (a .place .cone) (a .place .row) (a .place .pattern) p))
 words-map c =
     let a = c .before .before .before .before .args in
-    cut-map (a .table) (a .t) (a .i) (a .row) (a .k) (patternAt (a .words .now) (a .at)) (c .enum-told5 .given .1)
+    cut-map (a .table) (a .t) (a .place .cone) (a .place .row) (a .place .pattern) (patternAt (a .words .now) (a .at)) (c .enum-told5 .given .1)
 
 few : (c : tie.After-enum-told2)
     → let a = c .before .before .before .before .args in
@@ -79,7 +79,7 @@ standard-pattern-rows-requires c κs =
     let a = s .args in
     let p = patternAt (a .words .now) (a .at) in
     let ok = s .pre .0 .0 in
-    (ok, ((s .pre .0 .1, s .pre .0 .2), omega (arith, ap length (rows-h (c .before)), standard-rows-count p ok (a .row), s .pre .1 .1)))
+    (ok, ((s .pre .0 .1, s .pre .0 .2), omega (arith, ap length (rows-h (c .before)), standard-rows-count p ok (a .place .row), s .pre .1 .1)))
 
 enum-told-2 : tie.Need-enum-told-2
 enum-told-2 c = c .match .keys2
@@ -93,7 +93,7 @@ compact-pattern-rows-requires c κs =
     let a = s .args in
     let p = patternAt (a .words .now) (a .at) in
     let ok = s .pre .0 .0 in
-    (ok, ((s .pre .0 .1, s .pre .0 .2), (few (c .before), omega (arith, ap length (rows-cut (c .before)), (length-map (patternRows p (a .row) (a .t)) cutCode ∙ rows-count p ok (a .row) (a .t)), s .pre .1 .1))))
+    (ok, ((s .pre .0 .1, s .pre .0 .2), (few (c .before), omega (arith, ap length (rows-cut (c .before)), (length-map (patternRows p (a .place .row) (a .t)) cutCode ∙ rows-count p ok (a .place .row) (a .t)), s .pre .1 .1))))
 
 enum-told-3 : tie.Need-enum-told-3
 enum-told-3 c = c .match .keys3
@@ -104,7 +104,7 @@ pattern-cones-requires c κs =
     let a = s .args in
     let p = patternAt (a .words .now) (a .at) in
     let ok = s .pre .0 .0 in
-    ((ok, s .pre .0 .1), omega (arith, ap length (words-standard (c .before)), standard-words p (a .i) (a .row) (a .k), s .pre .1 .1))
+    ((ok, s .pre .0 .1), omega (arith, ap length (words-standard (c .before)), standard-words p (a .place .cone) (a .place .row) (a .place .pattern), s .pre .1 .1))
 
 enum-told-4 : tie.Need-enum-told-4
 enum-told-4 c = c .match .keys4
@@ -115,23 +115,23 @@ pattern-cones-requires-2 c κs =
     let a = s .args in
     let p = patternAt (a .words .now) (a .at) in
     let ok = s .pre .0 .0 in
-    ((ok, s .pre .0 .1), omega (arith, ap length (words-compact (c .before)), compact-words p (a .i) (a .row) (a .k), s .pre .1 .1))
+    ((ok, s .pre .0 .1), omega (arith, ap length (words-compact (c .before)), compact-words p (a .place .cone) (a .place .row) (a .place .pattern), s .pre .1 .1))
 
 enum-told-5 : tie.Need-enum-told-5
 enum-told-5 c = c .match .keys5
 
 cast-map-down : tie.Need-cast-map-down
-cast-map-down c = omega (arith, c .before .before .before .before .pre .0 .3)
+cast-map-down c = omega (arith, c .before .before .before .before .before .pre .0 .3)
 
 clique-count-requires : tie.Need-clique-count-requires
-clique-count-requires c κs = c .before .before .before .before .pre .0 .0
+clique-count-requires c κs = c .before .before .before .before .before .pre .0 .0
 
 map-down-requires : tie.Need-map-down-requires
 map-down-requires c κs =
     let n = c .before in
-    let s = n .before .before .before .before .before in
+    let s = n .before .before .before .before .before .before in
     let a = s .args in
-    omega (arith, n .clique-count .ensures, ap length (words-map (n .before)), map-words (patternAt (a .words .now) (a .at)) (a .i) (a .row) (a .k), s .pre .1 .1)
+    omega (arith, n .clique-count .ensures, ap length (words-map (n .before .before)), map-words (patternAt (a .words .now) (a .at)) (a .place .cone) (a .place .row) (a .place .pattern), s .pre .1 .1)
 
 same-length : tie.Need-same-length
 same-length c = c .before .before .standard-pattern-rows .kept .1 .1 .1 .0
@@ -143,7 +143,7 @@ returns c =
     let a = s .args in
     let p = patternAt (a .words .now) (a .at) in
     let ok = s .pre .0 .0 in
-    renamed _ (standardPatternRows p (a .row)) (rows-h (c .before .before .before .before)) _ _ _ (w .ensures .0 ∙ sym (standard-rows-count p ok (a .row))) (w .ensures .1)
+    renamed _ (standardPatternRows p (a .place .row)) (rows-h (c .before .before .before .before)) _ _ _ (w .ensures .0 ∙ sym (standard-rows-count p ok (a .place .row))) (w .ensures .1)
 
 same-length-2 : tie.Need-same-length-2
 same-length-2 c = c .before .before .compact-pattern-rows .kept .1 .1 .1 .1 .0
@@ -155,7 +155,7 @@ returns-2 c =
     let a = s .args in
     let p = patternAt (a .words .now) (a .at) in
     let ok = s .pre .0 .0 in
-    renamed _ (map cutCode (patternRows p (a .row) (a .t))) (rows-cut (c .before .before .before .before)) _ _ _ (w .ensures .0 ∙ sym ((length-map (patternRows p (a .row) (a .t)) cutCode ∙ rows-count p ok (a .row) (a .t)))) (w .ensures .1)
+    renamed _ (map cutCode (patternRows p (a .place .row) (a .t))) (rows-cut (c .before .before .before .before)) _ _ _ (w .ensures .0 ∙ sym ((length-map (patternRows p (a .place .row) (a .t)) cutCode ∙ rows-count p ok (a .place .row) (a .t)))) (w .ensures .1)
 
 same-length-3 : tie.Need-same-length-3
 same-length-3 c = c .before .before .pattern-cones .kept .1 .1 .1 .0
@@ -167,7 +167,7 @@ returns-3 c =
     let a = s .args in
     let p = patternAt (a .words .now) (a .at) in
     let ok = s .pre .0 .0 in
-    renamed _ (standardPart (cut (a .i) (a .row) (a .k) p)) (words-standard (c .before .before .before .before)) _ _ _ (w .ensures .0 ∙ sym (standard-words p (a .i) (a .row) (a .k))) (w .ensures .1)
+    renamed _ (standardPart (cut (a .place .cone) (a .place .row) (a .place .pattern) p)) (words-standard (c .before .before .before .before)) _ _ _ (w .ensures .0 ∙ sym (standard-words p (a .place .cone) (a .place .row) (a .place .pattern))) (w .ensures .1)
 
 same-length-4 : tie.Need-same-length-4
 same-length-4 c = c .before .before .pattern-cones2 .kept .1 .1 .1 .0
@@ -179,7 +179,7 @@ returns-4 c =
     let a = s .args in
     let p = patternAt (a .words .now) (a .at) in
     let ok = s .pre .0 .0 in
-    renamed _ (compactPart (cut (a .i) (a .row) (a .k) p)) (words-compact (c .before .before .before .before)) _ _ _ (w .ensures .0 ∙ sym (compact-words p (a .i) (a .row) (a .k))) (w .ensures .1)
+    renamed _ (compactPart (cut (a .place .cone) (a .place .row) (a .place .pattern) p)) (words-compact (c .before .before .before .before)) _ _ _ (w .ensures .0 ∙ sym (compact-words p (a .place .cone) (a .place .row) (a .place .pattern))) (w .ensures .1)
 
 same-length-5 : tie.Need-same-length-5
 same-length-5 c = c .before .before .map-down .kept .1 .1 .1 .0
@@ -188,11 +188,11 @@ returns-5 : tie.Need-returns-5
 returns-5 c =
     let w = c .before .before .map-down in
     let n = c .before .before .before .before in
-    let a = n .before .before .before .before .before .args in
+    let a = n .before .before .before .before .before .before .args in
     let p = patternAt (a .words .now) (a .at) in
-    renamed _ (mapWords (mapPart (cut (a .i) (a .row) (a .k) p))) (words-map (n .before)) _ _ _
-    (w .ensures .0 ∙ ap (λ (m : ℕ). m * 3) (n .clique-count .ensures) ∙ sym (map-words p (a .i) (a .row) (a .k)))
-    (w .ensures .1 ∙ ap (λ (m : ℕ). written (mapWords (map (blockOf (a .i) (a .k)) (reverse (below m)))) (a .out .now)) (n .clique-count .ensures))
+    renamed _ (mapWords (mapPart (cut (a .place .cone) (a .place .row) (a .place .pattern) p))) (words-map (n .before .before)) _ _ _
+    (w .ensures .0 ∙ ap (λ (m : ℕ). m * 3) (n .clique-count .ensures) ∙ sym (map-words p (a .place .cone) (a .place .row) (a .place .pattern)))
+    (w .ensures .1 ∙ ap (λ (m : ℕ). written (mapWords (map (blockOf (a .place .cone) (a .place .pattern)) (reverse (below m)))) (a .out .now)) (n .clique-count .ensures))
 
 pub write-cut-spec : {M : Type 1} → statement M
 write-cut-spec =

@@ -1,4 +1,5 @@
 use Prim.Native.Nat.{ℕ, _≤_, _<_, _+_}
+use native.Mathlib.Nat.{le-trans}
 use mathlib.Core.Path.{_≡_, refl, ap, sym, _∙_}
 use mathlib.Core.List.{List, [], _∷_}
 use lib.ListN.{length, getD, take, drop, length-drop}
@@ -47,6 +48,9 @@ room s = omega (arith, ap length (same s), s .pre .1 .1)
 
 small : (l : tie.At-loop Inv-loop μ-loop) → length (fullOf (l .before .before .before .before .before)) < 18446744073709551616
 small l = omega (arith, room (l .before .before .before .before .before))
+
+inside : (l : tie.At-loop Inv-loop μ-loop) → l .loop .t ≤ length (l .loop .out)
+inside l = rw (l .loop .inv .1) (le-trans (l .loop .inv .0) (room (l .before .before .before .before .before)))
 
 -- a whole cone was met
 abbrev wholeOf : (c : tie.After-known-told Inv-loop μ-loop) → Part
@@ -123,16 +127,16 @@ enum-known-met : tie.Need-enum-known-met Inv-loop μ-loop
 enum-known-met c = c .match .keys1
 
 mul-write-whole : tie.Need-mul-write-whole Inv-loop μ-loop
-mul-write-whole c = omega (arith, fits-whole c, room (c .before .before .before .before .before .before .before .before .before))
+mul-write-whole c = omega (arith, inside (c .before .before .before .before))
 
 sub-write-whole : tie.Need-sub-write-whole Inv-loop μ-loop
-sub-write-whole c = omega (arith, fits-whole c, room (c .before .before .before .before .before .before .before .before .before))
+sub-write-whole c = inside (c .before .before .before .before)
 
 part-write-whole-start : tie.Need-part-write-whole-start Inv-loop μ-loop
-part-write-whole-start c = omega (arith, fits-whole c, room (c .before .before .before .before .before .before .before .before .before))
+part-write-whole-start c = inside (c .before .before .before .before)
 
 part-write-whole-end : tie.Need-part-write-whole-end Inv-loop μ-loop
-part-write-whole-end c = omega (arith, fits-whole c, room (c .before .before .before .before .before .before .before .before .before))
+part-write-whole-end c = omega (arith, inside (c .before .before .before .before))
 
 write-whole-requires : tie.Need-write-whole-requires Inv-loop μ-loop
 write-whole-requires c κs =
@@ -159,23 +163,23 @@ loop-again c =
     let s = l .before .before .before .before .before in
     let w = c .before .before .write-whole in
     let e = wrote-part (s .args .table) (fullOf s) (l .loop .t) (l .loop .inv .0) (wholeOf k) (aheadOf l) _ (l .loop .inv .3) (met-whole k .0)
-    (s .args .out .now) (l .loop .out) (w .last .1 .1 .1 .1 .1 .0) (room s) (l .loop .inv .1) (l .loop .inv .2) (w .result) (w .ensures .0) (w .ensures .1) in
+    (s .args .out .now) (l .loop .out) (w .last .1 .1 .1 .1 .0) (room s) (l .loop .inv .1) (l .loop .inv .2) (w .result) (w .ensures .0) (w .ensures .1) in
     (e .0, e .1, e .2, e .3, met-whole k .1 .5)
 
 enum-known-met-2 : tie.Need-enum-known-met-2 Inv-loop μ-loop
 enum-known-met-2 c = c .match .keys2
 
 mul-write-cut : tie.Need-mul-write-cut Inv-loop μ-loop
-mul-write-cut c = omega (arith, fits-cut c, room (c .before .before .before .before .before .before .before .before .before))
+mul-write-cut c = omega (arith, inside (c .before .before .before .before))
 
 sub-write-cut : tie.Need-sub-write-cut Inv-loop μ-loop
-sub-write-cut c = omega (arith, fits-cut c, room (c .before .before .before .before .before .before .before .before .before))
+sub-write-cut c = inside (c .before .before .before .before)
 
 part-write-cut-start : tie.Need-part-write-cut-start Inv-loop μ-loop
-part-write-cut-start c = omega (arith, fits-cut c, room (c .before .before .before .before .before .before .before .before .before))
+part-write-cut-start c = inside (c .before .before .before .before)
 
 part-write-cut-end : tie.Need-part-write-cut-end Inv-loop μ-loop
-part-write-cut-end c = omega (arith, fits-cut c, room (c .before .before .before .before .before .before .before .before .before))
+part-write-cut-end c = omega (arith, inside (c .before .before .before .before))
 
 write-cut-requires : tie.Need-write-cut-requires Inv-loop μ-loop
 write-cut-requires c κs =
@@ -209,7 +213,7 @@ loop-again-2 c =
     let s = l .before .before .before .before .before in
     let w = c .before .before .write-cut in
     let e = wrote-part (s .args .table) (fullOf s) (l .loop .t) (l .loop .inv .0) (cutOf k) (aheadOf l) _ (l .loop .inv .3) (met-cut k .0)
-    (s .args .out .now) (l .loop .out) (w .last .1 .1 .1 .1 .1 .1 .1 .0) (room s) (l .loop .inv .1) (l .loop .inv .2) (w .result) (w .ensures .0) (w .ensures .1) in
+    (s .args .out .now) (l .loop .out) (w .last .1 .1 .1 .1 .1 .0) (room s) (l .loop .inv .1) (l .loop .inv .2) (w .result) (w .ensures .0) (w .ensures .1) in
     (e .0, e .1, e .2, e .3, met-cut k .1 .6)
 
 enum-told : tie.Need-enum-told Inv-loop μ-loop

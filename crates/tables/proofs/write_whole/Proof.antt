@@ -17,31 +17,31 @@ use Rattle.tables.proofs.write_whole.Tie as tie
 -- what the cone writes, by the table
 rows : (c : tie.At-match-keys1)
     → let a = c .before .before .before .args in
-    wholeCodes (a .table) (a .i) (getD (records (a .cones .now)) (a .i) noCone) (a .row) ≡ upFrom (a .row) (a .rows)
+    wholeCodes (a .table) (a .place .cone) (getD (records (a .cones .now)) (a .place .cone) noCone) (a .place .row) ≡ upFrom (a .place .row) (a .rows)
 rows c =
     let s = c .before .before .before in
     let a = s .args in
-    whole-rows (a .i) (getD (records (a .cones .now)) (a .i) noCone) (a .row) (a .table) (c .match .keys1) ∙ ap (upFrom (a .row)) (sym (s .pre .0 .0))
+    whole-rows (a .place .cone) (getD (records (a .cones .now)) (a .place .cone) noCone) (a .place .row) (a .table) (c .match .keys1) ∙ ap (upFrom (a .place .row)) (sym (s .pre .0 .0))
 
 words : (c : tie.At-match-keys2)
     → let a = c .before .before .before .args in
-    wholeCodes (a .table) (a .i) (getD (records (a .cones .now)) (a .i) noCone) (a .row) ≡ coneWords (getD (records (a .cones .now)) (a .i) noCone)
+    wholeCodes (a .table) (a .place .cone) (getD (records (a .cones .now)) (a .place .cone) noCone) (a .place .row) ≡ coneWords (getD (records (a .cones .now)) (a .place .cone) noCone)
 words c =
     let a = c .before .before .before .args in
-    whole-words (a .i) (getD (records (a .cones .now)) (a .i) noCone) (a .row) (a .table) (c .match .keys2)
+    whole-words (a .place .cone) (getD (records (a .cones .now)) (a .place .cone) noCone) (a .place .row) (a .table) (c .match .keys2)
 
 entry : (c : tie.After-enum-told)
     → let a = c .before .before .before .before .args in
-    wholeCodes (a .table) (a .i) (getD (records (a .cones .now)) (a .i) noCone) (a .row) ≡ entryWords (wholeCone (a .i))
+    wholeCodes (a .table) (a .place .cone) (getD (records (a .cones .now)) (a .place .cone) noCone) (a .place .row) ≡ entryWords (wholeCone (a .place .cone))
 entry c =
     let a = c .before .before .before .before .args in
-    whole-map (a .i) (getD (records (a .cones .now)) (a .i) noCone) (a .row) (a .table) (c .enum-told .given .1)
+    whole-map (a .place .cone) (getD (records (a .cones .now)) (a .place .cone) noCone) (a .place .row) (a .table) (c .enum-told .given .1)
 
 count-up-requires : tie.Need-count-up-requires
 count-up-requires c κs =
     let s = c .before .before .before .before in
     let a = s .args in
-    omega (arith, ap length (rows (c .before)), length-upFrom (a .row) (a .rows), s .pre .0, s .pre .1)
+    omega (arith, ap length (rows (c .before)), length-upFrom (a .place .row) (a .rows), s .pre .0, s .pre .1)
 
 copy-record-requires : tie.Need-copy-record-requires
 copy-record-requires c κs =
@@ -56,8 +56,8 @@ cast-put c = search needs
 
 put-requires : tie.Need-put-requires
 put-requires c κs =
-    let s = c .before .before .before .before .before in
-    omega (arith, ap length (entry (c .before)), s .pre .1)
+    let k = c .before .before in
+    omega (arith, ap length (entry k), k .before .before .before .before .pre .1)
 
 same-length : tie.Need-same-length
 same-length c = c .before .before .count-up .kept .0
@@ -67,7 +67,7 @@ returns c =
     let w = c .before .before .count-up in
     let k = c .before .before .before .before in
     let a = k .before .before .before .args in
-    renamed _ (upFrom (a .row) (a .rows)) (rows k) _ _ _ (w .ensures .0 ∙ sym (length-upFrom (a .row) (a .rows))) (w .ensures .1)
+    renamed _ (upFrom (a .place .row) (a .rows)) (rows k) _ _ _ (w .ensures .0 ∙ sym (length-upFrom (a .place .row) (a .rows))) (w .ensures .1)
 
 same-length-2 : tie.Need-same-length-2
 same-length-2 c = c .before .before .copy-record .kept .1 .1 .0
@@ -77,18 +77,18 @@ returns-2 c =
     let w = c .before .before .copy-record in
     let k = c .before .before .before .before in
     let a = k .before .before .before .args in
-    renamed _ (coneWords (getD (records (a .cones .now)) (a .i) noCone)) (words k) _ _ _ (w .ensures .0) (w .ensures .1)
+    renamed _ (coneWords (getD (records (a .cones .now)) (a .place .cone) noCone)) (words k) _ _ _ (w .ensures .0) (w .ensures .1)
 
 same-length-3 : tie.Need-same-length-3
 same-length-3 c = c .before .before .put .kept .0
 
 returns-3 : tie.Need-returns-3
 returns-3 c =
-    let k = c .before .before .before .before in
+    let k = c .before .before .before .before .before in
     let s = k .before .before .before .before in
     let a = s .args in
-    renamed _ (entryWords (wholeCone (a .i))) (entry k) _ _ _ refl
-    (c .before .before .put .ensures ∙ three-more [] (a .out .now) (a .i) 4294967295 0 0 refl (omega (arith, ap length (entry k), s .pre .1)))
+    renamed _ (entryWords (wholeCone (a .place .cone))) (entry k) _ _ _ refl
+    (c .before .before .put .ensures ∙ three-more [] (a .out .now) (a .place .cone) 4294967295 0 0 refl (omega (arith, ap length (entry k), s .pre .1)))
 
 pub write-whole-spec : {M : Type 1} → statement M
 write-whole-spec =
