@@ -6,7 +6,7 @@ ghost use Rattle.layout.specs.Checks.{Sound};
 ghost use Rattle.layout.specs.Compact.{coneMap};
 ghost use Rattle.layout.specs.Answers.{joinedParts};
 ghost use Rattle.parts.specs.Ahead.{ahead, Stands};
-ghost use Rattle.cone_map.specs.Entries.{placed, meant, patternWord, cliqueWord, sameEntry};
+ghost use Rattle.cone_map.specs.Entries.{placed, meant, sameEntry};
 ghost use Rattle.cone_map.specs.Walking.{entriesFrom, unlessRefused, Valid, Compares};
 use parts::Met;
 use parts::Place;
@@ -24,26 +24,6 @@ pub struct ConeMapEntry {
 }
 
 impl TreeAndClique {
-    // The pattern's number, or the mark for none.
-    fn pattern_word(self) -> u32
-        ensures { λ r. ⌜ r ≡ patternWord self ⌝ }
-    {
-        match self {
-            TreeAndClique::None => ConeMapEntry::NONE,
-            TreeAndClique::In(pattern, _) => pattern,
-        }
-    }
-
-    // The clique's number, or 0.
-    fn clique_word(self) -> u32
-        ensures { λ r. ⌜ r ≡ cliqueWord self ⌝ }
-    {
-        match self {
-            TreeAndClique::None => 0,
-            TreeAndClique::In(_, clique) => clique,
-        }
-    }
-
     fn is_none(self) -> bool
         ensures { λ r. ⌜ r ≡ sameEntry (placed 0 TreeAndClique.None) (placed 0 self) ⌝ }
     {
@@ -78,9 +58,6 @@ impl TreeAndClique {
 }
 
 impl ConeMapEntry {
-    // the mark for none in the place of a pattern's number
-    pub const NONE: u32 = 4294967295;
-
     pub fn same(self, other: ConeMapEntry) -> bool
         ensures { λ r. ⌜ r ≡ sameEntry (meant self) (meant other) ⌝ }
     {
@@ -179,21 +156,21 @@ impl MapPlace {
     {
         if self.here {
             let entry = self.entry;
-            let at = entry.tree_and_clique;
-            let left = at.clique_word();
             let place = self.place;
-            if 0 < left {
-                let pattern = at.pattern_word();
-                let clique = left - 1;
-                return MapPlace {
-                    here: true,
-                    same: true,
-                    entry: ConeMapEntry {
-                        orig_index: entry.orig_index,
-                        tree_and_clique: TreeAndClique::In(pattern, clique),
-                    },
-                    place: place,
-                };
+            let at = entry.tree_and_clique;
+            if let TreeAndClique::In(pattern, left) = at {
+                if 0 < left {
+                    let clique = left - 1;
+                    return MapPlace {
+                        here: true,
+                        same: true,
+                        entry: ConeMapEntry {
+                            orig_index: entry.orig_index,
+                            tree_and_clique: TreeAndClique::In(pattern, clique),
+                        },
+                        place: place,
+                    };
+                }
             }
             return MapPlace::first(place, m, cones, words);
         }
