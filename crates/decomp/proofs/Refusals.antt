@@ -4,6 +4,7 @@ use mathlib.Core.Path.{_≡_, sym, ap, _∙_}
 use mathlib.Core.Bool.{Bool}
 use mathlib.Core.List.{List, [], _∷_}
 use lib.ListN.{length}
+use Rattle.layout.specs.Lists.{written}
 use Rattle.layout.specs.Problem.{Problem, Route}
 use Rattle.layout.specs.Blocks.{blockRowCount, overlapCount, coneCount}
 use Rattle.layout.specs.Checks.{layout, check8, check9, check10, firstFailing, refusal}
@@ -55,5 +56,10 @@ module _ (route : Route) (p : Problem) (ok : refusal route p ≡ 0) (rows overla
   pub counts-fit : Fitting route (p .n) (p .m) (length (p .A .values)) rows overlaps cones
   counts-fit = rw (e, f, g) (accepted-fitting route p ok)
 
-  pub counts-sizes : routeSizes route (p .n) (p .m) (length (p .P .values)) (length (p .A .values)) (length (p .alphas)) rows overlaps cones ≡ sizes route p
+  counts-sizes : routeSizes route (p .n) (p .m) (length (p .P .values)) (length (p .A .values)) (length (p .alphas)) rows overlaps cones ≡ sizes route p
   counts-sizes = rw (e, f, g) (sym (route-sizes route p ok))
+
+  pub sizes-written : {new : List ℕ} (old : List ℕ)
+      → new ≡ written (routeSizes route (p .n) (p .m) (length (p .P .values)) (length (p .A .values)) (length (p .alphas)) rows overlaps cones) old
+      → new ≡ written (sizes route p) old
+  sizes-written old w = w ∙ ap (λ (l : List ℕ). written l old) counts-sizes

@@ -1,5 +1,6 @@
 // The sizes on either route, and the refusals of the cut: 0 standard, 1 compact.
 ghost use mathlib.Core.Path.{_≡_};
+ghost use mathlib.Core.Bool.{cond};
 ghost use lib.ListN.{length};
 ghost use Rattle.layout.specs.Problem.{problem};
 ghost use Rattle.layout.specs.Answers.{output, onRoute, routeOf, roomy, sizesRefusal, sizes as sizesOf, cutRefusal};
@@ -85,21 +86,21 @@ pub fn sizes(
     0
 }
 
-// Check 11 of several outputs: what each needs, and the room that it has.
-fn rooms_right(needs: &[u32], rooms: &[usize]) -> bool
-    ensures { λ r. ⌜ r ≡ roomy (now (needs .entry)) (now (rooms .entry)) ⌝ }
+// Check 11 of several outputs, 11 or 0: what each needs, and the room that it has.
+fn check_rooms(needs: &[u32], rooms: &[usize]) -> u32
+    ensures { λ r. ⌜ r ≡ cond (roomy (now (needs .entry)) (now (rooms .entry))) 0 11 ⌝ }
 {
     let mut i = 0;
     while i < needs.len() {
         if rooms.len() <= i {
-            return false;
+            return 11;
         }
         if rooms[i] < needs[i] as usize {
-            return false;
+            return 11;
         }
         i += 1;
     }
-    true
+    0
 }
 
 // Checks 1 to 11 of the cut in order: the number of the first that fails, or 0.
@@ -145,8 +146,5 @@ pub fn refuse_cut(
     if r != 0 {
         return r;
     }
-    if rooms_right(&needs, rooms) {
-        return 0;
-    }
-    11
+    check_rooms(&needs, rooms)
 }

@@ -1,10 +1,5 @@
-use Prim.Native.Nat.{ℕ}
-use mathlib.Core.Path.{_≡_, sym, ap, _∙_}
-use mathlib.Core.Bool.{Bool, cond}
-use mathlib.Core.List.{List}
-use lib.ListN.{replicate}
+use mathlib.Core.Path.{_∙_}
 use Rattle.layout.specs.Problem.{Problem, problem}
-use Rattle.layout.specs.Answers.{output, onRoute, routeOf, roomy, sizes, sizesRefusal, cutRefusal}
 use Rattle.decomp.proofs.Rooms.{sizes-first, rooms-next}
 use borrow.Author.Needs.{needs}
 use Rattle.decomp.proofs.refuse_cut.Statement.{statement}
@@ -29,36 +24,21 @@ returns : tie.Need-returns
 returns c =
     let k = c .before .before in
     let s = start k in
-    let e = k .sizes .ensures .0 in
-    e ∙ sizes-first (s .args .route) (given s) (s .args .rooms .now) (λ z. c .if1 .taken (e ∙ z))
+    sizes-first (given s) (s .args .rooms .now) (s .args .route) (k .sizes .result) (k .sizes .ensures .0) (c .if1 .taken)
 
--- checks 1 to 10 passed
-passed : (c : tie.Else1) → let s = start (c .before .before) in onRoute (s .args .route) (λ rt. sizesRefusal rt (given s) 11) ≡ 0
-passed c = sym (c .before .before .sizes .ensures .0) ∙ c .if1 .left
+slice-aggregate-check-rooms : tie.Need-slice-aggregate-check-rooms
+slice-aggregate-check-rooms c = search needs
 
-slice-aggregate-rooms-right : tie.Need-slice-aggregate-rooms-right
-slice-aggregate-rooms-right c = search needs
-
-rooms-right-requires : tie.Need-rooms-right-requires
-rooms-right-requires c κs = search needs
-
--- the number that the rooms give
-by-rooms : (c : tie.After-rooms-right) → let s = start (c .before .before .before .before) in
-    onRoute (s .args .route) (λ rt. cutRefusal rt (given s) (s .args .rooms .now)) ≡ cond (c .rooms-right .result) 0 11
-by-rooms c =
-    let k = c .before .before .before .before in
-    let s = start k in
-    let route = routeOf (s .args .route) in
-    let needed : k .sizes .last .1 .1 .1 .1 .1 .1 .1 .1 .1 .1 .1 .1 .1 .1 .1 .0 ≡ sizes route (given s) =
-    k .sizes .ensures .1 ∙ ap (λ (r : ℕ). output r (sizes route (given s)) (replicate 11 0)) (c .before .before .if1 .left) in
-    rooms-next (s .args .route) (given s) (s .args .rooms .now) (passed (c .before .before))
-    ∙ ap (λ (t : Bool). cond t 0 11) (sym (c .rooms-right .ensures ∙ ap (λ (ks : List ℕ). roomy ks (s .args .rooms .now)) needed))
+check-rooms-requires : tie.Need-check-rooms-requires
+check-rooms-requires c κs = search needs
 
 returns-2 : tie.Need-returns-2
-returns-2 c = sym (by-rooms (c .before) ∙ ap (λ (t : Bool). cond t 0 11) (c .if2 .taken))
-
-returns-3 : tie.Need-returns-3
-returns-3 c = sym (by-rooms (c .before) ∙ ap (λ (t : Bool). cond t 0 11) (c .if2 .left))
+returns-2 c =
+    let e = c .before .before in
+    let k = e .before .before in
+    let s = start k in
+    c .check-rooms .ensures
+    ∙ rooms-next (given s) (s .args .rooms .now) (s .args .route) (k .sizes .result) _ (k .sizes .ensures .0) (e .if1 .left) (k .sizes .ensures .1)
 
 pub refuse-cut-spec : {M : Type 1} → statement M
 refuse-cut-spec =
@@ -67,7 +47,6 @@ refuse-cut-spec =
     slice-aggregate-sizes
     sizes-requires
     returns
-    slice-aggregate-rooms-right
-    rooms-right-requires
-    returns-2
-    returns-3)
+    slice-aggregate-check-rooms
+    check-rooms-requires
+    returns-2)

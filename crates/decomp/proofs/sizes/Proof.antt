@@ -1,14 +1,13 @@
 use Prim.Native.Nat.{ℕ, _≤_}
 use native.Mathlib.Nat.{le-trans}
 use native.Mathlib.Omega.{arith}
-use mathlib.Core.Path.{_≡_, refl, sym, ap, _∙_}
-use mathlib.Core.List.{List}
+use mathlib.Core.Path.{_≡_, refl, sym, _∙_}
 use lib.ListN.{length}
 use lib.Dec.{ltb, lit≤}
 use mir.Syntax.{w32}
 use mir.Val.{Fits}
 use borrow.Author.Tests.{le-leb, lt-leb}
-use Rattle.layout.specs.Lists.{all, below, rises, written}
+use Rattle.layout.specs.Lists.{all, below, rises}
 use Rattle.layout.specs.Problem.{Problem, problem}
 use Rattle.layout.specs.Checks.{Checked, columnRows, refusal}
 use Rattle.layout.specs.Answers.{problemRefusal, routeOf}
@@ -17,7 +16,7 @@ use Rattle.layout.proofs.Accepted.{accepted-checked}
 use Rattle.layout.proofs.Buffers.{output-kept}
 use Rattle.checks.proofs.Checked.{problem-checked}
 use Rattle.decomp.proofs.Answers.{no-route, few-alphas}
-use Rattle.decomp.proofs.Refusals.{stopped-early, stopped-late, by-room, accepted, counts-fit, counts-sizes}
+use Rattle.decomp.proofs.Refusals.{stopped-early, stopped-late, by-room, accepted, counts-fit, sizes-written}
 use Rattle.decomp.proofs.sizes.Statement.{statement}
 use Rattle.decomp.proofs.sizes.Tie as tie
 
@@ -126,8 +125,7 @@ returns-5 c =
     let r = d .get-decomposed-dim-and-overlaps .result in
     let g = d .get-decomposed-dim-and-overlaps .ensures in (
       sym (by-room (s .args .route) (given s) (length (s .args .out .now)) (e .if1 .left) (ok k) ∙ rw (le-leb 11 (length (s .args .out .now)) (w .before .before .if4 .left))),
-      w .write-sizes .ensures
-          ∙ ap (λ (l : List ℕ). written l (s .args .out .now)) (counts-sizes (routeOf (s .args .route)) (given s) (ok k) (r .rows) (r .overlaps) (r .cones) (g .0) (g .1 .0) (g .1 .1)),
+      sizes-written (routeOf (s .args .route)) (given s) (ok k) (r .rows) (r .overlaps) (r .cones) (g .0) (g .1 .0) (g .1 .1) (s .args .out .now) (w .write-sizes .ensures),
     )
 
 pub sizes-spec : {M : Type 1} → statement M

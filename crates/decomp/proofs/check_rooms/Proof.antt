@@ -1,12 +1,13 @@
 use Prim.Native.Nat.{_≤_, _-_}
-use mathlib.Core.Path.{_≡_, sym, _∙_}
+use mathlib.Core.Path.{_≡_, sym, ap, _∙_}
+use mathlib.Core.Bool.{Bool, cond}
 use lib.ListN.{length, drop}
 use Rattle.layout.specs.Answers.{roomy}
 use Rattle.decomp.proofs.Rooms.{room-step, room-less, room-missing, room-done}
 use native.Mathlib.Omega.{arith}
 use borrow.Author.Needs.{needs}
-use Rattle.decomp.proofs.rooms_right.Statement.{statement}
-use Rattle.decomp.proofs.rooms_right.Tie as tie
+use Rattle.decomp.proofs.check_rooms.Statement.{statement}
+use Rattle.decomp.proofs.check_rooms.Tie as tie
 
 abbrev Inv-loop : tie.InvT-loop
 Inv-loop ks rs i₀ i = (i ≤ length ks) × (roomy ks rs ≡ roomy (drop i ks) (drop i rs))
@@ -21,7 +22,7 @@ returns : tie.Need-returns Inv-loop μ-loop
 returns c =
     let b = c .before .before in
     let a = b .before .args in
-    sym (b .loop .inv .1 ∙ room-missing (a .needs .now) (a .rooms .now) (b .loop .i) (c .before .loop-test .taken) (c .if1 .taken))
+    sym (ap (λ (t : Bool). cond t 0 11) (b .loop .inv .1 ∙ room-missing (a .needs .now) (a .rooms .now) (b .loop .i) (c .before .loop-test .taken) (c .if1 .taken)))
 
 mul-if2 : tie.Need-mul-if2 Inv-loop μ-loop
 mul-if2 c = search needs
@@ -42,7 +43,7 @@ returns-2 : tie.Need-returns-2 Inv-loop μ-loop
 returns-2 c =
     let b = c .before .before .before .before .before in
     let a = b .before .args in
-    sym (b .loop .inv .1 ∙ room-less (a .needs .now) (a .rooms .now) (b .loop .i) (omega arith) (omega arith) (c .if2 .taken))
+    sym (ap (λ (t : Bool). cond t 0 11) (b .loop .inv .1 ∙ room-less (a .needs .now) (a .rooms .now) (b .loop .i) (omega arith) (omega arith) (c .if2 .taken)))
 
 add-i : tie.Need-add-i Inv-loop μ-loop
 add-i c = search needs
@@ -60,10 +61,10 @@ returns-3 : tie.Need-returns-3 Inv-loop μ-loop
 returns-3 c =
     let b = c .before in
     let a = b .before .args in
-    sym (b .loop .inv .1 ∙ room-done (a .needs .now) (a .rooms .now) (b .loop .i) (c .loop-test .left))
+    sym (ap (λ (t : Bool). cond t 0 11) (b .loop .inv .1 ∙ room-done (a .needs .now) (a .rooms .now) (b .loop .i) (c .loop-test .left)))
 
-pub rooms-right-spec : {M : Type 1} → statement M
-rooms-right-spec =
+pub check-rooms-spec : {M : Type 1} → statement M
+check-rooms-spec =
     tie.close
     (tie.spec
     Inv-loop
