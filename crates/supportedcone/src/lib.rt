@@ -52,28 +52,22 @@ impl SupportedCone {
         if second != 0 {
             return ReadCone::Bad;
         }
-        if kind == SupportedCone::ZERO {
-            return ReadCone::Is(SupportedCone::ZeroConeT(first));
+        match kind {
+            SupportedCone::ZERO => ReadCone::Is(SupportedCone::ZeroConeT(first)),
+            SupportedCone::NONNEGATIVE => ReadCone::Is(SupportedCone::NonnegativeConeT(first)),
+            SupportedCone::SECOND_ORDER => ReadCone::Is(SupportedCone::SecondOrderConeT(first)),
+            SupportedCone::PSD_TRIANGLE => ReadCone::Is(SupportedCone::PSDTriangleConeT(first)),
+            _ => {
+                if first != 0 {
+                    return ReadCone::Bad;
+                }
+                match kind {
+                    SupportedCone::EXPONENTIAL => ReadCone::Is(SupportedCone::ExponentialConeT),
+                    SupportedCone::POWER => ReadCone::Is(SupportedCone::PowerConeT(alpha)),
+                    _ => ReadCone::Bad,
+                }
+            }
         }
-        if kind == SupportedCone::NONNEGATIVE {
-            return ReadCone::Is(SupportedCone::NonnegativeConeT(first));
-        }
-        if kind == SupportedCone::SECOND_ORDER {
-            return ReadCone::Is(SupportedCone::SecondOrderConeT(first));
-        }
-        if kind == SupportedCone::PSD_TRIANGLE {
-            return ReadCone::Is(SupportedCone::PSDTriangleConeT(first));
-        }
-        if first != 0 {
-            return ReadCone::Bad;
-        }
-        if kind == SupportedCone::EXPONENTIAL {
-            return ReadCone::Is(SupportedCone::ExponentialConeT);
-        }
-        if kind == SupportedCone::POWER {
-            return ReadCone::Is(SupportedCone::PowerConeT(alpha));
-        }
-        ReadCone::Bad
     }
 
     // How many rows the cone has.
@@ -97,13 +91,9 @@ impl SupportedCone {
         ensures { λ r. ⌜ r ≡ alphaCount (recordOf self) ⌝ }
     {
         match self {
-            SupportedCone::ZeroConeT(_) => 0,
-            SupportedCone::NonnegativeConeT(_) => 0,
-            SupportedCone::SecondOrderConeT(_) => 0,
-            SupportedCone::ExponentialConeT => 0,
             SupportedCone::PowerConeT(_) => 1,
             SupportedCone::GenPowerConeT(alphas, _) => alphas,
-            SupportedCone::PSDTriangleConeT(_) => 0,
+            _ => 0,
         }
     }
 }
