@@ -87,14 +87,6 @@ pub fn rows_right(m: u32, n: u32, starts: &[u32], rows: &[u32], values: &[f64]) 
     columns_rise(n, starts, rows)
 }
 
-// How many entries a matrix that passes check 2 has: its last start.
-pub fn nnz(n: u32, starts: &[u32], rows: &[u32], values: &[f64]) -> u32
-    requires { ⌜ T (startsRight n (matrix (now starts) (now rows) (now values))) ⌝ }
-    ensures { λ r. ⌜ r ≡ length (now (values .entry)) ⌝ }
-{
-    starts[n as usize]
-}
-
 // Copies src to the front of out.
 pub fn copy_numbers(out: &mut [u32], src: &[u32])
     requires { ⌜ length (now src) ≤ length (now out) ⌝ }
@@ -144,15 +136,6 @@ pub fn fill_values(out: &mut [f64], k: usize, v: f64)
 }
 
 // Writes src and then v, k times.
-fn extend_numbers(out: &mut [u32], src: &[u32], k: usize, v: u32)
-    requires { ⌜ length (now src) + k ≤ length (now out) ⌝ }
-    ensures { λ _. ⌜ now (out .exit) ≡ written (now (src .entry) ++ replicate k v) (now (out .entry)) ⌝ }
-{
-    copy_numbers(&mut *out, src);
-    fill_numbers(&mut out[src.len()..], k, v);
-}
-
-// Writes src and then v, k times.
 pub fn extend_values(out: &mut [f64], src: &[f64], k: usize, v: f64)
     requires { ⌜ length (now src) + k ≤ length (now out) ⌝ }
     ensures { λ _. ⌜ now (out .exit) ≡ written (now (src .entry) ++ replicate k v) (now (out .entry)) ⌝ }
@@ -161,7 +144,7 @@ pub fn extend_values(out: &mut [f64], src: &[f64], k: usize, v: f64)
     fill_values(&mut out[src.len()..], k, v);
 }
 
-// Writes the starts of a matrix that passes check 2, with k empty columns more.
+// Writes the starts of a matrix that passes check 2, with k empty columns more: each ends where the last one does.
 pub fn extend_starts(
     out: &mut [u32],
     n: u32,
@@ -174,6 +157,6 @@ pub fn extend_starts(
     requires { ⌜ length (now starts) + k ≤ length (now out) ⌝ }
     ensures { λ _. ⌜ now (out .exit) ≡ written (extendedP k (matrix (now (starts .entry)) (now (rows .entry)) (now (values .entry))) .starts) (now (out .entry)) ⌝ }
 {
-    let end = nnz(n, starts, rows, values);
-    extend_numbers(out, starts, k, end);
+    copy_numbers(&mut *out, starts);
+    fill_numbers(&mut out[starts.len()..], k, starts[n as usize]);
 }
