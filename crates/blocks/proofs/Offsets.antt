@@ -20,9 +20,9 @@ use Rattle.supernode_tree.specs.Reads.{whole, valueOr, Whole, cliquesFrom, patt
 use Rattle.supernode_tree.specs.Offsets.{OffsetsOf}
 use Rattle.supernode_tree.specs.declared.Pattern.{Pattern as PatternHead}
 use Rattle.supernode_tree.specs.declared.PatternRead.{PatternRead}
-use Rattle.supernode_tree.specs.declared.PatternRead.the-variants.{Pattern as Found, Short}
+use Rattle.supernode_tree.specs.declared.PatternRead.the-variants.{Pattern as Found}
 use Rattle.supernode_tree.proofs.Words.{head-found}
-use Rattle.supernode_tree.proofs.Cliques.{no-head, no-cliques, pattern-whole}
+use Rattle.supernode_tree.proofs.Cliques.{no-cliques, pattern-whole}
 use Rattle.blocks.specs.Vertices.{sortedOf}
 use Rattle.blocks.specs.Cliques.{cliqueHere, verticesHere, rowsHere, Stands, Standing}
 use Rattle.blocks.specs.Codes.{standardPatternRows}
@@ -107,10 +107,6 @@ no-tree : (p : Pattern) → RightPattern p → p ≡ noPattern → ⊥
 no-tree p ok e = subst (λ (q : Pattern). T (treeRight q)) e (ok .tree)
 
 module _ (ws : List ℕ) (at : ℕ) (r : PatternRead) (ok : RightPattern (patternAt ws at)) (e : patternRead ws r ≡ readHead (drop at ws)) where
-  -- it is there
-  pub not-short : r ≡ Short → ⊥
-  not-short f = no-tree (patternAt ws at) ok (no-head ws at (sym e ∙ ap (patternRead ws) f))
-
   module _ (q : PatternHead) (f : r ≡ Found q) where
     abbrev k : ℕ
     k = q .«clique_count»
