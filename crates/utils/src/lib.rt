@@ -4,10 +4,10 @@ ghost use Prim.Native.Nat.{_≤_, _<_};
 ghost use mathlib.Core.Bool.{true, false};
 ghost use lib.ListN.{length, replicate};
 ghost use lib.Dec.{ltb};
-ghost use Rattle.layout.specs.Lists.{all, distinct, keep, Below};
+ghost use Rattle.layout.specs.Lists.{all, Below};
 ghost use Rattle.layout.specs.Checks.{isPermutation};
 ghost use Rattle.layout.specs.Answers.{output, inverse as inverseOf, inverseRefusal};
-ghost use Rattle.utils.specs.Windows.{within, MarksMore};
+ghost use Rattle.utils.specs.Windows.{MarksMore};
 ghost use Rattle.utils.specs.Scattered.{scattered};
 
 // ---- each number below the length once
@@ -46,14 +46,6 @@ pub fn mark(words: &[u32], low: usize, marks: &mut [bool]) -> bool
     true
 }
 
-// No number of the window stands twice in the words: the window starts at low and has a mark for each number.
-fn once_within(words: &[u32], low: usize, marks: &mut [bool]) -> bool
-    ensures { λ r. ⌜ r ≡ distinct (keep (within low (length (now (marks .entry)))) (now (words .entry))) ⌝ }
-{
-    clear(&mut *marks);
-    mark(words, low, marks)
-}
-
 // Whether every number of the words is below n.
 pub fn all_below(words: &[u32], n: usize) -> bool
     ensures { λ r. ⌜ r ≡ all (λ x. ltb x n) (now (words .entry)) ⌝ }
@@ -80,7 +72,8 @@ fn permutation_by(words: &[u32], marks: &mut [bool]) -> bool
     }
     let mut low = 0;
     loop {
-        if !once_within(words, low, &mut *marks) {
+        clear(&mut *marks);
+        if !mark(words, low, &mut *marks) {
             return false;
         }
         if n - low <= marks.len() {

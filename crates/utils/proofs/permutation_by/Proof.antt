@@ -1,6 +1,8 @@
-use Rattle.utils.proofs.Windows.{window-none, window-more, repeats-within, windows-all}
+use Rattle.utils.proofs.Windows.{marked-none, window-none, window-more, repeats-within, windows-all}
 use Rattle.layout.proofs.Tests.{passes, and-true, and-false, and-right}
 use Rattle.layout.specs.Lists.{all, keep, distinct}
+use Rattle.utils.specs.Windows.{within}
+use mathlib.Core.List.{[]}
 use lib.ListN.{length}
 use lib.Dec.{T, ltb}
 use borrow.Author.Tests.{not-true, not-false}
@@ -17,6 +19,18 @@ Inv-loop words marks₀ n low₀ marks low = (low ≤ length words) × (length m
 abbrev μ-loop : tie.MeasureT-loop
 μ-loop words marks₀ n low₀ marks low = length words - low
 
+-- as many marks as before
+size : (m : tie.After-mark Inv-loop μ-loop) → length (m .mark .last .1 .1 .0) ≡ length (m .before .before .before .before .before .before .loop .marks)
+size m = m .mark .kept .1 .1 .0 ∙ m .before .before .before .before .clear .kept .0
+
+-- whether no number of the window stands twice
+once : (m : tie.After-mark Inv-loop μ-loop) → let l = m .before .before .before .before .before .before in
+    m .mark .result ≡ distinct (keep (within (l .loop .low) (length (l .loop .marks))) (l .before .before .before .before .before .args .words .now))
+once m =
+    let k = m .before .before .before .before in
+    let l = k .before .before in
+    rw (k .clear .kept .0) at (m .mark .ensures [] (rw (k .clear .ensures) (marked-none (l .loop .low) (length (l .loop .marks)))) tt .0)
+
 all-below-requires : tie.Need-all-below-requires Inv-loop μ-loop
 all-below-requires c κs = search needs
 
@@ -26,34 +40,37 @@ returns c = sym (and-false _ _ (sym (c .before .all-below .ensures) ∙ not-true
 loop-holds : tie.Need-loop-holds Inv-loop μ-loop
 loop-holds c = (omega arith, refl, window-none (c .before .before .before .before .args .words .now))
 
-once-within-requires : tie.Need-once-within-requires Inv-loop μ-loop
-once-within-requires c κs = search needs
+clear-requires : tie.Need-clear-requires Inv-loop μ-loop
+clear-requires c κs = tt
+
+mark-requires : tie.Need-mark-requires Inv-loop μ-loop
+mark-requires c κs = tt
 
 same-length : tie.Need-same-length Inv-loop μ-loop
-same-length c = search needs
+same-length c = let m = c .before .before .before in size m ∙ m .before .before .before .before .before .before .loop .inv .1
 
 returns-2 : tie.Need-returns-2 Inv-loop μ-loop
 returns-2 c =
-    let w = c .before .before .before in
-    let ws = w .before .before .before .before .before .before .before .args .words .now in
-    sym (and-right (all (λ x. ltb x (length ws)) ws) (distinct ws) (repeats-within _ ws (sym (w .once-within .ensures) ∙ not-true _ (c .if2 .taken))))
+    let m = c .before .before .before in
+    let ws = m .before .before .before .before .before .before .before .before .before .before .before .args .words .now in
+    sym (and-right (all (λ x. ltb x (length ws)) ws) (distinct ws) (repeats-within _ ws (sym (once m) ∙ not-true _ (c .if2 .taken))))
 
 sub-if3 : tie.Need-sub-if3 Inv-loop μ-loop
-sub-if3 c = search needs
+sub-if3 c = c .before .before .before .before .before .before .before .before .before .loop .inv .0
 
 same-length-2 : tie.Need-same-length-2 Inv-loop μ-loop
-same-length-2 c = search needs
+same-length-2 c = let m = c .before .before .before .before in size m ∙ m .before .before .before .before .before .before .loop .inv .1
 
 returns-3 : tie.Need-returns-3 Inv-loop μ-loop
 returns-3 c =
-    let w = c .before .before .before .before in
-    let l = w .before .before in
+    let m = c .before .before .before .before in
+    let l = m .before .before .before .before .before .before in
     let a = l .before .before in
     let ws = a .before .before .before .args .words .now in
     let all-in = sym (a .all-below .ensures) ∙ not-false _ (l .before .if1 .left) in
-    let once = passes _ (sym (w .once-within .ensures) ∙ not-false _ (c .before .if2 .left)) in
     sym (and-true _ _ all-in
-    ∙ windows-all (length ws) (l .loop .low + length (l .loop .marks)) ws all-in (omega arith) (window-more (l .loop .low) (length (l .loop .marks)) ws (l .loop .inv .2) once))
+    ∙ windows-all (length ws) (l .loop .low + length (l .loop .marks)) ws all-in (omega (arith, size m))
+    (window-more (l .loop .low) (length (l .loop .marks)) ws (l .loop .inv .2) (passes _ (sym (once m) ∙ not-false _ (c .before .if2 .left)))))
 
 add-low : tie.Need-add-low Inv-loop μ-loop
 add-low c = search needs
@@ -63,12 +80,13 @@ loop-less c = search needs
 
 loop-again : tie.Need-loop-again Inv-loop μ-loop
 loop-again c =
-    let w = c .before .before .before .before in
-    let l = w .before .before in
-    let ws = l .before .before .before .before .before .args .words .now in
-    let once = passes _ (sym (w .once-within .ensures) ∙ not-false _ (c .before .if2 .left)) in
-    let e : length (w .once-within .last .1 .1 .0) ≡ length (l .loop .marks) = omega arith in
-    (omega arith, omega arith, rw e (window-more (l .loop .low) (length (l .loop .marks)) ws (l .loop .inv .2) once))
+    let m = c .before .before .before .before in
+    let l = m .before .before .before .before .before .before in
+    let ws = l .before .before .before .before .before .args .words .now in (
+      omega (arith, size m),
+      size m ∙ l .loop .inv .1,
+      rw (size m) (window-more (l .loop .low) (length (l .loop .marks)) ws (l .loop .inv .2) (passes _ (sym (once m) ∙ not-false _ (c .before .if2 .left)))),
+    )
 
 pub permutation-by-spec : {M : Type 1} → statement M
 permutation-by-spec =
@@ -79,7 +97,8 @@ permutation-by-spec =
     all-below-requires
     returns
     loop-holds
-    once-within-requires
+    clear-requires
+    mark-requires
     same-length
     returns-2
     sub-if3
