@@ -82,9 +82,7 @@ pub fn clique_count(words: &[u32], at: usize) -> u32
     requires { ⌜ RightPattern (patternAt (now words) at) ⌝ }
     ensures { λ r. ⌜ r ≡ cliqueCount (patternAt (now (words .entry)) at) ⌝ }
 {
-    let supernode_tree::PatternRead::Pattern(p) = supernode_tree::Pattern::read(words, at) else {
-        return 0;
-    };
+    let p = supernode_tree::Pattern::here(words, at);
     p.clique_count
 }
 
