@@ -23,7 +23,7 @@ use Rattle.layout.proofs.Pairs.{place-says, place-mono}
 use Rattle.blocks.specs.Vertices.{isMarked}
 use Rattle.blocks.specs.Columns.{columnPairs}
 use Rattle.blocks.proofs.Columns.{rises-le}
-use Rattle.parent_rows.specs.Places.{Places, Climbing, tieCode, placeCode}
+use Rattle.parent_rows.specs.Places.{Places, Climbing, tieCode, placeCode, tiedEntry}
 
 -- ---- noting
 
@@ -110,43 +110,59 @@ module _ (vs places : List ℕ) (rising : T (rises vs)) (ps : Places vs places) 
 
 module _ (places : List ℕ) (base start v c : ℕ) (l : v ≤ c) where
   -- a vertex without a place makes no tie
-  pub code-own : getD places c 0 ≡ 0 → placeCode places base start (pair v c) ≡ base + pairIndex v c
+  code-own : getD places c 0 ≡ 0 → placeCode places base start (pair v c) ≡ base + pairIndex v c
   code-own e = cond-failed (isMarked places v && isMarked places c) _ _
       (λ h. subst (λ (k : ℕ). T (not (eqb k 0))) e (and-iff (isMarked places v) (isMarked places c) .0 h .1))
 
   -- one with a place, as code computes it
-  pub code-tied : Climbing places → 0 < getD places c 0
+  code-tied : Climbing places → (place : ℕ) → getD places c 0 ≡ suc place
       → placeCode places base start (pair v c)
-      ≡ cond (eqb (getD places v 0) 0) (base + c * (c + 1) / 2 + v) (65536 + start + (getD places c 0 - 1) * (getD places c 0 - 1 + 1) / 2 + (getD places v 0 - 1))
-  code-tied up h =
+      ≡ cond (eqb (getD places v 0) 0) (base + c * (c + 1) / 2 + v) (65536 + start + place * (place + 1) / 2 + (getD places v 0 - 1))
+  code-tied up place h =
       let m : isMarked places c ≡ true = ap not (ne-eqb (getD places c 0) 0 (λ e. omega arith)) in
-      rw m (go (ℕ-discrete (getD places v 0) 0))
+      let p : getD places c 0 - 1 ≡ place = omega arith in
+      rw (m, p) (go (ℕ-discrete (getD places v 0) 0))
     where
       own : base + pairIndex v c ≡ base + c * (c + 1) / 2 + v
       own = let e : pairIndex v c ≡ c * (c + 1) / 2 + v = pairIndex-le v c l ∙ rw add-one in omega arith
 
       tied : (getD places v 0 ≡ 0 → ⊥)
-          → 65536 + (start + pairIndex (getD places v 0 - 1) (getD places c 0 - 1))
-          ≡ 65536 + start + (getD places c 0 - 1) * (getD places c 0 - 1 + 1) / 2 + (getD places v 0 - 1)
+          → 65536 + (start + pairIndex (getD places v 0 - 1) place) ≡ 65536 + start + place * (place + 1) / 2 + (getD places v 0 - 1)
       tied n =
-          let e = pairIndex-le (getD places v 0 - 1) (getD places c 0 - 1) (omega (arith, up .climbs v c l (omega (arith, n)) h)) in
+          let e = pairIndex-le (getD places v 0 - 1) place (omega (arith, up .climbs v c l (omega (arith, n)) (omega (arith, h)), h)) in
           rw (e, add-one) (omega arith)
 
       go : Dec (getD places v 0 ≡ 0)
           → cond (not (eqb (getD places v 0) 0) && true)
-          (65536 + (start + pairIndex (getD places v 0 - 1) (getD places c 0 - 1)))
+          (65536 + (start + pairIndex (getD places v 0 - 1) place))
           (base + pairIndex v c)
-          ≡ cond (eqb (getD places v 0) 0) (base + c * (c + 1) / 2 + v) (65536 + start + (getD places c 0 - 1) * (getD places c 0 - 1 + 1) / 2 + (getD places v 0 - 1))
+          ≡ cond (eqb (getD places v 0) 0) (base + c * (c + 1) / 2 + v) (65536 + start + place * (place + 1) / 2 + (getD places v 0 - 1))
       go (yes e) = rw (eq-eqb (getD places v 0) 0 e) own
       go (no n) = rw (ne-eqb (getD places v 0) 0 n) (tied n)
 
--- a column whose vertex has no place
-pub own-column : (places vs : List ℕ) (base start j : ℕ) → T (rises vs) → j < length vs → getD places (getD vs j 0) 0 ≡ 0
-    → map (pairRow base) (columnPairs vs j) ≡ map (placeCode places base start) (columnPairs vs j)
-own-column places vs base start j rising l e =
-    let g : ℕ → Pair = λ i. pair (getD vs i 0) (getD vs j 0) in
-    map-map (pairRow base) g (below (suc j))
-    ∙ map-same (λ i. pairRow base (g i)) (λ i. placeCode places base start (g i)) (below (suc j))
-    (λ i h. sym (code-own places base start (getD vs i 0) (getD vs j 0)
-    (rises-le vs i j rising (omega (arith, has-below i (suc j) .0 h)) l) e))
-    ∙ sym (map-map (placeCode places base start) g (below (suc j)))
+-- two rules that agree on the pairs of a column
+column-same : (f g : Pair → ℕ) (vs : List ℕ) (j : ℕ) → T (rises vs) → j < length vs
+    → ((v : ℕ) → v ≤ getD vs j 0 → f (pair v (getD vs j 0)) ≡ g (pair v (getD vs j 0)))
+    → map f (columnPairs vs j) ≡ map g (columnPairs vs j)
+column-same f g vs j rising l same =
+    let at : ℕ → Pair = λ i. pair (getD vs i 0) (getD vs j 0) in
+    map-map f at (below (suc j))
+    ∙ map-same (λ i. f (at i)) (λ i. g (at i)) (below (suc j))
+    (λ i h. same (getD vs i 0) (rises-le vs i j rising (omega (arith, has-below i (suc j) .0 h)) l))
+    ∙ sym (map-map g at (below (suc j)))
+
+module _ (places vs : List ℕ) (base start j : ℕ) (rising : T (rises vs)) (l : j < length vs) where
+  -- a column whose vertex has no place
+  pub own-column : getD places (getD vs j 0) 0 ≡ 0 → map (pairRow base) (columnPairs vs j) ≡ map (placeCode places base start) (columnPairs vs j)
+  own-column e = column-same (pairRow base) (placeCode places base start) vs j rising l
+      (λ v m. sym (code-own places base start v (getD vs j 0) m e))
+
+  -- one whose vertex has
+  pub tied-column : Climbing places → (place : ℕ) → getD places (getD vs j 0) 0 ≡ suc place
+      → let c = getD vs j 0 in
+      map (tiedEntry places (base + c * (c + 1) / 2) (65536 + start + place * (place + 1) / 2)) (columnPairs vs j)
+      ≡ map (placeCode places base start) (columnPairs vs j)
+  tied-column up place e =
+      let c = getD vs j 0 in
+      column-same (tiedEntry places (base + c * (c + 1) / 2) (65536 + start + place * (place + 1) / 2)) (placeCode places base start) vs j rising l
+      (λ v m. sym (code-tied places base start v c m up place e))

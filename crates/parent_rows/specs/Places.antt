@@ -4,7 +4,7 @@ use mathlib.Core.Path.{_≡_}
 use mathlib.Core.Bool.{cond, _&&_}
 use mathlib.Core.List.{List}
 use lib.ListN.{getD}
-use lib.Dec.{T}
+use lib.Dec.{T, eqb}
 use Rattle.layout.specs.Lists.{has}
 use Rattle.layout.specs.Triangle.{pairIndex}
 use Rattle.layout.specs.Blocks.{Pair, pair, placeIn}
@@ -31,3 +31,7 @@ placeCode places base start (pair i j) =
     cond (isMarked places i && isMarked places j)
     (65536 + (start + pairIndex (getD places i 0 - 1) (getD places j 0 - 1)))
     (base + pairIndex i j)
+
+-- the code of an entry whose column has a place: its row from tied on, else its own from row on
+abbrev pub tiedEntry : List ℕ → ℕ → ℕ → Pair → ℕ
+tiedEntry places row tied (pair i j) = cond (eqb (getD places i 0) 0) (row + i) (tied + (getD places i 0 - 1))

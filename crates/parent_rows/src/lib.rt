@@ -10,7 +10,7 @@ ghost use Rattle.layout.specs.Lists.{written, rises, Below};
 ghost use Rattle.layout.specs.Triangle.{triangle};
 ghost use Rattle.layout.specs.Blocks.{pairs};
 ghost use Rattle.blocks.specs.Columns.{columnPairs, ColumnsFit};
-ghost use Rattle.parent_rows.specs.Places.{Places, Climbing, placeCode};
+ghost use Rattle.parent_rows.specs.Places.{Places, Climbing, placeCode, tiedEntry};
 use blocks::row_column;
 
 // ---- places in the parent's block
@@ -42,17 +42,12 @@ fn tied_row(own: u32, tied: u32, place: u32) -> u32
     tied + (place - 1)
 }
 
-// The codes of column j, whose vertex has a place in the parent's block, which starts at row start.
-fn tied_column(out: &mut [u32], vertices: &[u32], places: &[u32], j: usize, base: u32, start: u32)
+// The codes of column j: a row from tied on for each vertex that has a place, its own from row on for the others.
+fn tied_entries(out: &mut [u32], vertices: &[u32], places: &[u32], j: usize, row: u32, tied: u32)
     requires { ⌜ (j < length (now vertices)) × (j < length (now out)) × T (rises (now vertices)) × Below (length (now places)) (now vertices) ⌝ }
-    requires { ⌜ (base + triangle (suc (getD (now vertices) j 0)) ≤ 65536) × (start ≤ 262144) × Climbing (now places) ⌝ }
-    requires { ⌜ 0 < getD (now places) (getD (now vertices) j 0) 0 ⌝ }
-    ensures { λ _. ⌜ now (out .exit) ≡ written (map (placeCode (now (places .entry)) base start) (columnPairs (now (vertices .entry)) j)) (now (out .entry)) ⌝ }
+    requires { ⌜ (row + getD (now vertices) j 0 ≤ 65536) × (tied ≤ 393216) × Climbing (now places) ⌝ }
+    ensures { λ _. ⌜ now (out .exit) ≡ written (map (tiedEntry (now (places .entry)) row tied) (columnPairs (now (vertices .entry)) j)) (now (out .entry)) ⌝ }
 {
-    let c = vertices[j];
-    let row = base + c * (c + 1) / 2;
-    let place = places[c as usize] - 1;
-    let tied = 65536 + start + place * (place + 1) / 2;
     let mut i = 0;
     while i <= j {
         let v = vertices[i];
@@ -61,18 +56,22 @@ fn tied_column(out: &mut [u32], vertices: &[u32], places: &[u32], j: usize, base
     }
 }
 
-// The codes of column j.
-fn code_column(out: &mut [u32], vertices: &[u32], places: &[u32], j: usize, base: u32, start: u32)
+// The codes of column j: where its vertex has a place in the parent's block, which starts at row start, entries are tied to rows there.
+fn tied_column(out: &mut [u32], vertices: &[u32], places: &[u32], j: usize, base: u32, start: u32)
     requires { ⌜ (j < length (now vertices)) × (j < length (now out)) × T (rises (now vertices)) × Below (length (now places)) (now vertices) ⌝ }
     requires { ⌜ (base + triangle (suc (getD (now vertices) j 0)) ≤ 65536) × (start ≤ 262144) × Climbing (now places) ⌝ }
     ensures { λ _. ⌜ now (out .exit) ≡ written (map (placeCode (now (places .entry)) base start) (columnPairs (now (vertices .entry)) j)) (now (out .entry)) ⌝ }
 {
-    let c = vertices[j] as usize;
-    if places[c] == 0 {
+    let c = vertices[j];
+    let noted = places[c as usize];
+    if noted == 0 {
         row_column(out, vertices, j, base);
-    } else {
-        tied_column(out, vertices, places, j, base, start);
+        return;
     }
+    let row = base + c * (c + 1) / 2;
+    let place = noted - 1;
+    let tied = 65536 + start + place * (place + 1) / 2;
+    tied_entries(out, vertices, places, j, row, tied);
 }
 
 // The codes of a block, column by column; how many.
@@ -85,7 +84,7 @@ pub fn code_block(out: &mut [u32], vertices: &[u32], places: &[u32], base: u32, 
     let mut t = 0;
     let mut j = 0;
     while j < vertices.len() {
-        code_column(&mut out[t..], vertices, places, j, base, start);
+        tied_column(&mut out[t..], vertices, places, j, base, start);
         t += j + 1;
         j += 1;
     }

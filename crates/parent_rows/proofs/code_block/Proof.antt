@@ -33,20 +33,20 @@ fits i =
 loop-holds : tie.Need-loop-holds Inv-loop μ-loop
 loop-holds c = (omega arith, refl, refl, refl, refl)
 
-mul-code-column : tie.Need-mul-code-column Inv-loop μ-loop
-mul-code-column c = omega (arith, fits c)
+mul-tied-column : tie.Need-mul-tied-column Inv-loop μ-loop
+mul-tied-column c = omega (arith, fits c)
 
-sub-code-column : tie.Need-sub-code-column Inv-loop μ-loop
-sub-code-column c = omega (arith, fits c)
+sub-tied-column : tie.Need-sub-tied-column Inv-loop μ-loop
+sub-tied-column c = omega (arith, fits c)
 
-part-code-column-start : tie.Need-part-code-column-start Inv-loop μ-loop
-part-code-column-start c = omega (arith, fits c)
+part-tied-column-start : tie.Need-part-tied-column-start Inv-loop μ-loop
+part-tied-column-start c = omega (arith, fits c)
 
-part-code-column-end : tie.Need-part-code-column-end Inv-loop μ-loop
-part-code-column-end c = omega (arith, fits c)
+part-tied-column-end : tie.Need-part-tied-column-end Inv-loop μ-loop
+part-tied-column-end c = omega (arith, fits c)
 
-code-column-requires : tie.Need-code-column-requires Inv-loop μ-loop
-code-column-requires c κs =
+tied-column-requires : tie.Need-tied-column-requires Inv-loop μ-loop
+tied-column-requires c κs =
     let i = c .before in
     let s = i .before .before .before .before .before in
     ((i .loop-test .taken, simp (length-take, length-drop) (omega (arith, fits i)), s .pre .0 .0, s .pre .0 .1), (s .pre .0 .2 (i .before .loop .j) (i .loop-test .taken), s .pre .1 .0, s .pre .1 .1))
@@ -73,7 +73,7 @@ loop-again c =
     let j = l .loop .j in
     let t = l .loop .t in
     let k : ℕ = length (l .loop .out) - t in
-    let call = c .before .before .code-column in
+    let call = c .before .before .tied-column in
     let e : take t (l .loop .out) ++ (call .last .0 ++ drop k (drop t (l .loop .out))) ≡ written (columnsBelow f vs (j + 1)) (a .out .now) =
     written-next (columnsBelow f vs j) (map f (columnPairs vs j)) (a .out .now) (l .loop .out) (call .last .0) t k (l .loop .inv .2) (l .loop .inv .4)
     (omega (arith, length-column f vs j, fits i)) (omega (arith, fits i)) (call .ensures)
@@ -102,11 +102,11 @@ code-block-spec =
     Inv-loop
     μ-loop
     loop-holds
-    mul-code-column
-    sub-code-column
-    part-code-column-start
-    part-code-column-end
-    code-column-requires
+    mul-tied-column
+    sub-tied-column
+    part-tied-column-start
+    part-tied-column-end
+    tied-column-requires
     add-t
     add-t-2
     add-j
