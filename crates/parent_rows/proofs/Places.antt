@@ -1,5 +1,6 @@
 -- Places noted one after the other, and the codes that they give.
 use Prim.Native.Nat.{ℕ, zero, suc, _+_, _-_, _*_, _/_, _≤_, _<_}
+use native.Mathlib.Nat.{mul-le-mul}
 use native.Mathlib.Numerals.{add-one}
 use native.Mathlib.Decide.{ℕ-discrete}
 use native.Mathlib.Omega.{arith}
@@ -10,9 +11,11 @@ use mathlib.Core.List.{List, map, map-map}
 use lib.ListN.{length, getD, set, replicate}
 use lib.Seq.{getD-set-same, getD-set-other}
 use lib.Dec.{T, eqb}
+use mir.Syntax.{w32}
+use mir.Val.{Fits}
 use borrow.Author.Tests.{eq-eqb, ne-eqb}
 use Rattle.layout.specs.Lists.{has, rises, below}
-use Rattle.layout.specs.Triangle.{pairIndex}
+use Rattle.layout.specs.Triangle.{triangle, pairIndex}
 use Rattle.layout.specs.Blocks.{Pair, pair, pairRow, placeIn}
 use Rattle.layout.proofs.Tests.{tested, and-iff, cond-failed}
 use Rattle.layout.proofs.Members.{has-at, has-getD, has-below}
@@ -139,6 +142,25 @@ module _ (places : List ℕ) (base start v c : ℕ) (l : v ≤ c) where
           ≡ cond (eqb (getD places v 0) 0) (base + c * (c + 1) / 2 + v) (65536 + start + place * (place + 1) / 2 + (getD places v 0 - 1))
       go (yes e) = rw (eq-eqb (getD places v 0) 0 e) own
       go (no n) = rw (ne-eqb (getD places v 0) 0 n) (tied n)
+
+-- what is noted of a vertex that has a place
+pub place-some : {n : ℕ} → (n ≡ 0 → ⊥) → 1 ≤ n
+place-some h = omega (arith, h)
+
+pub place-small : (n : ℕ) → (n ≡ 0 → ⊥) → n ≤ 256 → (n ≡ suc (n - 1)) × (n - 1 < 256)
+place-small n h l = (omega (arith, h), omega (arith, h))
+
+-- the column's first rows are small
+pub row-small : (base c : ℕ) → base + triangle (suc c) ≤ 65536
+    → Fits w32 (c + 1) × Fits w32 (c * (c + 1)) × Fits w32 (base + c * (c + 1) / 2) × (base + c * (c + 1) / 2 + c ≤ 65536)
+row-small base c h = (omega arith, omega arith, omega arith, omega arith)
+
+pub tied-small : (start k : ℕ) → start ≤ 262144 → k < 256
+    → Fits w32 (65536 + start) × Fits w32 (k + 1) × Fits w32 (k * (k + 1)) × Fits w32 (65536 + start + k * (k + 1) / 2)
+    × (65536 + start + k * (k + 1) / 2 ≤ 393216)
+tied-small start k h l =
+    let q : k * (k + 1) ≤ 65536 = mul-le-mul {n₂ = 256} {m₂ = 256} (omega arith) (omega arith) in
+    (omega arith, omega arith, omega arith, omega arith, omega arith)
 
 -- two rules that agree on the pairs of a column
 column-same : (f g : Pair → ℕ) (vs : List ℕ) (j : ℕ) → T (rises vs) → j < length vs

@@ -1,10 +1,9 @@
-use Prim.Native.Nat.{ℕ, suc, _≤_, _<_, _-_, _+_, _*_}
-use native.Mathlib.Nat.{mul-le-mul}
+use Prim.Native.Nat.{ℕ, suc, _<_, _-_}
 use mathlib.Core.Path.{_≡_, ap, _∙_}
 use mathlib.Core.List.{List}
 use lib.ListN.{length, getD}
 use Rattle.layout.specs.Lists.{written}
-use Rattle.parent_rows.proofs.Places.{own-column, tied-column}
+use Rattle.parent_rows.proofs.Places.{place-some, place-small, row-small, tied-small, own-column, tied-column}
 use native.Mathlib.Omega.{arith}
 use borrow.Author.Needs.{needs}
 use Rattle.parent_rows.proofs.tied_column.Statement.{statement}
@@ -17,13 +16,10 @@ vertex s = s .pre .0 .3 (s .args .j) (s .pre .0 .0)
 abbrev noted : tie.Start → ℕ
 noted s = getD (s .args .places .now) (getD (s .args .vertices .now) (s .args .j) 0) 0
 
-square : (s : tie.Start) → (noted s ≤ 256) × ((noted s - 1) * (noted s - 1 + 1) ≤ 65536)
-square s =
-    let h : noted s ≤ 256 = s .pre .1 .2 .few (getD (s .args .vertices .now) (s .args .j) 0) in
-    (h, mul-le-mul {n₂ = 256} {m₂ = 256} (omega arith) (omega arith))
-
-found : (e : tie.Else1) → let s = e .before .before .before .before .before .before in noted s ≡ suc (noted s - 1)
-found e = omega (arith, e .if1 .left)
+found : (e : tie.Else1) → let s = e .before .before .before .before .before .before in (noted s ≡ suc (noted s - 1)) × (noted s - 1 < 256)
+found e =
+    let s = e .before .before .before .before .before .before in
+    place-small (noted s) (e .if1 .left) (s .pre .1 .2 .few (getD (s .args .vertices .now) (s .args .j) 0))
 
 mul-c : tie.Need-mul-c
 mul-c c = search needs
@@ -56,33 +52,40 @@ returns c =
     (own-column (a .places .now) (a .vertices .now) (a .base) (a .start) (a .j) (s .pre .0 .2) (s .pre .0 .0) (r .before .before .if1 .taken))
 
 add-row : tie.Need-add-row
-add-row c = search needs
+add-row c = let s = c .before .before .before .before .before .before in row-small (s .args .base) (getD (s .args .vertices .now) (s .args .j) 0) (s .pre .1 .0) .0
 
 mul-row : tie.Need-mul-row
-mul-row c = search needs
+mul-row c = let s = c .before .before .before .before .before .before in row-small (s .args .base) (getD (s .args .vertices .now) (s .args .j) 0) (s .pre .1 .0) .1
 
 add-row-2 : tie.Need-add-row-2
-add-row-2 c = search needs
+add-row-2 c = let s = c .before .before .before .before .before .before in row-small (s .args .base) (getD (s .args .vertices .now) (s .args .j) 0) (s .pre .1 .0) .2
 
 sub-place : tie.Need-sub-place
-sub-place c = omega (arith, c .if1 .left)
+sub-place c = place-some (c .if1 .left)
 
 add-tied : tie.Need-add-tied
-add-tied c = search needs
+add-tied c = let s = c .before .before .before .before .before .before in tied-small (s .args .start) (noted s - 1) (s .pre .1 .1) (found c .1) .0
 
 add-tied-2 : tie.Need-add-tied-2
-add-tied-2 c = omega (arith, square (c .before .before .before .before .before .before) .0)
+add-tied-2 c = let s = c .before .before .before .before .before .before in tied-small (s .args .start) (noted s - 1) (s .pre .1 .1) (found c .1) .1
 
 mul-tied : tie.Need-mul-tied
-mul-tied c = omega (arith, square (c .before .before .before .before .before .before) .1)
+mul-tied c = let s = c .before .before .before .before .before .before in tied-small (s .args .start) (noted s - 1) (s .pre .1 .1) (found c .1) .2
 
 add-tied-3 : tie.Need-add-tied-3
-add-tied-3 c = let s = c .before .before .before .before .before .before in omega (arith, square s .1, s .pre .1 .1)
+add-tied-3 c = let s = c .before .before .before .before .before .before in tied-small (s .args .start) (noted s - 1) (s .pre .1 .1) (found c .1) .3
 
 tied-entries-requires : tie.Need-tied-entries-requires
 tied-entries-requires c κs =
     let s = c .before .before .before .before .before .before .before in
-    (s .pre .0, (omega (arith, s .pre .1 .0), omega (arith, square s .1, s .pre .1 .1), s .pre .1 .2))
+    let e = c .before in (
+      s .pre .0,
+      (
+        row-small (s .args .base) (getD (s .args .vertices .now) (s .args .j) 0) (s .pre .1 .0) .3,
+        tied-small (s .args .start) (noted s - 1) (s .pre .1 .1) (found e .1) .4,
+        s .pre .1 .2,
+      ),
+    )
 
 same-length-2 : tie.Need-same-length-2
 same-length-2 c = search needs
@@ -95,7 +98,7 @@ returns-2 c =
     let a = s .args in
     r .tied-entries .ensures
     ∙ ap (λ (xs : List ℕ). written xs (a .out .now))
-    (tied-column (a .places .now) (a .vertices .now) (a .base) (a .start) (a .j) (s .pre .0 .2) (s .pre .0 .0) (s .pre .1 .2) (noted s - 1) (found e))
+    (tied-column (a .places .now) (a .vertices .now) (a .base) (a .start) (a .j) (s .pre .0 .2) (s .pre .0 .0) (s .pre .1 .2) (noted s - 1) (found e .0))
 
 pub tied-column-spec : {M : Type 1} → statement M
 tied-column-spec =
