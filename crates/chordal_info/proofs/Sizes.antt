@@ -1,9 +1,10 @@
 -- Check 10 and the sizes from counts, for a route's number and for a problem that the route accepts.
-use Prim.Native.Nat.{ℕ, zero, suc, _+_, _≤_, _<_}
+use Prim.Native.Nat.{ℕ, zero, suc, _+_, _*_, _≤_, _<_}
+use native.Mathlib.Numerals.{add-one}
 use native.Mathlib.Omega.{arith}
 use mathlib.Core.Path.{_≡_, refl, ap}
 use mathlib.Core.Bool.{false}
-use mathlib.Core.List.{List}
+use mathlib.Core.List.{List, [], _∷_}
 use lib.ListN.{length}
 use lib.Dec.{T, leb}
 use borrow.Author.Tests.{lt-leb}
@@ -13,7 +14,7 @@ use Rattle.layout.specs.Checks.{layout, check10, refusal}
 use Rattle.layout.specs.Answers.{routeOf, sizes}
 use Rattle.layout.proofs.Tests.{and-iff, leb-iff}
 use Rattle.layout.proofs.Sizes.{compact-sizes, standard-sizes}
-use Rattle.chordal_info.specs.Sizes.{rowsFit, routeSizes}
+use Rattle.chordal_info.specs.Sizes.{rowsFit, outputLengths, routeSizes}
 
 -- ---- a route's number
 
@@ -46,3 +47,22 @@ rows-few compact m rows overlaps h = leb-iff rows 262144 .0 (and-iff (leb rows 2
 pub rows-many : (route : Route) (m rows overlaps : ℕ) → 262144 < rows → rowsFit route m rows overlaps ≡ false
 rows-many standard m rows overlaps h = lt-leb (m + rows) 262144 (omega arith)
 rows-many compact m rows overlaps h = rw (lt-leb rows 262144 h)
+
+-- ---- the lengths as they are computed
+
+module _ (n m p a α rows overlaps cones : ℕ) {added b coneWords mapWords : ℕ} where
+  pub lengths-standard : {route : Route} → route ≡ standard → added ≡ rows → b ≡ rows + m → coneWords ≡ 3 * cones + 3 → mapWords ≡ 0
+      → outputLengths (n + added) p (a + 2 * added) b coneWords α mapWords ≡ routeSizes route n m p a α rows overlaps cones
+  lengths-standard r e f g h =
+      let f′ : b ≡ m + rows = omega arith in
+      let g′ : coneWords ≡ 3 * suc cones = omega arith in
+      rw (r, e, f′, g′, h)
+
+  pub lengths-compact : {route : Route} → route ≡ compact → added ≡ overlaps → b ≡ rows → coneWords ≡ 3 * cones → mapWords ≡ 3 * cones
+      → outputLengths (n + added) p (a + 2 * added) b coneWords α mapWords ≡ routeSizes route n m p a α rows overlaps cones
+  lengths-compact r e f g h = rw (r, e, f, g, h)
+
+pub lengths-listed : (columns p a b coneWords α mapWords : ℕ)
+    → ((columns + 1) ∷ p ∷ p ∷ columns ∷ (columns + 1) ∷ a ∷ a ∷ b ∷ coneWords ∷ α ∷ mapWords ∷ []) ≡ outputLengths columns p a b coneWords α mapWords
+lengths-listed columns p a b coneWords α mapWords =
+    ap (λ (k : ℕ). k ∷ p ∷ p ∷ columns ∷ k ∷ a ∷ a ∷ b ∷ coneWords ∷ α ∷ mapWords ∷ []) (add-one columns)

@@ -10,7 +10,7 @@ ghost use Rattle.layout.specs.Patterns.{patterns};
 ghost use Rattle.layout.specs.Blocks.{parts};
 ghost use Rattle.layout.specs.Checks.{Sound, firstFailing};
 ghost use Rattle.layout.specs.Answers.{routeOf};
-ghost use Rattle.chordal_info.specs.Sizes.{rowsFit, outputLengths, routeSizes, Fitting};
+ghost use Rattle.chordal_info.specs.Sizes.{rowsFit, routeSizes, Fitting};
 ghost use Rattle.chordal_info.specs.Routes.{Counted, routeChecks, joinCountChecks};
 use covered_rows::entries_right;
 use csc::copy_numbers;
@@ -87,37 +87,6 @@ pub fn check_join_counted(route: u32, n: u32, m: u32, rows: u64, overlaps: u64) 
 
 // ---- the sizes
 
-// Eleven lengths in the order of the cut's outputs.
-fn write_lengths(
-    columns: u32,
-    p_entries: u32,
-    a_entries: u32,
-    b: u32,
-    cone_words: u32,
-    alphas: u32,
-    map_words: u32,
-    out: &mut [u32],
-)
-    requires { ⌜ (11 ≤ length (now out)) × (columns < 4294967295) ⌝ }
-    ensures { λ _. ⌜ now (out .exit) ≡ written (outputLengths columns «p_entries» «a_entries» b «cone_words» alphas «map_words») (now (out .entry)) ⌝ }
-{
-    let starts = columns + 1;
-    let lengths = [
-        starts,
-        p_entries,
-        p_entries,
-        columns,
-        starts,
-        a_entries,
-        a_entries,
-        b,
-        cone_words,
-        alphas,
-        map_words,
-    ];
-    copy_numbers(out, &lengths);
-}
-
 // The length of each output of the cut, from the counts of parts' `get_decomposed_dim_and_overlaps`.
 pub fn write_sizes(
     route: u32,
@@ -135,30 +104,31 @@ pub fn write_sizes(
     requires { ⌜ Fitting (routeOf route) n m «a_entries» rows overlaps cones ⌝ }
     ensures { λ _. ⌜ now (out .exit) ≡ written (routeSizes (routeOf route) n m «p_entries» «a_entries» alphas rows overlaps cones) (now (out .entry)) ⌝ }
 {
-    let words = 3 * cones as u32;
+    let mut added = overlaps as u32;
+    let mut b = rows as u32;
+    let mut cone_words = 3 * cones as u32;
+    let mut map_words = cone_words;
     if route == 0 {
-        let added = rows as u32;
-        write_lengths(
-            n + added,
-            p_entries,
-            a_entries + 2 * added,
-            m + added,
-            words + 3,
-            alphas,
-            0,
-            out,
-        );
-        return;
+        added = b;
+        b += m;
+        cone_words += 3;
+        map_words = 0;
     }
-    let added = overlaps as u32;
-    write_lengths(
-        n + added,
+    let columns = n + added;
+    let starts = columns + 1;
+    let entries = a_entries + 2 * added;
+    let lengths = [
+        starts,
         p_entries,
-        a_entries + 2 * added,
-        rows as u32,
-        words,
+        p_entries,
+        columns,
+        starts,
+        entries,
+        entries,
+        b,
+        cone_words,
         alphas,
-        words,
-        out,
-    );
+        map_words,
+    ];
+    copy_numbers(out, &lengths);
 }

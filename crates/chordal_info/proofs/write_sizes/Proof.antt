@@ -1,13 +1,14 @@
-use Prim.Native.Nat.{ℕ, suc, _+_, _*_, _≤_}
-use mathlib.Core.Path.{_≡_, sym, ap, subst, _∙_}
+use Prim.Native.Nat.{ℕ, _+_, _*_, _≤_}
+use mathlib.Core.Path.{_≡_, ap, subst, _∙_}
+use mathlib.Core.Logic.{⊎-elim}
 use mathlib.Core.List.{List}
 use lib.Dec.{T}
 use Rattle.layout.specs.Lists.{written}
-use Rattle.layout.specs.Problem.{Route, standard, compact}
+use Rattle.layout.specs.Problem.{Route}
 use Rattle.layout.specs.Answers.{routeOf}
 use Rattle.layout.proofs.Tests.{leb-iff}
 use Rattle.chordal_info.specs.Sizes.{rowsFit, outputLengths, routeSizes}
-use Rattle.chordal_info.proofs.Sizes.{route-standard, route-compact, rows-few}
+use Rattle.chordal_info.proofs.Sizes.{route-standard, route-compact, rows-few, lengths-standard, lengths-compact, lengths-listed}
 use native.Mathlib.Omega.{arith}
 use borrow.Author.Needs.{needs}
 use Rattle.chordal_info.proofs.write_sizes.Statement.{statement}
@@ -23,101 +24,91 @@ tall c =
     leb-iff (a .m + a .rows) 262144 .0
     (subst (λ (x : Route). T (rowsFit x (a .m) (a .rows) (a .overlaps))) (route-standard (a .route) (c .if1 .taken)) (s .pre .1 .2))
 
--- the sizes on a route of that number
-sizes-on : (s : tie.Start) (x : Route) → routeOf (s .args .route) ≡ x
-    → let a = s .args in
-    let sizes : Route → List ℕ = λ y. written (routeSizes y (a .n) (a .m) (a .p-entries) (a .a-entries) (a .alphas) (a .rows) (a .overlaps) (a .cones)) (a .out .now) in
-    sizes (routeOf (a .route)) ≡ sizes x
-sizes-on s x e =
-    let a = s .args in
-    ap (λ (y : Route). written (routeSizes y (a .n) (a .m) (a .p-entries) (a .a-entries) (a .alphas) (a .rows) (a .overlaps) (a .cones)) (a .out .now)) e
+-- no more columns than rows are added
+short : (j : tie.Joined1) → j .if1 .added ≤ 262144
+short j =
+    let s = j .before .before in
+    ⊎-elim (λ w. omega (arith, w .1, few s)) (λ w. omega (arith, w .1, few s, s .pre .1 .3)) (j .if1 .came)
 
-cast-words : tie.Need-cast-words
-cast-words c = omega (arith, few (c .before))
-
-mul-words : tie.Need-mul-words
-mul-words c = omega (arith, few (c .before))
+-- the lengths on either route
+lengths : (j : tie.Joined1)
+    → let a = j .before .before .args in
+    let x = j .if1 in
+    outputLengths (a .n + x .added) (a .p-entries) (a .a-entries + 2 * x .added) (x .b) (x .cone-words) (a .alphas) (x .map-words)
+    ≡ routeSizes (routeOf (a .route)) (a .n) (a .m) (a .p-entries) (a .a-entries) (a .alphas) (a .rows) (a .overlaps) (a .cones)
+lengths j =
+    let a = j .before .before .args in
+    ⊎-elim
+    (λ w. lengths-standard (a .n) (a .m) (a .p-entries) (a .a-entries) (a .alphas) (a .rows) (a .overlaps) (a .cones)
+    (route-standard (a .route) (w .0 .taken)) (w .1) (w .2) (w .3) (w .4))
+    (λ w. lengths-compact (a .n) (a .m) (a .p-entries) (a .a-entries) (a .alphas) (a .rows) (a .overlaps) (a .cones)
+    (route-compact (a .route) (w .0 .left)) (w .1) (w .2) (w .3) (w .4))
+    (j .if1 .came)
 
 cast-added : tie.Need-cast-added
-cast-added c = omega (arith, few (c .before .before))
+cast-added c = omega (arith, few (c .before))
 
-add-write-lengths : tie.Need-add-write-lengths
-add-write-lengths c = omega (arith, few (c .before .before))
+cast-b : tie.Need-cast-b
+cast-b c = omega (arith, few (c .before))
 
-mul-write-lengths : tie.Need-mul-write-lengths
-mul-write-lengths c = omega (arith, few (c .before .before))
+cast-cone-words : tie.Need-cast-cone-words
+cast-cone-words c = omega (arith, few (c .before))
 
-add-write-lengths-2 : tie.Need-add-write-lengths-2
-add-write-lengths-2 c = omega (arith, few (c .before .before))
+mul-cone-words : tie.Need-mul-cone-words
+mul-cone-words c = omega (arith, few (c .before))
 
-add-write-lengths-3 : tie.Need-add-write-lengths-3
-add-write-lengths-3 c = omega (arith, tall c)
+add-b : tie.Need-add-b
+add-b c = omega (arith, tall c)
 
-add-write-lengths-4 : tie.Need-add-write-lengths-4
-add-write-lengths-4 c = omega (arith, few (c .before .before))
+add-cone-words : tie.Need-add-cone-words
+add-cone-words c = omega (arith, few (c .before .before))
 
-write-lengths-requires : tie.Need-write-lengths-requires
-write-lengths-requires c κs = (c .before .before .before .pre .0, omega (arith, few (c .before .before .before)))
+add-columns : tie.Need-add-columns
+add-columns c = omega (arith, short (c .before))
+
+add-starts : tie.Need-add-starts
+add-starts c = omega (arith, short (c .before))
+
+mul-entries : tie.Need-mul-entries
+mul-entries c = omega (arith, short (c .before))
+
+add-entries : tie.Need-add-entries
+add-entries c = omega (arith, short (c .before))
+
+slice-aggregate-copy-numbers : tie.Need-slice-aggregate-copy-numbers
+slice-aggregate-copy-numbers c = search needs
+
+copy-numbers-requires : tie.Need-copy-numbers-requires
+copy-numbers-requires c κs = search needs
 
 same-length : tie.Need-same-length
 same-length c = search needs
 
 returns : tie.Need-returns
 returns c =
-    let t = c .before .before .before .before in
-    let a = t .before .before .args in
-    let same : 3 * a .cones + 3 ≡ 3 * suc (a .cones) = omega arith in
-    c .before .before .write-lengths .ensures
-    ∙ ap (λ (k : ℕ). written (outputLengths (a .n + a .rows) (a .p-entries) (a .a-entries + 2 * a .rows) (a .m + a .rows) k (a .alphas) 0) (a .out .now)) same
-    ∙ sym (sizes-on (t .before .before) standard (route-standard (a .route) (t .if1 .taken)))
-
-cast-added-2 : tie.Need-cast-added-2
-cast-added-2 c = omega (arith, few (c .before .before))
-
-add-write-lengths-5 : tie.Need-add-write-lengths-5
-add-write-lengths-5 c = omega (arith, few (c .before .before))
-
-mul-write-lengths-2 : tie.Need-mul-write-lengths-2
-mul-write-lengths-2 c = omega (arith, few (c .before .before))
-
-add-write-lengths-6 : tie.Need-add-write-lengths-6
-add-write-lengths-6 c = omega (arith, few (c .before .before))
-
-cast-write-lengths : tie.Need-cast-write-lengths
-cast-write-lengths c = omega (arith, few (c .before .before))
-
-write-lengths-requires-2 : tie.Need-write-lengths-requires-2
-write-lengths-requires-2 c κs = (c .before .before .before .pre .0, omega (arith, few (c .before .before .before)))
-
-same-length-2 : tie.Need-same-length-2
-same-length-2 c = search needs
-
-returns-2 : tie.Need-returns-2
-returns-2 c =
-    let e = c .before .before .before .before in
-    let a = e .before .before .args in
-    c .before .before .write-lengths2 .ensures ∙ sym (sizes-on (e .before .before) compact (route-compact (a .route) (e .if1 .left)))
+    let w = c .before .before in
+    let j = w .before .before .before .before in
+    let a = j .before .before .args in
+    let x = j .if1 in
+    w .copy-numbers .ensures
+    ∙ ap (λ (xs : List ℕ). written xs (a .out .now))
+    (lengths-listed (a .n + x .added) (a .p-entries) (a .a-entries + 2 * x .added) (x .b) (x .cone-words) (a .alphas) (x .map-words) ∙ lengths j)
 
 pub write-sizes-spec : {M : Type 1} → statement M
 write-sizes-spec =
     tie.close
     (tie.spec
-    cast-words
-    mul-words
     cast-added
-    add-write-lengths
-    mul-write-lengths
-    add-write-lengths-2
-    add-write-lengths-3
-    add-write-lengths-4
-    write-lengths-requires
+    cast-b
+    cast-cone-words
+    mul-cone-words
+    add-b
+    add-cone-words
+    add-columns
+    add-starts
+    mul-entries
+    add-entries
+    slice-aggregate-copy-numbers
+    copy-numbers-requires
     same-length
-    returns
-    cast-added-2
-    add-write-lengths-5
-    mul-write-lengths-2
-    add-write-lengths-6
-    cast-write-lengths
-    write-lengths-requires-2
-    same-length-2
-    returns-2)
+    returns)
