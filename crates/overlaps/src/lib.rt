@@ -3,16 +3,15 @@ ghost use mathlib.Core.Path.{_≡_};
 ghost use mathlib.Core.Bool.{true};
 ghost use mathlib.Core.List.{map, reverse};
 ghost use Prim.Native.Nat.{_+_, _<_, _≤_};
-ghost use lib.ListN.{length, drop, replicate};
+ghost use lib.ListN.{length, drop};
 ghost use Rattle.layout.specs.Lists.{written, below, join, sum};
 ghost use Rattle.layout.specs.Triangle.{triangle};
 ghost use Rattle.layout.specs.Patterns.{readClique};
 ghost use Rattle.layout.specs.Blocks.{patternRows, blockRows};
 ghost use Rattle.layout.specs.Checks.{RightPattern};
 ghost use Rattle.supernode_tree.specs.Reads.{whole, patternAt};
-ghost use Rattle.blocks.specs.Cliques.{cliqueHere, verticesHere, Stands};
+ghost use Rattle.blocks.specs.Cliques.{cliqueHere, Stands};
 ghost use Rattle.codes.specs.Codes.{cutCode};
-ghost use Rattle.parent_rows.specs.Places.{Places};
 ghost use Rattle.overlaps.specs.Tables.{AllFound, sizeHere, FirstRows, Tied, tiedHere, codesHere, Ready, Coded};
 use blocks::clique_rows;
 use blocks::clique_vertices;
@@ -50,19 +49,6 @@ fn first_rows(words: &[u32], offsets: &[usize], first: u32, out: &mut [u32])
     }
 }
 
-// ---- places in the parent's block
-
-// One more than the place of each vertex of the clique at an offset, in a clear table.
-fn clique_places(words: &[u32], ordering: &[u32], at: usize, out: &mut [u32])
-    requires { ⌜ Stands (now words) (now ordering) at ⌝ }
-    requires { ⌜ now out ≡ replicate 256 0 ⌝ }
-    ensures { λ _. ⌜ Places (verticesHere (now (words .entry)) (now (ordering .entry)) at) (now (out .exit)) ⌝ }
-{
-    let mut vertices = [0u32; 256];
-    let k = clique_vertices(words, ordering, at, &mut vertices);
-    note_places(&vertices[..k], out);
-}
-
 // ---- codes
 
 // The codes of the clique at an offset, whose parent's clique stands at another and its block starts at row start; how many.
@@ -81,9 +67,10 @@ fn tied_rows(
     ensures { λ r. ⌜ r ≡ length (tiedHere base start (now (words .entry)) (now (ordering .entry)) parent at) ⌝ }
     ensures { λ _. ⌜ now (out .exit) ≡ written (tiedHere base start (now (words .entry)) (now (ordering .entry)) parent at) (now (out .entry)) ⌝ }
 {
-    let mut places = [0u32; 256];
-    clique_places(words, ordering, parent, &mut places);
     let mut vertices = [0u32; 256];
+    let n = clique_vertices(words, ordering, parent, &mut vertices);
+    let mut places = [0u32; 256];
+    note_places(&vertices[..n], &mut places);
     let k = clique_vertices(words, ordering, at, &mut vertices);
     code_block(out, &vertices[..k], &places, base, start)
 }

@@ -1,13 +1,13 @@
 use Prim.Native.Nat.{ℕ, _≤_}
-use mathlib.Core.Path.{_≡_, ap, sym, _∙_}
+use mathlib.Core.Path.{_≡_, ap, sym, subst, _∙_}
 use mathlib.Core.List.{List, map}
-use lib.ListN.{length, length-replicate}
+use lib.ListN.{length, replicate, length-replicate}
 use Rattle.layout.specs.Lists.{written}
 use Rattle.layout.specs.Triangle.{triangle}
 use Rattle.layout.specs.Blocks.{pairs}
 use Rattle.blocks.specs.Cliques.{verticesHere}
 use Rattle.blocks.proofs.Cliques.{vertices-rise, vertices-few, vertices-below, vertices-fit}
-use Rattle.parent_rows.specs.Places.{placeCode}
+use Rattle.parent_rows.specs.Places.{Places, placeCode}
 use Rattle.parent_rows.proofs.Places.{places-climb}
 use Rattle.overlaps.proofs.Codes.{length-tied, tied-places}
 use native.Mathlib.Omega.{arith}
@@ -18,12 +18,6 @@ use Rattle.overlaps.proofs.tied_rows.Tie as tie
 few : (s : tie.Start) (at : ℕ) → length (verticesHere (s .args .words .now) (s .args .ordering .now) at) ≤ 256
 few s at = omega (arith, vertices-few (s .args .words .now) (s .args .ordering .now) at, s .pre .0 .0 .sortable .few)
 
-slice-aggregate-clique-places : tie.Need-slice-aggregate-clique-places
-slice-aggregate-clique-places c = search needs
-
-clique-places-requires : tie.Need-clique-places-requires
-clique-places-requires c κs = search needs
-
 slice-aggregate-clique-vertices : tie.Need-slice-aggregate-clique-vertices
 slice-aggregate-clique-vertices c = search needs
 
@@ -31,10 +25,43 @@ clique-vertices-requires : tie.Need-clique-vertices-requires
 clique-vertices-requires c κs = search needs
 
 array-share-prefix-vertices : tie.Need-array-share-prefix-vertices
-array-share-prefix-vertices c = omega (arith, c .before .before .clique-vertices .ensures .0, few (c .before .before .before .before .before .before .before .before .before .before) (c .before .before .before .before .before .before .before .before .before .before .args .at))
+array-share-prefix-vertices c = let s = c .before .before .before .before .before .before in omega (arith, c .before .clique-vertices .ensures .0, few s (s .args .parent))
+
+slice-aggregate-note-places : tie.Need-slice-aggregate-note-places
+slice-aggregate-note-places c = let v = c .before .before in v .clique-vertices .ensures .0 ∙ sym (ap length (v .clique-vertices .ensures .1))
+
+slice-aggregate-note-places-2 : tie.Need-slice-aggregate-note-places-2
+slice-aggregate-note-places-2 c = search needs
+
+note-places-requires : tie.Need-note-places-requires
+note-places-requires c κs =
+    let v = c .before .before .before in
+    let s = v .before .before .before .before .before in
+    let ws = s .args .words .now in
+    let o = s .args .ordering .now in
+    let at = s .args .parent in
+    rw (v .clique-vertices .ensures .1) (
+      (vertices-rise ws o at, λ k l. omega (arith, vertices-below ws o at k l, s .pre .0 .1 .sortable .few, length-replicate {A = ℕ} 256 0), few s at),
+      ap (λ (m : ℕ). replicate m 0) (sym (length-replicate {A = ℕ} 256 0)),
+    )
+
+-- the places of the parent's vertices
+noted : (n : tie.After-note-places) → let a = n .before .before .before .before .before .before .before .before .before .args in Places (verticesHere (a .words .now) (a .ordering .now) (a .parent)) (n .note-places .last .1 .0)
+noted n = subst (λ (vs : List ℕ). Places vs (n .note-places .last .1 .0)) (n .before .before .before .before .clique-vertices .ensures .1) (n .note-places .ensures)
+
+slice-aggregate-clique-vertices-2 : tie.Need-slice-aggregate-clique-vertices-2
+slice-aggregate-clique-vertices-2 c = search needs
+
+clique-vertices-requires-2 : tie.Need-clique-vertices-requires-2
+clique-vertices-requires-2 c κs =
+    let v = c .before .before .before .before .before .before in
+    (c .before .before .before .before .before .before .before .before .before .before .before .pre .0 .0, omega (arith, v .clique-vertices .kept .1 .1 .1 .0, length-replicate {A = ℕ} 256 0))
+
+array-share-prefix-vertices-2 : tie.Need-array-share-prefix-vertices-2
+array-share-prefix-vertices-2 c = let s = c .before .before .before .before .before .before .before .before .before .before .before .before .before .before in omega (arith, c .before .before .clique-vertices2 .ensures .0, few s (s .args .at))
 
 slice-aggregate-code-block : tie.Need-slice-aggregate-code-block
-slice-aggregate-code-block c = let v = c .before .before .before in v .clique-vertices .ensures .0 ∙ sym (ap length (v .clique-vertices .ensures .1))
+slice-aggregate-code-block c = let v = c .before .before .before in v .clique-vertices2 .ensures .0 ∙ sym (ap length (v .clique-vertices2 .ensures .1))
 
 slice-aggregate-code-block-2 : tie.Need-slice-aggregate-code-block-2
 slice-aggregate-code-block-2 c = search needs
@@ -42,17 +69,18 @@ slice-aggregate-code-block-2 c = search needs
 code-block-requires : tie.Need-code-block-requires
 code-block-requires c κs =
     let v = c .before .before .before .before in
-    let p = v .before .before .before in
-    let s = p .before .before .before .before .before in
+    let n = v .before .before .before in
+    let s = n .before .before .before .before .before .before .before .before .before in
     let a = s .args in
     let ws = a .words .now in
     let o = a .ordering .now in
-    let n : length (p .clique-places .last .1 .1 .1 .0) ≡ 256 = omega (arith, p .clique-places .kept .1 .1 .1 .0, length-replicate {A = ℕ} 256 0) in
-    rw (v .clique-vertices .ensures .1) (
+    let places = n .note-places .last .1 .0 in
+    let size : length places ≡ 256 = n .note-places .kept .1 .0 ∙ length-replicate {A = ℕ} 256 0 in
+    rw (v .clique-vertices2 .ensures .1) (
       (vertices-rise ws o (a .at), λ k l. omega (arith, vertices-below ws o (a .at) k l, s .pre .0 .0 .sortable .few), vertices-fit ws o (a .at) (a .base) 65536 (s .pre .1 .0 .0)),
       (
         s .pre .1 .0 .1,
-        places-climb (verticesHere ws o (a .parent)) (p .clique-places .last .1 .1 .1 .0) (vertices-rise ws o (a .parent)) (p .clique-places .ensures) (few s (a .parent)),
+        places-climb (verticesHere ws o (a .parent)) places (vertices-rise ws o (a .parent)) (noted n) (few s (a .parent)),
         omega (arith, length-tied (a .base) (a .start) ws o (a .parent) (a .at), s .pre .1 .1),
       ),
     )
@@ -64,27 +92,31 @@ returns : tie.Need-returns
 returns c =
     let b = c .before .before in
     let v = b .before .before .before .before .before in
-    let p = v .before .before .before in
-    let s = p .before .before .before .before .before in
+    let n = v .before .before .before in
+    let s = n .before .before .before .before .before .before .before .before .before in
     let a = s .args in
     let ws = a .words .now in
     let o = a .ordering .now in
-    let places = p .clique-places .last .1 .1 .1 .0 in
-    let e = v .clique-vertices .ensures .1 in (
+    let places = n .note-places .last .1 .0 in
+    let e = v .clique-vertices2 .ensures .1 in (
       b .code-block .ensures .0 ∙ ap (λ (vs : List ℕ). triangle (length vs)) e ∙ sym (length-tied (a .base) (a .start) ws o (a .parent) (a .at)),
       b .code-block .ensures .1 ∙ ap (λ (vs : List ℕ). written (map (placeCode places (a .base) (a .start)) (pairs vs)) (a .out .now)) e
-          ∙ ap (λ (xs : List ℕ). written xs (a .out .now)) (tied-places (a .base) (a .start) ws o (a .parent) (a .at) places (p .clique-places .ensures)),
+          ∙ ap (λ (xs : List ℕ). written xs (a .out .now)) (tied-places (a .base) (a .start) ws o (a .parent) (a .at) places (noted n)),
     )
 
 pub tied-rows-spec : {M : Type 1} → statement M
 tied-rows-spec =
     tie.close
     (tie.spec
-    slice-aggregate-clique-places
-    clique-places-requires
     slice-aggregate-clique-vertices
     clique-vertices-requires
     array-share-prefix-vertices
+    slice-aggregate-note-places
+    slice-aggregate-note-places-2
+    note-places-requires
+    slice-aggregate-clique-vertices-2
+    clique-vertices-requires-2
+    array-share-prefix-vertices-2
     slice-aggregate-code-block
     slice-aggregate-code-block-2
     code-block-requires
