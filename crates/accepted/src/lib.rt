@@ -1,14 +1,12 @@
 // Checks 5, 6 and 7 of patterns that are right, and the rows of their blocks, in two walks over the cliques. Only a true answer
 // says something: where it is false the checks themselves find the number.
 ghost use mathlib.Core.Path.{_≡_};
-ghost use mathlib.Core.Bool.{true, false, _&&_};
+ghost use mathlib.Core.Bool.{true, false};
 ghost use mathlib.Core.List.{[]};
 ghost use Prim.Native.Nat.{_+_, _-_, _*_, _≤_, _<_};
 ghost use lib.ListN.{length, take, drop};
 ghost use Rattle.supernode_tree.specs.Reads.{cliquesFrom, whole};
-ghost use Rattle.vertex_set.specs.OnceIn.{onceIn, inOrder};
 ghost use Rattle.clique_tree.specs.Trees.{separatorOk};
-ghost use Rattle.layout.specs.Lists.{rises};
 ghost use Rattle.layout.specs.Triangle.{triangle};
 ghost use Rattle.layout.specs.Patterns.{patterns, readHead};
 ghost use Rattle.accepted.specs.Accepted.{Holds, Summed, AllClear, Met, MeetsMore, CliqueHolds, SnodeHolds, SnodesHold, SeparatorsHold, Stand, VerticesHold, HeadHolds, headAt, PatternHolds, Added};
@@ -105,29 +103,6 @@ fn snodes_hold(words: &[u32], p: Pattern, marks: &mut [bool], offsets: &mut [usi
 
 // ---- separators and blocks
 
-// The words from a to e rise, and are met in that order from b to f.
-fn met_in_order(words: &[u32], a: usize, e: usize, b: usize, f: usize) -> bool
-    requires { ⌜ (a ≤ e) × (e ≤ length (now words)) × (b ≤ f) × (f ≤ length (now words)) ⌝ }
-    ensures { λ r. ⌜ r ≡ (rises (take (e - a) (drop a (now (words .entry)))) && inOrder (take (e - a) (drop a (now (words .entry)))) (take (f - b) (drop b (now (words .entry))))) ⌝ }
-{
-    if !csc::rise_strictly(&words[a..e]) {
-        return false;
-    }
-    vertex_set::in_order(&words[a..e], &words[b..f])
-}
-
-// The words from a to e repeat none, and each stands from b to f. Members rise as a rule, and then one walk over both shows it.
-fn once_among(words: &[u32], a: usize, e: usize, b: usize, f: usize, marks: &mut [bool]) -> bool
-    requires { ⌜ (a ≤ e) × (e ≤ length (now words)) × (b ≤ f) × (f ≤ length (now words)) ⌝ }
-    requires { ⌜ 0 < length (now marks) ⌝ }
-    ensures { λ r. ⌜ r ≡ onceIn (take (f - b) (drop b (now (words .entry)))) (take (e - a) (drop a (now (words .entry)))) ⌝ }
-{
-    if met_in_order(words, a, e, b, f) {
-        return true;
-    }
-    clique_tree::separator_right(words, a, e, b, f, 256, marks)
-}
-
 // A read clique's block is no larger than a cone, its separator repeats no member, and its parent's clique, which has its offset,
 // holds each.
 fn separator_holds(
@@ -146,15 +121,8 @@ fn separator_holds(
     if 256 < q.get_nblk() {
         return false;
     }
-    if q.separator == q.next {
-        return true;
-    }
-    if p.clique_count <= q.parent {
-        return false;
-    }
-    let at = offsets[q.parent as usize];
-    let m = Clique::here(words, at);
-    once_among(words, q.separator, q.next, m.snode, m.next, marks)
+    let m = supernode_tree::members_by(words, p.cliques, p.clique_count, 1, offsets, q.parent);
+    clique_tree::separator_right(words, q.separator, q.next, m.start, m.end, 256, marks)
 }
 
 // A clique's block beside those before it.

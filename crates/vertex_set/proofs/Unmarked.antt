@@ -105,10 +105,6 @@ module _ (p : ℕ → Bool) (ms l : List ℕ) (x : ℕ) where
       go false q = and-right (distinct us) (all (λ u. has u ms) us)
           (failed _ (λ a. fails (has x ms) (not-in q) (all-has (λ u. has u ms) us .0 a x (has-keep p x (l ++ x ∷ rest) .1 (here, passes (p x) e)))))
 
-pub once-empty : (ms us : List ℕ) → length us ≡ 0 → onceIn ms us ≡ true
-once-empty ms [] e = refl
-once-empty ms (u ∷ us) e = absurd (omega arith)
-
 -- ---- windows
 
 once-kept : (p : ℕ → Bool) (ms us : List ℕ) → T (onceIn ms us) → T (onceIn ms (keep p us))

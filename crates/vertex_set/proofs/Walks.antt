@@ -1,20 +1,20 @@
 -- Walks over the members of a list.
-use Prim.Native.Nat.{ℕ, suc, _+_, _≤_, _<_}
+use Prim.Native.Nat.{ℕ, _+_, _≤_, _<_}
 use native.Mathlib.Numerals.{add-one}
-use native.Mathlib.Decide.{ℕ-discrete}
-use mathlib.Core.Bool.{Bool, true, false, cond}
-use mathlib.Core.Path.{_≡_, sym, ap, ap₂, subst, _∙_}
-use mathlib.Core.Logic.{inl, inr}
-use mathlib.Core.List.{List, [], _∷_}
+use native.Mathlib.Omega.{arith}
+use mathlib.Core.Bool.{true, false}
+use mathlib.Core.Logic.{⊎-elim}
+use mathlib.Core.Path.{_≡_, sym, ap, subst, _∙_}
+use mathlib.Core.List.{List, [], _∷_, _++_}
 use lib.ListN.{length, getD, drop, drop-of-length-le}
 use lib.Seq.{drop-cons}
 use lib.Dec.{T}
 use borrow.Author.Tests.{eq-eqb, ne-eqb}
-use Rattle.layout.specs.Lists.{has, all, distinct, rises}
+use Rattle.layout.specs.Lists.{has, all, distinct}
 use Rattle.layout.proofs.Tests.{and-iff, passed}
-use Rattle.layout.proofs.Members.{has-cons, all-has}
-use Rattle.layout.proofs.Rising.{rises-distinct}
-use Rattle.vertex_set.specs.OnceIn.{onceIn, inOrder}
+use Rattle.layout.proofs.Members.{has-cons, has-append, has-getD, all-has}
+use Rattle.layout.proofs.Distinct.{distinct-append}
+use Rattle.vertex_set.specs.OnceIn.{onceIn}
 
 pub has-step : (x : ℕ) (b : List ℕ) (k : ℕ) → k < length b → (x ≡ getD b k 0 → ⊥) → has x (drop k b) ≡ has x (drop (k + 1) b)
 has-step x b k h n = rw (add-one, drop-cons b k 0, ne-eqb x (getD b k 0) n)
@@ -36,33 +36,26 @@ distinct-done a k h = rw (drop-of-length-le a h)
 
 -- ---- members found in order
 
-module _ (us ms : List ℕ) (i j : ℕ) where
-  pub order-found : i < length us → j < length ms → getD us i 0 ≡ getD ms j 0 → inOrder (drop i us) (drop j ms) ≡ inOrder (drop (i + 1) us) (drop (j + 1) ms)
-  order-found h g e = ap₂ inOrder (drop-cons us i 0 h) (drop-cons ms j 0 g) ∙ rw (eq-eqb (getD us i 0) (getD ms j 0) e, add-one i, add-one j)
+-- those found so far: none stands twice, and each is below `least` and in ms
+abbrev pub Climbed : List ℕ → ℕ → List ℕ → Type 0
+Climbed ms least met = T (distinct met) × ((y : ℕ) → T (has y met) → (y < least) × T (has y ms))
 
-  pub order-passed : i < length us → j < length ms → (getD us i 0 ≡ getD ms j 0 → ⊥) → inOrder (drop i us) (drop j ms) ≡ inOrder (drop i us) (drop (j + 1) ms)
-  order-passed h g n =
-      ap₂ inOrder (drop-cons us i 0 h) (drop-cons ms j 0 g) ∙ rw (ne-eqb (getD us i 0) (getD ms j 0) n, add-one j) (ap (λ (vs : List ℕ). inOrder vs (drop (suc j) ms)) (sym (drop-cons us i 0 h)))
+pub climb-none : (ms : List ℕ) → Climbed ms 0 []
+climb-none ms = (tt, λ y h. absurd h)
 
-  pub order-short : i < length us → length ms ≤ j → inOrder (drop i us) (drop j ms) ≡ false
-  order-short h g = ap₂ inOrder (drop-cons us i 0 h) (drop-of-length-le ms g)
-
-  pub order-done : length us ≤ i → inOrder (drop i us) (drop j ms) ≡ true
-  order-done h = ap (λ (vs : List ℕ). inOrder vs (drop j ms)) (drop-of-length-le us h)
-
--- found in order, each is there
-order-has : (us ms : List ℕ) → T (inOrder us ms) → T (all (λ u. has u ms) us)
-order-has [] ms h = tt
-order-has (u ∷ us) [] h = absurd h
-order-has (u ∷ us) (m ∷ ms) h = elim (ℕ-discrete u m) [
-  | yes e ↦ and-iff (has u (m ∷ ms)) (all (λ v. has v (m ∷ ms)) us) .1
-      (has-cons u m ms .1 (inl e), later us (order-has us ms (subst (λ (b : Bool). T (cond b (inOrder us ms) (inOrder (u ∷ us) ms))) (eq-eqb u m e) h)))
-  | no n ↦ later (u ∷ us) (order-has (u ∷ us) ms (subst (λ (b : Bool). T (cond b (inOrder us ms) (inOrder (u ∷ us) ms))) (ne-eqb u m n) h))
-]
+pub climb-more : (ms met : List ℕ) (least x j : ℕ) → least ≤ x → j < length ms → x ≡ getD ms j 0 → Climbed ms least met
+    → Climbed ms (x + 1) (met ++ (x ∷ []))
+climb-more ms met least x j l h e (d, a) = (
+  distinct-append met (x ∷ []) .1 (d, tt, λ y m k. omega (arith, a y m .0, only y k)),
+  λ y m. ⊎-elim
+      (λ k. (omega (arith, a y k .0), a y k .1))
+      (λ k. (omega (arith, only y k), subst (λ (z : ℕ). T (has z ms)) (sym (only y k ∙ e)) (has-getD ms j 0 h)))
+      (has-append y met (x ∷ []) .0 m),
+)
   where
-    later : (vs : List ℕ) → T (all (λ u. has u ms) vs) → T (all (λ u. has u (m ∷ ms)) vs)
-    later vs a = all-has (λ u. has u (m ∷ ms)) vs .1 (λ v k. has-cons v m ms .1 (inr (all-has (λ u. has u ms) vs .0 a v k)))
+    only : (y : ℕ) → T (has y (x ∷ [])) → y ≡ x
+    only y k = ⊎-elim (λ q. q) (λ z. absurd z) (has-cons y x [] .0 k)
 
--- and where us rises, none stands twice
-pub once-rising : (us ms : List ℕ) → T (rises us) → T (inOrder us ms) → onceIn ms us ≡ true
-once-rising us ms r o = passed (onceIn ms us) (and-iff (distinct us) (all (λ u. has u ms) us) .1 (rises-distinct us r, order-has us ms o))
+pub climb-all : (ms us : List ℕ) (least : ℕ) → Climbed ms least us → onceIn ms us ≡ true
+climb-all ms us least (d, a) =
+    passed (onceIn ms us) (and-iff (distinct us) (all (λ u. has u ms) us) .1 (d, all-has (λ u. has u ms) us .1 (λ y h. a y h .1)))

@@ -6,7 +6,7 @@ ghost use lib.ListN.{length, drop};
 ghost use lib.Dec.{ltb};
 ghost use Rattle.layout.specs.Lists.{all, distinct, keep, has};
 ghost use Rattle.utils.specs.Windows.{within, Marked};
-ghost use Rattle.vertex_set.specs.OnceIn.{onceIn, inOrder, Unmarks};
+ghost use Rattle.vertex_set.specs.OnceIn.{onceIn, Unmarks};
 
 // ---- by walks
 
@@ -73,17 +73,25 @@ fn once_in_walk(us: &[u32], ms: &[u32]) -> bool
     held(us, ms)
 }
 
-// Whether each number of us is found in ms, in the order of us. A clique's members rise as a rule, and then one walk over both is enough.
-pub fn in_order(us: &[u32], ms: &[u32]) -> bool
-    ensures { λ r. ⌜ r ≡ inOrder (now (us .entry)) (now (ms .entry)) ⌝ }
+// One walk over both finds the numbers of us in ms, in their order, and they rise: a clique's members do as a rule. Only a true
+// answer says something.
+fn in_order(us: &[u32], ms: &[u32]) -> bool
+    ensures { λ r. ⌜ (r ≡ true → onceIn (now (ms .entry)) (now (us .entry)) ≡ true) ⌝ }
 {
+    let mut least = 0;
     let mut i = 0;
     let mut j = 0;
     while i < us.len() {
         if ms.len() <= j {
             return false;
         }
-        if us[i] == ms[j] {
+        let x = us[i];
+        if x == ms[j] {
+            let v = x as usize;
+            if v < least {
+                return false;
+            }
+            least = v + 1;
             i += 1;
         }
         j += 1;
@@ -162,13 +170,13 @@ fn once_in_by(us: &[u32], ms: &[u32], n: usize, marks: &mut [bool]) -> bool
     }
 }
 
-// No number of us stands twice, and each is in ms. By walks where both are short, since then they cost no more than the marks do,
-// and where a number of us is not below n; else by marks.
+// No number of us stands twice, and each is in ms. Where one walk over both does not show it: by walks over all pairs where both are
+// short, since then they cost no more than the marks do, and where a number of us is not below n; else by marks.
 pub fn once_in(us: &[u32], ms: &[u32], n: usize, marks: &mut [bool]) -> bool
     requires { ⌜ 0 < length (now marks) ⌝ }
     ensures { λ r. ⌜ r ≡ onceIn (now (ms .entry)) (now (us .entry)) ⌝ }
 {
-    if us.len() == 0 {
+    if in_order(us, ms) {
         return true;
     }
     if us.len() <= 16 && ms.len() <= 16 {

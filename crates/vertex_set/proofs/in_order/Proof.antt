@@ -1,42 +1,50 @@
-use Prim.Native.Nat.{ℕ, _≤_, _+_, _-_}
-use mathlib.Core.Path.{_≡_, refl, ap, sym, _∙_}
-use mathlib.Core.Logic.{⊎-elim}
-use lib.ListN.{length, drop}
+use Prim.Native.Nat.{ℕ, _+_, _-_, _≤_}
 use native.Mathlib.Omega.{arith}
+use mathlib.Core.Bool.{false}
+use mathlib.Core.Logic.{⊎-elim}
+use mathlib.Core.Path.{_≡_, refl, sym, ap, subst, _∙_}
+use mathlib.Core.List.{List, []}
+use lib.ListN.{length, getD, take}
+use lib.Seq.{take-all}
 use borrow.Author.Needs.{needs}
-use Rattle.vertex_set.specs.OnceIn.{inOrder}
-use Rattle.vertex_set.proofs.Walks.{order-found, order-passed, order-short, order-done}
+use Rattle.layout.proofs.Tests.{differ}
+use Rattle.utils.proofs.Windows.{take-more}
+use Rattle.vertex_set.proofs.Walks.{Climbed, climb-none, climb-more, climb-all}
 use Rattle.vertex_set.proofs.in_order.Statement.{statement}
 use Rattle.vertex_set.proofs.in_order.Tie as tie
 
 abbrev Inv-loop : tie.InvT-loop
-Inv-loop us ms i₀ j₀ i j = (i ≤ length us) × (inOrder us ms ≡ inOrder (drop i us) (drop j ms))
+Inv-loop us ms least₀ i₀ j₀ least i j = (i ≤ length us) × Climbed ms least (take i us)
 
 abbrev μ-loop : tie.MeasureT-loop
-μ-loop us ms i₀ j₀ i j = length ms - j
+μ-loop us ms least₀ i₀ j₀ least i j = length ms - j
 
 loop-holds : tie.Need-loop-holds Inv-loop μ-loop
-loop-holds c = (omega arith, refl)
+loop-holds c = (omega arith, climb-none (c .args .ms .now))
 
--- ms has ended
 returns : tie.Need-returns Inv-loop μ-loop
-returns c =
-    let k = c .before in
-    let l = k .before in
-    let a = l .before .args in
-    sym (l .loop .inv .1 ∙ order-short (a .us .now) (a .ms .now) (l .loop .i) (l .loop .j) (k .loop-test .taken) (c .if1 .taken))
+returns c = λ z. absurd (differ false z refl)
+
+mul-x : tie.Need-mul-x Inv-loop μ-loop
+mul-x c = search needs
+
+shared-slice-read-x : tie.Need-shared-slice-read-x Inv-loop μ-loop
+shared-slice-read-x c = search needs
 
 mul-if2 : tie.Need-mul-if2 Inv-loop μ-loop
 mul-if2 c = search needs
 
 shared-slice-read-if2 : tie.Need-shared-slice-read-if2 Inv-loop μ-loop
-shared-slice-read-if2 c = c .before .before .loop-test .taken
+shared-slice-read-if2 c = search needs
 
-mul-if2-2 : tie.Need-mul-if2-2 Inv-loop μ-loop
-mul-if2-2 c = search needs
+cast-v : tie.Need-cast-v Inv-loop μ-loop
+cast-v c = omega (arith, c .before .before .shared-slice-known .given (c .before .before .before .before .before .loop .i))
 
-shared-slice-read-if2-2 : tie.Need-shared-slice-read-if2-2 Inv-loop μ-loop
-shared-slice-read-if2-2 c = c .before .before .if1 .left
+returns-2 : tie.Need-returns-2 Inv-loop μ-loop
+returns-2 c = λ z. absurd (differ false z refl)
+
+add-least : tie.Need-add-least Inv-loop μ-loop
+add-least c = omega (arith, c .before .before .before .shared-slice-known .given (c .before .before .before .before .before .before .loop .i))
 
 add-i : tie.Need-add-i Inv-loop μ-loop
 add-i c = search needs
@@ -45,28 +53,28 @@ add-j : tie.Need-add-j Inv-loop μ-loop
 add-j c = search needs
 
 loop-less : tie.Need-loop-less Inv-loop μ-loop
-loop-less c = omega (arith, c .before .before .before .if1 .left)
+loop-less c = search needs
 
 loop-again : tie.Need-loop-again Inv-loop μ-loop
 loop-again c =
     let e = c .before .before .before in
-    let k = e .before in
-    let l = k .before in
-    let a = l .before .args in
-    let us = a .us .now in
-    let ms = a .ms .now in
+    let l = e .before .before in
+    let us = l .before .args .us .now in
+    let ms = l .before .args .ms .now in
     let i = l .loop .i in
-    let j = l .loop .j in
     ⊎-elim
-    (λ w. (omega (arith, w .1, k .loop-test .taken), l .loop .inv .1 ∙ order-found us ms i j (k .loop-test .taken) (e .if1 .left) (w .0 .taken) ∙ ap (λ (n : ℕ). inOrder (drop n us) (drop (j + 1) ms)) (sym (w .1))))
-    (λ w. (omega (arith, w .1, k .loop-test .taken), l .loop .inv .1 ∙ order-passed us ms i j (k .loop-test .taken) (e .if1 .left) (w .0 .left) ∙ ap (λ (n : ℕ). inOrder (drop n us) (drop (j + 1) ms)) (sym (w .1))))
+    (λ w. (
+      omega (arith, w .3, e .before .loop-test .taken),
+      rw (w .2, w .3, take-more [] us i (e .before .loop-test .taken)) (climb-more ms (take i us) (l .loop .least) (getD us i 0) (l .loop .j) (w .1 .left) (e .if1 .left) (w .0 .taken) (l .loop .inv .1)),
+    ))
+    (λ w. (omega (arith, w .2, l .loop .inv .0), rw (w .1, w .2) (l .loop .inv .1)))
     (c .if2 .came)
 
-returns-2 : tie.Need-returns-2 Inv-loop μ-loop
-returns-2 c =
+returns-3 : tie.Need-returns-3 Inv-loop μ-loop
+returns-3 c =
     let l = c .before in
     let a = l .before .args in
-    sym (l .loop .inv .1 ∙ order-done (a .us .now) (a .ms .now) (l .loop .i) (l .loop .j) (c .loop-test .left))
+    λ _. climb-all (a .ms .now) (a .us .now) (l .loop .least) (subst (Climbed (a .ms .now) (l .loop .least)) (take-all (l .loop .i) (a .us .now) (c .loop-test .left)) (l .loop .inv .1))
 
 pub in-order-spec : {M : Type 1} → statement M
 in-order-spec =
@@ -76,12 +84,15 @@ in-order-spec =
     μ-loop
     loop-holds
     returns
+    mul-x
+    shared-slice-read-x
     mul-if2
     shared-slice-read-if2
-    mul-if2-2
-    shared-slice-read-if2-2
+    cast-v
+    returns-2
+    add-least
     add-i
     add-j
     loop-less
     loop-again
-    returns-2)
+    returns-3)

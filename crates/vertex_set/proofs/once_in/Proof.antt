@@ -1,13 +1,15 @@
 use mathlib.Core.Path.{sym, _∙_}
 use borrow.Author.Tests.{not-false}
-use Rattle.vertex_set.proofs.Unmarked.{once-empty}
 use native.Mathlib.Omega.{arith}
 use borrow.Author.Needs.{needs}
 use Rattle.vertex_set.proofs.once_in.Statement.{statement}
 use Rattle.vertex_set.proofs.once_in.Tie as tie
 
+in-order-requires : tie.Need-in-order-requires
+in-order-requires c κs = search needs
+
 returns : tie.Need-returns
-returns c = let s = c .before .before .before .before in sym (once-empty (s .args .ms .now) (s .args .us .now) (omega arith))
+returns c = sym (c .before .in-order .ensures (c .if1 .taken))
 
 once-in-walk-requires : tie.Need-once-in-walk-requires
 once-in-walk-requires c κs = search needs
@@ -37,6 +39,7 @@ pub once-in-spec : {M : Type 1} → statement M
 once-in-spec =
     tie.close
     (tie.spec
+    in-order-requires
     returns
     once-in-walk-requires
     returns-2
