@@ -1,45 +1,42 @@
 -- Snodes, one after the other.
 use Prim.Native.Nat.{ℕ, _+_, _-_, _≤_, _<_}
 use native.Mathlib.Omega.{arith}
-use mathlib.Core.Bool.{Bool, true, false, cond, not, _&&_}
+use mathlib.Core.Bool.{Bool, true, false, not, _&&_}
 use mathlib.Core.Path.{_≡_, refl, sym, ap, subst, _∙_}
-use mathlib.Core.List.{List, _∷_, _++_}
+use mathlib.Core.List.{List, [], _∷_, _++_}
 use lib.ListN.{length, drop, length-append}
-use lib.Dec.{T, eqb}
-use borrow.Author.Tests.{eq-eqb, ne-eqb}
+use lib.Dec.{T, eqb, ltb}
+use borrow.Author.Tests.{ne-eqb, eqb-true}
 use Rattle.layout.specs.Lists.{all, distinct, keep}
 use Rattle.layout.specs.Patterns.{Clique, readClique}
-use Rattle.layout.specs.Checks.{isPermutation}
 use Rattle.layout.proofs.Distinct.{distinct-append}
-use Rattle.layout.proofs.Tests.{fails, failed, and-cases}
+use Rattle.layout.proofs.Tests.{fails, failed, differ, and-cases, and-true, and-false, and-right}
 use Rattle.layout.proofs.Keeps.{keep-append}
+use Rattle.layout.proofs.Walks.{all-append, all-both}
 use Rattle.supernode_tree.specs.Reads.{Whole, cliquesFrom, cliqueOf, cliqueRead, CliqueInside}
 use Rattle.supernode_tree.specs.declared.Clique.{Clique as CliqueAt}
 use Rattle.supernode_tree.specs.declared.CliqueRead.the-variants.{Clique as Found}
 use Rattle.supernode_tree.proofs.Words.{length-part}
 use Rattle.supernode_tree.proofs.Cliques.{whole-next, from-next, from-none}
-use Rattle.clique_tree.specs.Trees.{snodesOf, snodesOk, filledTotal}
+use Rattle.clique_tree.specs.Trees.{snodesOf, fills, snodesFill, snodesOk}
 
 -- a repeat in the front is a repeat
 pub repeats-front : (p : ℕ → Bool) (xs ys : List ℕ) → distinct (keep p xs) ≡ false → distinct (keep p (xs ++ ys)) ≡ false
 repeats-front p xs ys e = failed _ (λ d. fails _ e (distinct-append (keep p xs) (keep p ys) .0 (subst (λ (l : List ℕ). T (distinct l)) (keep-append p xs ys) d) .0))
 
--- ---- snodes counted, and none of them empty
-
-abbrev filled : Clique → Bool
-filled c = not (eqb (length (c .snode)) 0)
+-- ---- snodes counted, none of them empty, and their numbers below n
 
 -- so many cliques are left
-pub record Counting (ws : List ℕ) (first count total at left : ℕ) : Type 0 where
+pub record Counting (n : ℕ) (ws : List ℕ) (first count total at left : ℕ) : Type 0 where
   pub stand : Whole ws at left
-  pub full : all filled (cliquesFrom ws first count) ≡ all filled (cliquesFrom ws at left)
+  pub full : all (fills n) (cliquesFrom ws first count) ≡ all (fills n) (cliquesFrom ws at left)
   pub sum : total + length (snodesOf (cliquesFrom ws at left)) ≡ length (snodesOf (cliquesFrom ws first count))
   pub low : total ≤ at
 
-pub counting-start : (ws : List ℕ) (first count : ℕ) → Whole ws first count → Counting ws first count 0 first count
-counting-start ws first count w = record { stand = w; full = refl; sum = omega arith; low = omega arith }
+pub counting-start : (n : ℕ) (ws : List ℕ) (first count : ℕ) → Whole ws first count → Counting n ws first count 0 first count
+counting-start n ws first count w = record { stand = w; full = refl; sum = omega arith; low = omega arith }
 
-module _ (ws : List ℕ) (first count total at left : ℕ) (k : Counting ws first count total at left) where
+module _ (n : ℕ) (ws : List ℕ) (first count total at left : ℕ) (k : Counting n ws first count total at left) where
   module _ (more : 0 < left) (q : CliqueAt) (e : cliqueRead ws (Found q) ≡ readClique (drop at ws)) (i : CliqueInside (length ws) at (Found q)) where
     first-is : cliquesFrom ws at left ≡ cliqueOf ws q ∷ cliquesFrom ws (q .next) (left - 1)
     first-is = from-next ws at left (Found q) e more q refl (k .stand)
@@ -47,41 +44,78 @@ module _ (ws : List ℕ) (first count total at left : ℕ) (k : Counting ws firs
     many : length (cliqueOf ws q .snode) ≡ q .«snode_count»
     many = length-part (q .snode) (q .«snode_count») ws (omega arith)
 
-    cases : (filled (cliqueOf ws q) ≡ false → all filled (cliquesFrom ws first count) ≡ false)
-        × (filled (cliqueOf ws q) ≡ true → all filled (cliquesFrom ws first count) ≡ all filled (cliquesFrom ws (q .next) (left - 1)))
-    cases = and-cases (filled (cliqueOf ws q)) (all filled (cliquesFrom ws (q .next) (left - 1))) _ (k .full ∙ ap (all filled) first-is)
+    cases : (fills n (cliqueOf ws q) ≡ false → all (fills n) (cliquesFrom ws first count) ≡ false)
+        × (fills n (cliqueOf ws q) ≡ true → all (fills n) (cliquesFrom ws first count) ≡ all (fills n) (cliquesFrom ws (q .next) (left - 1)))
+    cases = and-cases (fills n (cliqueOf ws q)) (all (fills n) (cliquesFrom ws (q .next) (left - 1))) _ (k .full ∙ ap (all (fills n)) first-is)
 
-    pub counting-stops : q .«snode_count» ≡ 0 → 18446744073709551615 ≡ filledTotal (cliquesFrom ws first count)
-    counting-stops z = rw (cases .0 (ap (λ (n : ℕ). not (eqb n 0)) (many ∙ z)))
+    stops : fills n (cliqueOf ws q) ≡ false → false ≡ snodesFill n (cliquesFrom ws first count)
+    stops z = sym (and-false _ _ (cases .0 z))
+
+    some : (q .«snode_count» ≡ 0 → ⊥) → not (eqb (length (cliqueOf ws q .snode)) 0) ≡ true
+    some h = ap (λ (m : ℕ). not (eqb m 0)) many ∙ ap not (ne-eqb (q .«snode_count») 0 h)
+
+    pub counting-empty : q .«snode_count» ≡ 0 → false ≡ snodesFill n (cliquesFrom ws first count)
+    counting-empty z = stops (and-false _ _ (ap (λ (m : ℕ). not (eqb m 0)) (many ∙ z)))
+
+    pub counting-above : all (λ x. ltb x n) (cliqueOf ws q .snode) ≡ false → false ≡ snodesFill n (cliquesFrom ws first count)
+    counting-above z = stops (and-right (not (eqb (length (cliqueOf ws q .snode)) 0)) _ z)
 
     pub counting-fits : total + q .«snode_count» ≤ length ws
     counting-fits = omega (arith, k .low)
 
-    pub counting-goes : (q .«snode_count» ≡ 0 → ⊥) → Counting ws first count (total + q .«snode_count») (q .next) (left - 1)
-    counting-goes some = record {
+    pub counting-goes : (q .«snode_count» ≡ 0 → ⊥) → all (λ x. ltb x n) (cliqueOf ws q .snode) ≡ true
+        → Counting n ws first count (total + q .«snode_count») (q .next) (left - 1)
+    counting-goes h b = record {
       stand = sym (whole-next ws at left (Found q) e more q refl) ∙ k .stand;
-      full = cases .1 (ap (λ (n : ℕ). not (eqb n 0)) many ∙ ap not (ne-eqb (q .«snode_count») 0 some));
+      full = cases .1 (and-true _ _ (some h) ∙ b);
       sum = omega (arith, k .sum, ap (λ (cs : List Clique). length (snodesOf cs)) first-is, length-append (cliqueOf ws q .snode) (snodesOf (cliquesFrom ws (q .next) (left - 1))), many);
       low = omega (arith, k .low);
     }
 
-  pub counting-done : left ≤ 0 → total ≡ filledTotal (cliquesFrom ws first count)
+  pub counting-done : left ≤ 0 → eqb total n ≡ snodesFill n (cliquesFrom ws first count)
   counting-done z =
       let none = from-none ws at left z in
-      rw (k .full ∙ ap (all filled) none) (omega (arith, k .sum, ap (λ (cs : List Clique). length (snodesOf cs)) none))
+      let same : total ≡ length (snodesOf (cliquesFrom ws first count)) = omega (arith, k .sum, ap (λ (cs : List Clique). length (snodesOf cs)) none) in
+      ap (λ (m : ℕ). eqb m n) same ∙ sym (and-true _ _ (k .full ∙ ap (all (fills n)) none))
 
--- the total beside a number of vertices
-pub total-other : (cs : List Clique) (n r : ℕ) → r ≡ filledTotal cs → (r ≡ n → ⊥) → snodesOk n cs ≡ false
-total-other cs n r e h = go (all filled cs) (length (snodesOf cs)) (isPermutation (snodesOf cs)) (λ z. h (e ∙ z))
-  where
-    go : (b : Bool) (m : ℕ) (p : Bool) → (cond b m 18446744073709551615 ≡ n → ⊥) → (b && eqb m n && p) ≡ false
-    go true m p h = rw (ne-eqb m n h)
-    go false m p h = refl
+-- ---- and what is left to test of them
 
-pub total-same : (cs : List Clique) (n r : ℕ) → r ≡ filledTotal cs → r ≡ n → n < 4294967296
-    → (length (snodesOf cs) ≡ n) × (isPermutation (snodesOf cs) ≡ snodesOk n cs)
-total-same cs n r e h l = go (all filled cs) (length (snodesOf cs)) (isPermutation (snodesOf cs)) (sym e ∙ h)
-  where
-    go : (b : Bool) (m : ℕ) (p : Bool) → cond b m 18446744073709551615 ≡ n → (m ≡ n) × (p ≡ (b && eqb m n && p))
-    go true m p q = (q, rw (eq-eqb m n q))
-    go false m p q = absurd (omega arith)
+all-snodes : (p : ℕ → Bool) (cs : List Clique) → all p (snodesOf cs) ≡ all (λ (c : Clique). all p (c .snode)) cs
+all-snodes p [] = refl
+all-snodes p (c ∷ cs) = all-append p (c .snode) (snodesOf cs) ∙ ap (λ (b : Bool). all p (c .snode) && b) (all-snodes p cs)
+
+module _ (n : ℕ) (cs : List Clique) where
+  filled-below : all (fills n) cs ≡ (all (λ c. not (eqb (length (c .snode)) 0)) cs && all (λ x. ltb x n) (snodesOf cs))
+  filled-below =
+      all-both (λ (c : Clique). not (eqb (length (c .snode)) 0)) (λ (c : Clique). all (λ x. ltb x n) (c .snode)) cs
+      ∙ ap (λ (b : Bool). all (λ c. not (eqb (length (c .snode)) 0)) cs && b) (sym (all-snodes (λ x. ltb x n) cs))
+
+  -- by the tests that both make
+  tests : (f : Bool) (m : ℕ) (below : ℕ → Bool) (d : Bool)
+      → ((f && below n && eqb m n) ≡ false → (f && eqb m n && (below m && d)) ≡ false)
+      × ((f && below n && eqb m n) ≡ true → (m ≡ n) × (below n ≡ true) × (d ≡ (f && eqb m n && (below m && d))))
+  tests false m below d = (λ z. refl, λ z. absurd (differ false z refl))
+  tests true m below d = go (eqb m n) refl
+    where
+      pick : (b : Bool) → ((b && true) ≡ false → (b && d) ≡ false) × ((b && true) ≡ true → (n ≡ n) × (b ≡ true) × (d ≡ (b && d)))
+      pick true = (λ z. absurd (differ true refl z), λ z. (refl, refl, refl))
+      pick false = (λ z. refl, λ z. absurd (differ false z refl))
+
+      go : (b : Bool) → eqb m n ≡ b
+          → ((below n && eqb m n) ≡ false → (eqb m n && (below m && d)) ≡ false)
+          × ((below n && eqb m n) ≡ true → (m ≡ n) × (below n ≡ true) × (d ≡ (eqb m n && (below m && d))))
+      go true q = rw (q, eqb-true m n q) (pick (below n))
+      go false q = rw q (λ z. refl, λ z. absurd (differ _ z (and-right (below n) false refl)))
+
+  both : (snodesFill n cs ≡ false → snodesOk n cs ≡ false)
+      × (snodesFill n cs ≡ true → (length (snodesOf cs) ≡ n) × (all (λ x. ltb x n) (snodesOf cs) ≡ true) × (distinct (snodesOf cs) ≡ snodesOk n cs))
+  both =
+      let us = snodesOf cs in
+      rw filled-below (tests (all (λ c. not (eqb (length (c .snode)) 0)) cs) (length us) (λ m. all (λ x. ltb x m) us) (distinct us))
+
+  pub fill-fails : snodesFill n cs ≡ false → snodesOk n cs ≡ false
+  fill-fails = both .0
+
+  pub fill-holds : snodesFill n cs ≡ true
+      → (length (snodesOf cs) ≡ n) × (all (λ x. ltb x n) (snodesOf cs) ≡ true) × (distinct (snodesOf cs) ≡ snodesOk n cs)
+  fill-holds = both .1

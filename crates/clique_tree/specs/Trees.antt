@@ -33,9 +33,13 @@ separatorsOk cs = all (λ c. separatorOk cs (c .parent) (c .separator)) cs
 abbrev pub snodesOf : List Clique → List ℕ
 snodesOf cs = join (λ c. c .snode) cs
 
--- how many they are, or more than they can be where a snode is empty
-abbrev pub filledTotal : List Clique → ℕ
-filledTotal cs = cond (all (λ c. not (eqb (length (c .snode)) 0)) cs) (length (snodesOf cs)) 18446744073709551615
+-- a snode is not empty, and its numbers are below n
+abbrev pub fills : ℕ → Clique → Bool
+fills n c = not (eqb (length (c .snode)) 0) && all (λ x. ltb x n) (c .snode)
+
+-- each is so, and together they are n
+abbrev pub snodesFill : ℕ → List Clique → Bool
+snodesFill n cs = all (fills n) cs && eqb (length (snodesOf cs)) n
 
 -- none is empty, and together they hold each number below n once
 abbrev pub snodesOk : ℕ → List Clique → Bool

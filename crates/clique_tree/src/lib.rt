@@ -3,15 +3,14 @@ ghost use mathlib.Core.Path.{_≡_};
 ghost use Prim.Native.Nat.{_-_, _*_, _≤_, _<_};
 ghost use mathlib.Core.Bool.{true};
 ghost use lib.ListN.{length, take, drop};
-ghost use lib.Dec.{ltb};
 ghost use Rattle.layout.specs.Lists.{all, distinct, keep};
-ghost use Rattle.layout.specs.Checks.{isPermutation, treeRight, cliquesRight};
+ghost use Rattle.layout.specs.Checks.{treeRight, cliquesRight};
 ghost use Rattle.layout.specs.Patterns.{readPattern, readPatterns, patterns, endsRight};
 ghost use Rattle.utils.specs.Windows.{within};
 ghost use Rattle.supernode_tree.specs.Reads.{patternAt, whole, Whole, cliquesFrom};
 ghost use Rattle.supernode_tree.specs.Offsets.{OffsetsEvery};
 ghost use Rattle.vertex_set.specs.OnceIn.{onceIn};
-ghost use Rattle.clique_tree.specs.Trees.{parentOk, snodesOf, filledTotal, snodesOk, separatorsOk};
+ghost use Rattle.clique_tree.specs.Trees.{parentOk, snodesOf, snodesFill, snodesOk, separatorsOk};
 use supernode_tree::Clique;
 use supernode_tree::Pattern;
 
@@ -67,10 +66,10 @@ pub fn trees_right(count: u32, words: &[u32]) -> bool
 
 // ---- check 7: snodes
 
-// How many numbers the snodes hold or, where one is empty, more than they can.
-fn snode_total(words: &[u32], first: usize, count: u32) -> usize
+// No snode is empty, each of their numbers is below n, and together they are n.
+fn snodes_fill(words: &[u32], first: usize, count: u32, n: usize) -> bool
     requires { ⌜ Whole (now words) first count ⌝ }
-    ensures { λ r. ⌜ r ≡ filledTotal (cliquesFrom (now (words .entry)) first count) ⌝ }
+    ensures { λ r. ⌜ r ≡ snodesFill n (cliquesFrom (now (words .entry)) first count) ⌝ }
 {
     let mut total = 0;
     let mut at = first;
@@ -78,13 +77,18 @@ fn snode_total(words: &[u32], first: usize, count: u32) -> usize
     while 0 < left {
         let q = Clique::here(words, at);
         if q.snode_count == 0 {
-            return 18446744073709551615;
+            return false;
+        }
+        let a = q.snode;
+        let e = q.separator;
+        if !utils::all_below(&words[a..e], n) {
+            return false;
         }
         total += q.snode_count;
         at = q.next;
         left -= 1;
     }
-    total
+    total == n
 }
 
 // No number of the window stands twice in the snodes.
@@ -114,34 +118,13 @@ fn snodes_once_within(
     true
 }
 
-// Each number of the snodes is below n.
-fn snodes_below(words: &[u32], first: usize, count: u32, n: usize) -> bool
+// No snode is empty, and together they hold each number below n once, looked for window by window.
+fn snodes_right(words: &[u32], first: usize, count: u32, n: usize, marks: &mut [bool]) -> bool
     requires { ⌜ Whole (now words) first count ⌝ }
-    ensures { λ r. ⌜ r ≡ all (λ x. ltb x n) (snodesOf (cliquesFrom (now (words .entry)) first count)) ⌝ }
-{
-    let mut at = first;
-    let mut left = count;
-    while 0 < left {
-        let q = Clique::here(words, at);
-        let a = q.snode;
-        let e = q.separator;
-        if !utils::all_below(&words[a..e], n) {
-            return false;
-        }
-        at = q.next;
-        left -= 1;
-    }
-    true
-}
-
-// The snodes hold each number below their count once, window by window.
-fn snodes_permute_by(words: &[u32], first: usize, count: u32, n: usize, marks: &mut [bool]) -> bool
-    requires { ⌜ Whole (now words) first count ⌝ }
-    requires { ⌜ n ≡ length (snodesOf (cliquesFrom (now words) first count)) ⌝ }
     requires { ⌜ 0 < length (now marks) ⌝ }
-    ensures { λ r. ⌜ r ≡ isPermutation (snodesOf (cliquesFrom (now (words .entry)) first count)) ⌝ }
+    ensures { λ r. ⌜ r ≡ snodesOk n (cliquesFrom (now (words .entry)) first count) ⌝ }
 {
-    if !snodes_below(words, first, count, n) {
+    if !snodes_fill(words, first, count, n) {
         return false;
     }
     let mut low = 0;
@@ -225,18 +208,6 @@ fn separators_right(
 }
 
 // ---- check 7
-
-// No snode is empty, and together they hold each number below n once.
-fn snodes_right(words: &[u32], first: usize, count: u32, n: usize, marks: &mut [bool]) -> bool
-    requires { ⌜ Whole (now words) first count × (n < 4294967296) ⌝ }
-    requires { ⌜ 0 < length (now marks) ⌝ }
-    ensures { λ r. ⌜ r ≡ snodesOk n (cliquesFrom (now (words .entry)) first count) ⌝ }
-{
-    if snode_total(words, first, count) != n {
-        return false;
-    }
-    snodes_permute_by(words, first, count, n, marks)
-}
 
 // Check 7 of the pattern that stands at an offset, with lent tables.
 fn cliques_right_by(words: &[u32], at: usize, marks: &mut [bool], offsets: &mut [usize]) -> bool

@@ -39,7 +39,7 @@ here-requires c κs =
 snodes-right-requires : tie.Need-snodes-right-requires
 snodes-right-requires c κs =
     let h = c .before in
-    ((whole-at h, h .here .ensures .1 .3), h .before .before .before .before .pre .1 .0)
+    (whole-at h, h .before .before .before .before .pre .1 .0)
 
 same-length : tie.Need-same-length
 same-length c = c .before .before .before .snodes-right .kept .1 .1 .1 .1 .0

@@ -1,35 +1,111 @@
-use mathlib.Core.Path.{sym, _∙_}
+use Rattle.clique_tree.specs.Trees.{snodesOf, snodesOk}
+use Rattle.clique_tree.proofs.Snodes.{fill-fails, fill-holds}
+use Rattle.utils.proofs.Windows.{window-none, window-more, repeats-within, windows-all}
+use Rattle.layout.proofs.Tests.{passes}
 use Rattle.supernode_tree.specs.Reads.{cliquesFrom}
-use Rattle.clique_tree.proofs.Snodes.{total-other, total-same}
+use Rattle.layout.specs.Lists.{all, keep, distinct}
+use lib.ListN.{length}
+use lib.Dec.{T, ltb}
+use borrow.Author.Tests.{not-true, not-false}
+use Prim.Native.Nat.{_+_, _-_, _≤_}
+use mathlib.Core.Path.{_≡_, refl, sym, _∙_}
+use mathlib.Core.Bool.{true}
+use native.Mathlib.Omega.{arith}
+use borrow.Author.Needs.{needs}
 use Rattle.clique_tree.proofs.snodes_right.Statement.{statement}
 use Rattle.clique_tree.proofs.snodes_right.Tie as tie
 
-snode-total-requires : tie.Need-snode-total-requires
-snode-total-requires c κs = c .before .before .pre .0 .0
+abbrev Inv-loop : tie.InvT-loop
+Inv-loop words first count n marks₀ low₀ marks low =
+    (low ≤ n) × (length marks ≡ length marks₀) × T (distinct (keep (λ x. ltb x low) (snodesOf (cliquesFrom words first count))))
 
-returns : tie.Need-returns
+abbrev μ-loop : tie.MeasureT-loop
+μ-loop words first count n marks₀ low₀ marks low = n - low
+
+snodes-fill-requires : tie.Need-snodes-fill-requires Inv-loop μ-loop
+snodes-fill-requires c κs = c .before .before .pre .0
+
+returns : tie.Need-returns Inv-loop μ-loop
 returns c =
-    let a = c .before .before .before .before .args in
-    sym (total-other (cliquesFrom (a .words .now) (a .first) (a .count)) (a .n) (c .before .snode-total .result) (c .before .snode-total .ensures) (c .if1 .taken))
+    let b = c .before in
+    let a = b .before .before .before .args in
+    sym (fill-fails (a .n) (cliquesFrom (a .words .now) (a .first) (a .count)) (sym (b .snodes-fill .ensures) ∙ not-true _ (c .if1 .taken)))
 
-snodes-permute-by-requires : tie.Need-snodes-permute-by-requires
-snodes-permute-by-requires c κs =
-    let s = c .before .before .before .before .before in
-    let a = s .args in
-    let t = c .before .before .snode-total in
-    (s .pre .0 .0, (sym (total-same (cliquesFrom (a .words .now) (a .first) (a .count)) (a .n) (t .result) (t .ensures) (c .before .if1 .left) (s .pre .0 .1) .0), s .pre .1))
+-- the snodes fill n, and what is left is that they repeat none
+filled : (c : tie.Else1 Inv-loop μ-loop) → let a = c .before .before .before .before .args in
+    let cs = cliquesFrom (a .words .now) (a .first) (a .count) in
+    (length (snodesOf cs) ≡ a .n) × (all (λ x. ltb x (a .n)) (snodesOf cs) ≡ true) × (distinct (snodesOf cs) ≡ snodesOk (a .n) cs)
+filled c =
+    let b = c .before in
+    let a = b .before .before .before .args in
+    fill-holds (a .n) (cliquesFrom (a .words .now) (a .first) (a .count)) (sym (b .snodes-fill .ensures) ∙ not-false _ (c .if1 .left))
 
-same-length : tie.Need-same-length
-same-length c = c .before .before .snodes-permute-by .kept .1 .1 .1 .1 .0
+loop-holds : tie.Need-loop-holds Inv-loop μ-loop
+loop-holds c =
+    let s = c .before .before .before .before in
+    (omega arith, refl, window-none (snodesOf (cliquesFrom (s .args .words .now) (s .args .first) (s .args .count))))
 
-returns-2 : tie.Need-returns-2
+snodes-once-within-requires : tie.Need-snodes-once-within-requires Inv-loop μ-loop
+snodes-once-within-requires c κs = search needs
+
+same-length : tie.Need-same-length Inv-loop μ-loop
+same-length c = search needs
+
+returns-2 : tie.Need-returns-2 Inv-loop μ-loop
 returns-2 c =
-    let s = c .before .before .before .before .before .before .before .before in
-    let a = s .args in
-    let t = c .before .before .before .before .before .snode-total in
-    c .before .before .snodes-permute-by .ensures ∙ total-same (cliquesFrom (a .words .now) (a .first) (a .count)) (a .n) (t .result) (t .ensures) (c .before .before .before .before .if1 .left) (s .pre .0 .1) .1
+    let w = c .before .before .before in
+    let f = w .before .before .before in
+    let a = f .before .before .before .before .args in
+    let us = snodesOf (cliquesFrom (a .words .now) (a .first) (a .count)) in
+    sym (sym (filled f .2) ∙ repeats-within _ us (sym (w .snodes-once-within .ensures) ∙ not-true _ (c .if2 .taken)))
+
+sub-if3 : tie.Need-sub-if3 Inv-loop μ-loop
+sub-if3 c = search needs
+
+same-length-2 : tie.Need-same-length-2 Inv-loop μ-loop
+same-length-2 c = search needs
+
+returns-3 : tie.Need-returns-3 Inv-loop μ-loop
+returns-3 c =
+    let w = c .before .before .before .before in
+    let l = w .before .before in
+    let a = l .before .before .before .before .before .args in
+    let us = snodesOf (cliquesFrom (a .words .now) (a .first) (a .count)) in
+    let once = passes _ (sym (w .snodes-once-within .ensures) ∙ not-false _ (c .before .if2 .left)) in
+    sym (sym (filled (l .before) .2)
+    ∙ windows-all (a .n) (l .loop .low + length (l .loop .marks)) us (filled (l .before) .1) (omega arith) (window-more (l .loop .low) (length (l .loop .marks)) us (l .loop .inv .2) once))
+
+add-low : tie.Need-add-low Inv-loop μ-loop
+add-low c = search needs
+
+loop-less : tie.Need-loop-less Inv-loop μ-loop
+loop-less c = search needs
+
+loop-again : tie.Need-loop-again Inv-loop μ-loop
+loop-again c =
+    let w = c .before .before .before .before in
+    let l = w .before .before in
+    let s = l .before .before .before .before .before in
+    let us = snodesOf (cliquesFrom (s .args .words .now) (s .args .first) (s .args .count)) in
+    let once = passes _ (sym (w .snodes-once-within .ensures) ∙ not-false _ (c .before .if2 .left)) in
+    let e : length (w .snodes-once-within .last .1 .1 .1 .1 .0) ≡ length (l .loop .marks) = omega arith in
+    (omega arith, omega arith, rw e (window-more (l .loop .low) (length (l .loop .marks)) us (l .loop .inv .2) once))
 
 pub snodes-right-spec : {M : Type 1} → statement M
 snodes-right-spec =
     tie.close
-    (tie.spec snode-total-requires returns snodes-permute-by-requires same-length returns-2)
+    (tie.spec
+    Inv-loop
+    μ-loop
+    snodes-fill-requires
+    returns
+    loop-holds
+    snodes-once-within-requires
+    same-length
+    returns-2
+    sub-if3
+    same-length-2
+    returns-3
+    add-low
+    loop-less
+    loop-again)
