@@ -4,8 +4,8 @@ ghost use Prim.Native.Nat.{_<_};
 ghost use mathlib.Core.Bool.{true};
 ghost use lib.ListN.{length, drop};
 ghost use lib.Dec.{ltb};
-ghost use Rattle.layout.specs.Lists.{all, distinct, keep, has};
-ghost use Rattle.utils.specs.Windows.{within, Marked};
+ghost use Rattle.layout.specs.Lists.{all, distinct, has};
+ghost use Rattle.utils.specs.Windows.{Marked};
 ghost use Rattle.vertex_set.specs.OnceIn.{onceIn, Unmarks};
 
 // ---- by walks
@@ -144,15 +144,8 @@ fn unmark(words: &[u32], low: usize, marks: &mut [bool]) -> bool
     true
 }
 
-// No number of us in the window stands twice, and each is in ms. The window starts at low and has a mark for each number.
-fn once_in_within(us: &[u32], ms: &[u32], low: usize, marks: &mut [bool]) -> bool
-    ensures { λ r. ⌜ r ≡ onceIn (now (ms .entry)) (keep (within low (length (now (marks .entry)))) (now (us .entry))) ⌝ }
-{
-    mark_only(ms, low, &mut *marks);
-    unmark(us, low, marks)
-}
-
-// No number of us stands twice, and each is in ms, where those of us are below n: looked for window by window.
+// No number of us stands twice, and each is in ms, where those of us are below n: looked for window by window, with as many numbers
+// in a window as there are marks.
 fn once_in_by(us: &[u32], ms: &[u32], n: usize, marks: &mut [bool]) -> bool
     requires { ⌜ all (λ x. ltb x n) (now us) ≡ true ⌝ }
     requires { ⌜ 0 < length (now marks) ⌝ }
@@ -160,7 +153,8 @@ fn once_in_by(us: &[u32], ms: &[u32], n: usize, marks: &mut [bool]) -> bool
 {
     let mut low = 0;
     loop {
-        if !once_in_within(us, ms, low, &mut *marks) {
+        mark_only(ms, low, &mut *marks);
+        if !unmark(us, low, &mut *marks) {
             return false;
         }
         if n - low <= marks.len() {

@@ -3,10 +3,9 @@ use Rattle.vertex_set.proofs.Walks.{has-step, has-here, has-nowhere}
 use Rattle.layout.specs.Lists.{has, all}
 use lib.ListN.{length, drop}
 use Prim.Native.Nat.{_≤_, _-_}
-use mathlib.Core.Path.{_≡_, sym, _∙_}
+use mathlib.Core.Path.{_≡_, refl, sym, _∙_}
 use mathlib.Core.Bool.{true}
 use native.Mathlib.Omega.{arith}
-use borrow.Author.Needs.{needs}
 use Rattle.vertex_set.proofs.held.Statement.{statement}
 use Rattle.vertex_set.proofs.held.Tie as tie
 
@@ -23,28 +22,28 @@ abbrev μ-walk : tie.MeasureT-walk
 μ-walk a b ok₀ i₀ ok i = length a - i
 
 walk-holds : tie.Need-walk-holds Inv-loop μ-loop Inv-walk μ-walk
-walk-holds c = search needs
+walk-holds c = (omega arith, refl, refl)
 
 mul-x : tie.Need-mul-x Inv-loop μ-loop Inv-walk μ-walk
-mul-x c = search needs
+mul-x c = omega arith
 
 shared-slice-read-x : tie.Need-shared-slice-read-x Inv-loop μ-loop Inv-walk μ-walk
-shared-slice-read-x c = search needs
+shared-slice-read-x c = omega arith
 
 loop-holds : tie.Need-loop-holds Inv-loop μ-loop Inv-walk μ-walk
-loop-holds c = search needs
+loop-holds c = (omega arith, refl, c .before .before .walk .inv .2)
 
 mul-if2 : tie.Need-mul-if2 Inv-loop μ-loop Inv-walk μ-walk
-mul-if2 c = search needs
+mul-if2 c = omega arith
 
 shared-slice-read-if2 : tie.Need-shared-slice-read-if2 Inv-loop μ-loop Inv-walk μ-walk
-shared-slice-read-if2 c = search needs
+shared-slice-read-if2 c = omega arith
 
 add-j : tie.Need-add-j Inv-loop μ-loop Inv-walk μ-walk
-add-j c = search needs
+add-j c = omega arith
 
 loop-less : tie.Need-loop-less Inv-loop μ-loop Inv-walk μ-walk
-loop-less c = search needs
+loop-less c = omega arith
 
 loop-again : tie.Need-loop-again Inv-loop μ-loop Inv-walk μ-walk
 loop-again c =
@@ -54,10 +53,10 @@ loop-again c =
     (omega arith, l .loop .inv .1 ∙ has-step _ b (l .loop .j) (omega arith) (c .if2 .left), l .loop .inv .2)
 
 add-i : tie.Need-add-i Inv-loop μ-loop Inv-walk μ-walk
-add-i c = search needs
+add-i c = omega arith
 
 walk-less : tie.Need-walk-less Inv-loop μ-loop Inv-walk μ-walk
-walk-less c = search needs
+walk-less c = omega arith
 
 walk-again : tie.Need-walk-again Inv-loop μ-loop Inv-walk μ-walk
 walk-again c =

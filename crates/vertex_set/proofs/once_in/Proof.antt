@@ -6,34 +6,34 @@ use Rattle.vertex_set.proofs.once_in.Statement.{statement}
 use Rattle.vertex_set.proofs.once_in.Tie as tie
 
 in-order-requires : tie.Need-in-order-requires
-in-order-requires c κs = search needs
+in-order-requires c κs = omega arith
 
 returns : tie.Need-returns
 returns c = sym (c .before .in-order .ensures (c .if1 .taken))
 
 once-in-walk-requires : tie.Need-once-in-walk-requires
-once-in-walk-requires c κs = search needs
+once-in-walk-requires c κs = omega arith
 
 returns-2 : tie.Need-returns-2
-returns-2 c = search needs
+returns-2 c = c .once-in-walk .ensures
 
 all-below-requires : tie.Need-all-below-requires
-all-below-requires c κs = search needs
+all-below-requires c κs = omega arith
 
 once-in-walk-requires-2 : tie.Need-once-in-walk-requires-2
-once-in-walk-requires-2 c κs = search needs
+once-in-walk-requires-2 c κs = omega arith
 
 returns-3 : tie.Need-returns-3
-returns-3 c = search needs
+returns-3 c = c .once-in-walk2 .ensures
 
 once-in-by-requires : tie.Need-once-in-by-requires
 once-in-by-requires c κs = (sym (c .before .before .all-below .ensures) ∙ not-false _ (c .before .if4 .left), omega arith)
 
 same-length : tie.Need-same-length
-same-length c = search needs
+same-length c = omega arith
 
 returns-4 : tie.Need-returns-4
-returns-4 c = search needs
+returns-4 c = c .before .before .once-in-by .ensures
 
 pub once-in-spec : {M : Type 1} → statement M
 once-in-spec =

@@ -2,9 +2,8 @@ use Rattle.vertex_set.proofs.Walks.{has-step, has-here, has-nowhere}
 use Rattle.layout.specs.Lists.{has}
 use lib.ListN.{length, drop}
 use Prim.Native.Nat.{_-_}
-use mathlib.Core.Path.{_≡_, sym, _∙_}
+use mathlib.Core.Path.{_≡_, refl, sym, _∙_}
 use native.Mathlib.Omega.{arith}
-use borrow.Author.Needs.{needs}
 use Rattle.vertex_set.proofs.stands_from.Statement.{statement}
 use Rattle.vertex_set.proofs.stands_from.Tie as tie
 
@@ -15,13 +14,13 @@ abbrev μ-loop : tie.MeasureT-loop
 μ-loop a i x j₀ j = length a - j
 
 loop-holds : tie.Need-loop-holds Inv-loop μ-loop
-loop-holds c = search needs
+loop-holds c = refl
 
 mul-if1 : tie.Need-mul-if1 Inv-loop μ-loop
-mul-if1 c = search needs
+mul-if1 c = omega arith
 
 shared-slice-read-if1 : tie.Need-shared-slice-read-if1 Inv-loop μ-loop
-shared-slice-read-if1 c = search needs
+shared-slice-read-if1 c = omega arith
 
 returns : tie.Need-returns Inv-loop μ-loop
 returns c =
@@ -29,10 +28,10 @@ returns c =
     sym (l .loop .inv ∙ has-here _ (l .before .args .a .now) (l .loop .j) (omega arith) (c .if1 .taken))
 
 add-j : tie.Need-add-j Inv-loop μ-loop
-add-j c = search needs
+add-j c = omega arith
 
 loop-less : tie.Need-loop-less Inv-loop μ-loop
-loop-less c = search needs
+loop-less c = omega arith
 
 loop-again : tie.Need-loop-again Inv-loop μ-loop
 loop-again c =
