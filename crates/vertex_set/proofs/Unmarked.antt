@@ -1,5 +1,5 @@
 -- Numbers that are once in others, by marks that are taken away, a window at a time.
-use Prim.Native.Nat.{ℕ, _+_, _≤_, _<_}
+use Prim.Native.Nat.{ℕ, _+_, _-_, _≤_, _<_}
 use native.Mathlib.Omega.{arith}
 use mathlib.Core.Bool.{Bool, true, false, not, _&&_, or-true, or-false}
 use mathlib.Core.Logic.{_⊎_, inl, inr, ⊎-elim}
@@ -18,6 +18,13 @@ use Rattle.utils.specs.Windows.{within, Marked}
 use Rattle.utils.proofs.Windows.{has-more, new-more, old-more, within-in, window-none, window-more, keep-all}
 use Rattle.vertex_set.specs.OnceIn.{onceIn}
 use Rattle.layout.proofs.Walks.{all-append}
+
+-- a number by its place in the window, and one after it
+pub in-window : {low x : ℕ} → low ≤ x → low + (x - low) ≡ x
+in-window h = omega arith
+
+pub past-window : {low x n : ℕ} → low ≤ x → n ≤ x - low → low + n ≤ x
+past-window h k = omega arith
 
 -- ---- marks that are left
 

@@ -1,5 +1,5 @@
 use Rattle.layout.proofs.Walks.{all-step, all-fails, all-done}
-use Rattle.vertex_set.proofs.Walks.{has-step, has-here, has-nowhere}
+use Rattle.vertex_set.proofs.Walks.{one-more, one-less, has-step, has-here, has-nowhere}
 use Rattle.layout.specs.Lists.{has, all}
 use lib.ListN.{length, drop}
 use Prim.Native.Nat.{_≤_, _-_}
@@ -28,7 +28,7 @@ mul-x : tie.Need-mul-x Inv-loop μ-loop Inv-walk μ-walk
 mul-x c = omega arith
 
 shared-slice-read-x : tie.Need-shared-slice-read-x Inv-loop μ-loop Inv-walk μ-walk
-shared-slice-read-x c = omega arith
+shared-slice-read-x c = c .before .walk-test .taken
 
 loop-holds : tie.Need-loop-holds Inv-loop μ-loop Inv-walk μ-walk
 loop-holds c = (omega arith, refl, c .before .before .walk .inv .2)
@@ -43,20 +43,20 @@ add-j : tie.Need-add-j Inv-loop μ-loop Inv-walk μ-walk
 add-j c = omega arith
 
 loop-less : tie.Need-loop-less Inv-loop μ-loop Inv-walk μ-walk
-loop-less c = omega arith
+loop-less c = one-less (c .before .before .if1 .left)
 
 loop-again : tie.Need-loop-again Inv-loop μ-loop Inv-walk μ-walk
 loop-again c =
     let l = c .before .before .before in
     let w = l .before .before .before in
     let b = w .before .args .b .now in
-    (omega arith, l .loop .inv .1 ∙ has-step _ b (l .loop .j) (omega arith) (c .if2 .left), l .loop .inv .2)
+    (one-more (c .before .before .if1 .left), l .loop .inv .1 ∙ has-step _ b (l .loop .j) (c .before .before .if1 .left) (c .if2 .left), l .loop .inv .2)
 
 add-i : tie.Need-add-i Inv-loop μ-loop Inv-walk μ-walk
 add-i c = omega arith
 
 walk-less : tie.Need-walk-less Inv-loop μ-loop Inv-walk μ-walk
-walk-less c = omega arith
+walk-less c = one-less (c .before .before .before .before .before .walk-test .taken)
 
 walk-again : tie.Need-walk-again Inv-loop μ-loop Inv-walk μ-walk
 walk-again c =
@@ -64,8 +64,8 @@ walk-again c =
     let w = l .before .before .before in
     let a = w .before .args .a .now in
     let b = w .before .args .b .now in (
-      omega arith,
-      w .walk .inv .1 ∙ all-step (λ u. has u b) a (w .walk .i) 0 (omega arith) (l .loop .inv .1 ∙ has-here _ b (l .loop .j) (omega arith) (c .if2 .taken)),
+      one-more (l .before .before .walk-test .taken),
+      w .walk .inv .1 ∙ all-step (λ u. has u b) a (w .walk .i) 0 (l .before .before .walk-test .taken) (l .loop .inv .1 ∙ has-here _ b (l .loop .j) (c .before .before .if1 .left) (c .if2 .taken)),
       l .loop .inv .2,
     )
 
@@ -82,7 +82,7 @@ returns-2 c =
     let w = l .before .before .before in
     let a = w .before .args .a .now in
     let b = w .before .args .b .now in
-    sym (w .walk .inv .1 ∙ all-fails (λ u. has u b) a (w .walk .i) 0 (omega arith) (l .loop .inv .1 ∙ has-nowhere _ b (l .loop .j) (c .if1 .taken)))
+    sym (w .walk .inv .1 ∙ all-fails (λ u. has u b) a (w .walk .i) 0 (l .before .before .walk-test .taken) (l .loop .inv .1 ∙ has-nowhere _ b (l .loop .j) (c .if1 .taken)))
 
 pub held-spec : {M : Type 1} → statement M
 held-spec =

@@ -9,7 +9,7 @@ use lib.Seq.{take-all}
 use borrow.Author.Needs.{needs}
 use Rattle.layout.proofs.Tests.{differ}
 use Rattle.utils.proofs.Windows.{take-more}
-use Rattle.vertex_set.proofs.Walks.{Climbed, climb-none, climb-more, climb-all}
+use Rattle.vertex_set.proofs.Walks.{one-less, Climbed, climb-none, climb-more, climb-all}
 use Rattle.vertex_set.proofs.in_order.Statement.{statement}
 use Rattle.vertex_set.proofs.in_order.Tie as tie
 
@@ -29,13 +29,13 @@ mul-x : tie.Need-mul-x Inv-loop μ-loop
 mul-x c = omega arith
 
 shared-slice-read-x : tie.Need-shared-slice-read-x Inv-loop μ-loop
-shared-slice-read-x c = omega arith
+shared-slice-read-x c = c .before .before .loop-test .taken
 
 mul-if2 : tie.Need-mul-if2 Inv-loop μ-loop
 mul-if2 c = omega arith
 
 shared-slice-read-if2 : tie.Need-shared-slice-read-if2 Inv-loop μ-loop
-shared-slice-read-if2 c = omega arith
+shared-slice-read-if2 c = c .before .before .if1 .left
 
 cast-v : tie.Need-cast-v Inv-loop μ-loop
 cast-v c = omega (arith, c .before .before .shared-slice-known .given (c .before .before .before .before .before .loop .i))
@@ -53,7 +53,7 @@ add-j : tie.Need-add-j Inv-loop μ-loop
 add-j c = omega arith
 
 loop-less : tie.Need-loop-less Inv-loop μ-loop
-loop-less c = omega arith
+loop-less c = one-less (c .before .before .before .if1 .left)
 
 loop-again : tie.Need-loop-again Inv-loop μ-loop
 loop-again c =

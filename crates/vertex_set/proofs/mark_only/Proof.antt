@@ -1,13 +1,16 @@
-use Prim.Native.Nat.{ℕ, _+_, _-_, _≤_}
+use Prim.Native.Nat.{ℕ, _-_, _≤_}
 use mathlib.Core.Logic.{inl, inr}
-use mathlib.Core.Path.{_≡_, refl}
+use mathlib.Core.Bool.{true}
+use mathlib.Core.Path.{_≡_, refl, sym, subst, _∙_}
 use mathlib.Core.List.{[]}
-use lib.ListN.{length, take, getD, length-set}
+use lib.ListN.{length, take, getD, set, length-set}
 use lib.Seq.{take-all}
 use Rattle.utils.specs.Windows.{Marked}
 use Rattle.utils.proofs.Windows.{marked-none, marked-out, marked-in, take-more}
 use native.Mathlib.Omega.{arith}
 use borrow.Author.Needs.{needs}
+use Rattle.vertex_set.proofs.Walks.{one-more, one-less}
+use Rattle.vertex_set.proofs.Unmarked.{in-window, past-window}
 use Rattle.vertex_set.proofs.mark_only.Statement.{statement}
 use Rattle.vertex_set.proofs.mark_only.Tie as tie
 
@@ -19,7 +22,7 @@ abbrev μ-loop : tie.MeasureT-loop
 μ-loop words low marks₀ i₀ marks i = length words - i
 
 clear-requires : tie.Need-clear-requires Inv-loop μ-loop
-clear-requires c κs = omega arith
+clear-requires c κs = tt
 
 loop-holds : tie.Need-loop-holds Inv-loop μ-loop
 loop-holds c =
@@ -30,7 +33,7 @@ mul-x : tie.Need-mul-x Inv-loop μ-loop
 mul-x c = omega arith
 
 shared-slice-read-x : tie.Need-shared-slice-read-x Inv-loop μ-loop
-shared-slice-read-x c = omega arith
+shared-slice-read-x c = c .before .loop-test .taken
 
 cast-x : tie.Need-cast-x Inv-loop μ-loop
 cast-x c = omega (arith, c .shared-slice-known2 .given (c .before .before .loop .i))
@@ -39,38 +42,40 @@ add-i : tie.Need-add-i Inv-loop μ-loop
 add-i c = omega arith
 
 loop-less : tie.Need-loop-less Inv-loop μ-loop
-loop-less c = omega arith
+loop-less c = one-less (c .before .before .loop-test .taken)
 
 loop-again : tie.Need-loop-again Inv-loop μ-loop
 loop-again c =
     let l = c .before .before .before in
     let s = l .before .before .before .before .before .before .before in
     let ws = s .args .words .now in
-    let i = l .loop .i in (
-      omega arith,
+    let i = l .loop .i in
+    let h = c .before .before .loop-test .taken in (
+      one-more h,
       l .loop .inv .1,
-      rw (take-more [] ws i (omega arith)) (marked-out (s .args .low) (l .loop .marks) (take i ws) (getD ws i 0) (inl (c .if1 .taken)) (l .loop .inv .2)),
+      subst (Marked (s .args .low) (l .loop .marks)) (sym (take-more [] ws i h)) (marked-out (s .args .low) (l .loop .marks) (take i ws) (getD ws i 0) (inl (c .if1 .taken)) (l .loop .inv .2)),
     )
 
 loop-less-2 : tie.Need-loop-less-2 Inv-loop μ-loop
-loop-less-2 c = omega arith
+loop-less-2 c = one-less (c .before .before .before .loop-test .taken)
 
 loop-again-2 : tie.Need-loop-again-2 Inv-loop μ-loop
 loop-again-2 c =
     let l = c .before .before .before .before in
     let s = l .before .before .before .before .before .before .before in
     let ws = s .args .words .now in
-    let i = l .loop .i in (
-      omega arith,
+    let i = l .loop .i in
+    let h = c .before .before .before .loop-test .taken in (
+      one-more h,
       l .loop .inv .1,
-      rw (take-more [] ws i (omega arith)) (marked-out (s .args .low) (l .loop .marks) (take i ws) (getD ws i 0) (inr (omega arith)) (l .loop .inv .2)),
+      subst (Marked (s .args .low) (l .loop .marks)) (sym (take-more [] ws i h)) (marked-out (s .args .low) (l .loop .marks) (take i ws) (getD ws i 0) (inr (past-window (c .before .if1 .left) (c .if2 .taken))) (l .loop .inv .2)),
     )
 
 slice-write-marks : tie.Need-slice-write-marks Inv-loop μ-loop
-slice-write-marks c = omega arith
+slice-write-marks c = c .if2 .left
 
 loop-less-3 : tie.Need-loop-less-3 Inv-loop μ-loop
-loop-less-3 c = omega arith
+loop-less-3 c = one-less (c .before .before .before .loop-test .taken)
 
 loop-again-3 : tie.Need-loop-again-3 Inv-loop μ-loop
 loop-again-3 c =
@@ -80,10 +85,10 @@ loop-again-3 c =
     let low = s .args .low in
     let i = l .loop .i in
     let x : ℕ = getD ws i 0 in
-    let e : x ≡ low + (x - low) = omega arith in (
-      omega arith,
-      simp length-set (l .loop .inv .1),
-      rw (take-more [] ws i (omega arith)) (marked-in low (l .loop .marks) (take i ws) x (x - low) e (omega arith) (l .loop .inv .2)),
+    let h = c .before .before .before .loop-test .taken in (
+      one-more h,
+      length-set (l .loop .marks) (x - low) true ∙ l .loop .inv .1,
+      subst (Marked low (set (l .loop .marks) (x - low) true)) (sym (take-more [] ws i h)) (marked-in low (l .loop .marks) (take i ws) x (x - low) (sym (in-window (c .before .if1 .left))) (c .if2 .left) (l .loop .inv .2)),
     )
 
 same-length : tie.Need-same-length Inv-loop μ-loop
