@@ -1,15 +1,16 @@
 -- The first failing test of a list, group by group.
-use Prim.Native.Nat.{ℕ, zero, suc, _+_}
+use Prim.Native.Nat.{ℕ, zero, suc, _+_, _≤_}
 use native.Mathlib.Omega.{arith}
 use mathlib.Core.Path.{_≡_, refl, ap, _∙_}
 use mathlib.Core.Bool.{Bool, true, false, cond, _&&_}
 use mathlib.Core.List.{List, [], _∷_, _++_}
 use lib.ListN.{length, take, drop}
-use lib.Dec.{leb}
+use lib.Dec.{T, leb, eqb}
+use lib.Ieee.{Float}
 use Rattle.layout.specs.Problem.{Problem, Route, standard}
 use Rattle.layout.specs.Patterns.{readPatterns, endsRight}
-use Rattle.layout.specs.Checks.{conesBounded, patternsRead, check1, check8, check9, check10, checks, firstFailing, refusal, layout}
-use Rattle.layout.proofs.Tests.{and-iff, passed, passes, differ}
+use Rattle.layout.specs.Checks.{conesBounded, conesRead, alphasAsMany, patternsRead, check1, check8, check9, check10, checks, firstFailing, refusal, layout}
+use Rattle.layout.proofs.Tests.{and-iff, leb-iff, passed, passes, differ}
 use Rattle.layout.specs.Answers.{joinBounded, orElse, problemRefusal, joinChecks, joinedParts}
 use Rattle.checks.specs.Order.{matricesRefusal, recordsRefusal, patternsRefusal, joinedTests, joinedRefusal}
 
@@ -97,6 +98,17 @@ bounded-cones n m cones e = and-last (leb n 65536 && leb m 65536) (conesBounded 
 pub bounded-problem : (p : Problem) → check1 p ≡ true → conesBounded (p .cones) ≡ true
 bounded-problem p e =
     and-last (leb (p .n) 65536 && leb (p .m) 65536 && leb (length (p .A .values)) 262144 && leb (length (p .P .values)) 262144) (conesBounded (p .cones)) e
+
+pub few-rows : (p : Problem) → check1 p ≡ true → p .m ≤ 65536
+few-rows p e = (simp (and-iff, leb-iff) at (passes _ e)) .0 .0 .0 .1
+
+pub records-read : (n m : ℕ) (q b : List Float) (cones : List ℕ) (alphas : List Float) → recordsRefusal n m q b cones alphas ≡ 0
+    → T (conesRead m cones)
+records-read n m q b cones alphas e = first (conesRead m cones) (alphasAsMany cones alphas) (eqb (length q) n) (eqb (length b) m) e
+  where
+    first : (a b c d : Bool) → _≡_ {A = ℕ} (cond (a && b && c && d) 0 4) 0 → T a
+    first true b c d z = tt
+    first false b c d z = absurd (omega arith)
 
 pub read-ends : (cones : List ℕ) (count : ℕ) (words : List ℕ) → patternsRead cones count words ≡ true
     → endsRight (readPatterns count words) ≡ true

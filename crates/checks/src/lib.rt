@@ -27,19 +27,13 @@ pub fn join_bounded(n: u32, m: u32, cones: &[u32]) -> bool
 pub fn bounded(n: u32, m: u32, a_entries: usize, p_entries: usize, cones: &[u32]) -> bool
     ensures { λ r. ⌜ r ≡ bounds n m «a_entries» «p_entries» (now (cones .entry)) ⌝ }
 {
-    if 65536 < n {
-        return false;
-    }
-    if 65536 < m {
-        return false;
-    }
     if 262144 < a_entries {
         return false;
     }
     if 262144 < p_entries {
         return false;
     }
-    supportedcone::cones_bounded(cones)
+    join_bounded(n, m, cones)
 }
 
 // Checks 2 and 3.
@@ -106,15 +100,48 @@ fn refuse_patterns(cones: &[u32], count: u32, words: &[u32]) -> u32
     0
 }
 
-// The same: a fast walk accepts patterns that are right, and the checks in order find the number of others.
-pub fn check_patterns(cones: &[u32], count: u32, words: &[u32]) -> u32
-    ensures { λ r. ⌜ r ≡ patternsRefusal (now (cones .entry)) count (now (words .entry)) ⌝ }
+// The number of the first check that fails, or 0 and how many rows and overlaps the blocks have.
+pub struct Joined {
+    pub refusal: u32,
+    pub rows: u64,
+    pub overlaps: u64,
+}
+
+fn refused_as(refusal: u32) -> Joined
+    ensures { λ r. ⌜ r .refusal ≡ refusal ⌝ }
+{
+    Joined {
+        refusal: refusal,
+        rows: 0,
+        overlaps: 0,
+    }
+}
+
+// Checks 5, 6 and 7 after 1 and 4: a fast walk accepts patterns that are right, and counts, and the checks in order find the number
+// of others.
+fn count_patterns(m: u32, cones: &[u32], count: u32, words: &[u32]) -> Joined
+    requires { ⌜ (m ≤ 65536) × T (conesBounded (now cones)) × T (conesRead m (now cones)) ⌝ }
+    ensures { λ r. ⌜ r .refusal ≡ patternsRefusal (now (cones .entry)) count (now (words .entry)) ⌝ }
+    ensures { λ r. ⌜ (r .refusal ≡ 0 → (r .rows ≡ blockRowCount (joinedParts (now (cones .entry)) count (now (words .entry)))) × (r .overlaps ≡ overlapCount (joinedParts (now (cones .entry)) count (now (words .entry))))) ⌝ }
 {
     let walk = accepted::patterns_hold(cones, count, words);
     if walk.holds {
-        return 0;
+        return Joined {
+            refusal: 0,
+            rows: m as u64 + walk.dim - walk.cut,
+            overlaps: walk.overlaps,
+        };
     }
-    refuse_patterns(cones, count, words)
+    let r = refuse_patterns(cones, count, words);
+    if r != 0 {
+        return refused_as(r);
+    }
+    let d = parts::get_decomposed_dim_and_overlaps(m, cones, count, words);
+    Joined {
+        refusal: 0,
+        rows: d.rows,
+        overlaps: d.overlaps,
+    }
 }
 
 // Checks 1 to 7: the number of the first that fails, or 0.
@@ -147,53 +174,11 @@ pub fn check_problem(
     if records != 0 {
         return records;
     }
-    check_patterns(cones, count, words)
+    let patterns = count_patterns(m, cones, count, words);
+    patterns.refusal
 }
 
-// The number of the first check that fails, or 0 and how many rows and overlaps the blocks have.
-pub struct Joined {
-    pub refusal: u32,
-    pub rows: u64,
-    pub overlaps: u64,
-}
-
-fn refused_as(refusal: u32) -> Joined
-    ensures { λ r. ⌜ r .refusal ≡ refusal ⌝ }
-{
-    Joined {
-        refusal: refusal,
-        rows: 0,
-        overlaps: 0,
-    }
-}
-
-// Checks 5, 6 and 7 after 1 and 4. The walk that accepts patterns counts, too.
-fn count_patterns(m: u32, cones: &[u32], count: u32, words: &[u32]) -> Joined
-    requires { ⌜ (m ≤ 65536) × T (conesBounded (now cones)) × T (conesRead m (now cones)) ⌝ }
-    ensures { λ r. ⌜ r .refusal ≡ patternsRefusal (now (cones .entry)) count (now (words .entry)) ⌝ }
-    ensures { λ r. ⌜ (r .refusal ≡ 0 → (r .rows ≡ blockRowCount (joinedParts (now (cones .entry)) count (now (words .entry)))) × (r .overlaps ≡ overlapCount (joinedParts (now (cones .entry)) count (now (words .entry))))) ⌝ }
-{
-    let walk = accepted::patterns_hold(cones, count, words);
-    if walk.holds {
-        return Joined {
-            refusal: 0,
-            rows: m as u64 + walk.dim - walk.cut,
-            overlaps: walk.overlaps,
-        };
-    }
-    let r = refuse_patterns(cones, count, words);
-    if r != 0 {
-        return refused_as(r);
-    }
-    let d = parts::get_decomposed_dim_and_overlaps(m, cones, count, words);
-    Joined {
-        refusal: 0,
-        rows: d.rows,
-        overlaps: d.overlaps,
-    }
-}
-
-// The same for what a joining is given: checks 1, 4, 5, 6 and 7.
+// What a joining is given: checks 1, 4, 5, 6 and 7.
 pub fn check_joined(n: u32, m: u32, cones: &[u32], count: u32, words: &[u32]) -> Joined
     ensures { λ r. ⌜ r .refusal ≡ joinedRefusal n m (now (cones .entry)) count (now (words .entry)) ⌝ }
     ensures { λ r. ⌜ (r .refusal ≡ 0 → (r .rows ≡ blockRowCount (joinedParts (now (cones .entry)) count (now (words .entry)))) × (r .overlaps ≡ overlapCount (joinedParts (now (cones .entry)) count (now (words .entry))))) ⌝ }

@@ -4,7 +4,8 @@ use borrow.Author.Tests.{not-true, not-false}
 use Rattle.layout.specs.Problem.{Problem, problem}
 use Rattle.layout.specs.Checks.{check1}
 use Rattle.checks.specs.Order.{matricesRefusal, recordsRefusal}
-use Rattle.checks.proofs.Order.{problem-order, bounded-problem}
+use Rattle.checks.proofs.Order.{problem-order, bounded-problem, few-rows, records-read}
+use Rattle.layout.proofs.Tests.{passes}
 use borrow.Author.Needs.{needs}
 use Rattle.checks.proofs.check_problem.Statement.{statement}
 use Rattle.checks.proofs.check_problem.Tie as tie
@@ -58,13 +59,16 @@ returns-3 c =
     let e = c .before .check-records .ensures in
     e ∙ sym (problem-order (at2 (c .before .before)) .2 (passed1 (c .before .before .before .before)) (passed2 (c .before .before)) (λ z. c .if3 .taken (e ∙ z)))
 
-check-patterns-requires : tie.Need-check-patterns-requires
-check-patterns-requires c κs = search needs
+count-patterns-requires : tie.Need-count-patterns-requires
+count-patterns-requires c κs =
+    let p = at3 c in
+    let e = passed1 (c .before .before .before .before) in
+    (few-rows p e, passes _ (bounded-problem p e), records-read (p .n) (p .m) (p .q) (p .b) (p .cones) (p .alphas) (passed3 c))
 
 returns-4 : tie.Need-returns-4
 returns-4 c =
     let d = c .before in
-    c .check-patterns .ensures
+    c .count-patterns .ensures .0
     ∙ sym (problem-order (at3 d) .3 (passed1 (d .before .before .before .before)) (passed2 (d .before .before)) (passed3 d))
 
 pub check-problem-spec : {M : Type 1} → statement M
@@ -77,5 +81,5 @@ check-problem-spec =
     returns-2
     check-records-requires
     returns-3
-    check-patterns-requires
+    count-patterns-requires
     returns-4)
