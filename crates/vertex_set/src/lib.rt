@@ -173,8 +173,10 @@ pub fn once_in(us: &[u32], ms: &[u32], n: usize, marks: &mut [bool]) -> bool
     if in_order(us, ms) {
         return true;
     }
-    if us.len() <= 16 && ms.len() <= 16 {
-        return once_in_walk(us, ms);
+    if us.len() <= 16 {
+        if ms.len() <= 16 {
+            return once_in_walk(us, ms);
+        }
     }
     if !utils::all_below(us, n) {
         return once_in_walk(us, ms);
