@@ -6,8 +6,8 @@ use native.Mathlib.Omega.{arith}
 use mathlib.Core.Path.{_≡_, refl, ap, sym, subst, _∙_}
 use mathlib.Core.Bool.{Bool, true, false}
 use mathlib.Core.List.{List, [], _∷_, _++_}
-use lib.ListN.{length, getD, take, drop, set, length-reverse}
-use lib.Seq.{take-suc, drop-cons, length-take-le, getD-set-same, getD-set-other}
+use lib.ListN.{length, getD, take, drop, set, length-drop, length-reverse}
+use lib.Seq.{take-suc, drop-cons, drop-drop, getD-drop, length-take-le, getD-set-same, getD-set-other}
 use lib.Dec.{eqb}
 use lib.Ieee.{Float, nan}
 use borrow.Author.Tests.{eqb-true, eqb-false}
@@ -18,7 +18,7 @@ use Rattle.layout.specs.Checks.{RightPattern}
 use Rattle.layout.specs.Reverse.{columnCount}
 use Rattle.layout.proofs.Counting.{count-append}
 use Rattle.layout.proofs.Distinct.{length-keep}
-use Rattle.layout.proofs.Walks.{walk-take, walk-append}
+use Rattle.layout.proofs.Walks.{walk-append}
 use Rattle.blocks.specs.Cliques.{rowsHere, Stands, Standing}
 use Rattle.blocks.proofs.Patterns.{standard-rows-count, original-rows-count}
 use Rattle.blocks.proofs.Offsets.{StandAt, rows-up, rows-down}
@@ -39,7 +39,7 @@ z-stored false o v ws = refl
 
 module _ {A B S : Type 0} (f : A → B → S → S) where
   -- one element more
-  pub walk-one : (xs : List A) (vs : List B) (s : S) (i : ℕ) (a : A) (b : B) → i < length xs → i < length vs
+  walk-one : (xs : List A) (vs : List B) (s : S) (i : ℕ) (a : A) (b : B) → i < length xs → i < length vs
       → f (getD xs i a) (getD vs i b) (walk f (take i xs) vs s) ≡ walk f (take (i + 1) xs) vs s
   walk-one xs vs s i a b h l =
       let done = walk f (take i xs) vs s in
@@ -49,25 +49,21 @@ module _ {A B S : Type 0} (f : A → B → S → S) where
       ∙ walk-append f (take i xs) (getD xs i a ∷ []) vs s
       ∙ ap (λ (ws : List B). walk f (getD xs i a ∷ []) ws done) here)
 
-  -- a list more, walked with the part of the values after those used
-  pub walk-more : (xs ys : List A) (vs : List B) (s : S) (t k : ℕ) → t ≡ length xs → length ys ≤ k
-      → walk f ys (take k (drop t vs)) (walk f xs vs s) ≡ walk f (xs ++ ys) vs s
-  walk-more xs ys vs s t k e h =
-      walk-take f ys (drop t vs) (walk f xs vs s) k h
-      ∙ ap (λ (n : ℕ). walk f ys (drop n vs) (walk f xs vs s)) e
-      ∙ sym (walk-append f xs ys vs s)
+  -- the same from what a store left, at the place that code computes; the values begin at t
+  pub walk-stored : (xs : List A) (vs : List B) (s : S) {old new : S} (t i : ℕ) (o a : A) (b : B) → new ≡ f o (getD vs (t + i) b) old
+      → old ≡ walk f (take i xs) (drop t vs) s → o ≡ getD xs i a → i < length xs → t + i < length vs → new ≡ walk f (take (i + 1) xs) (drop t vs) s
+  walk-stored xs vs s t i o a b p q e h l =
+      let v = getD (drop t vs) i b in
+      p ∙ ap (f o (getD vs (t + i) b)) q ∙ ap (λ (w : B). f o w (walk f (take i xs) (drop t vs) s)) (sym (getD-drop t vs i b))
+      ∙ ap (λ (x : A). f x v (walk f (take i xs) (drop t vs) s)) e ∙ walk-one xs (drop t vs) s i a b h (omega (arith, length-drop t vs))
 
-  -- the same from what a call left of it
-  pub walk-joined : (xs ys zs : List A) (vs : List B) (s : S) {old new : S} (t k : ℕ) → new ≡ walk f ys (take k (drop t vs)) old → old ≡ walk f xs vs s
-      → t ≡ length xs → length ys ≤ k → xs ++ ys ≡ zs → new ≡ walk f zs vs s
-  walk-joined xs ys zs vs s t k p q e h m =
-      p ∙ ap (walk f ys (take k (drop t vs))) q ∙ walk-more xs ys vs s t k e h ∙ ap (λ (os : List A). walk f os vs s) m
-
-  -- and one element more from what a store left, at the place that code computes
-  pub walk-stored : (xs : List A) (vs : List B) (s : S) {old new : S} (i : ℕ) (o a : A) (b : B) → new ≡ f o (getD vs i b) old → old ≡ walk f (take i xs) vs s
-      → o ≡ getD xs i a → i < length xs → i < length vs → new ≡ walk f (take (i + 1) xs) vs s
-  walk-stored xs vs s i o a b p q e h l =
-      p ∙ ap (f o (getD vs i b)) q ∙ ap (λ (x : A). f x (getD vs i b) (walk f (take i xs) vs s)) e ∙ walk-one xs vs s i a b h l
+  -- a list more, from what a call left; its values begin at t, where those before end
+  pub walk-joined : (xs ys zs : List A) (vs : List B) (s : S) {old new : S} (first t : ℕ) → new ≡ walk f ys (drop t vs) old → old ≡ walk f xs (drop first vs) s
+      → t ≡ first + length xs → xs ++ ys ≡ zs → new ≡ walk f zs (drop first vs) s
+  walk-joined xs ys zs vs s first t p q e m =
+      p ∙ ap (walk f ys (drop t vs)) q
+      ∙ ap (λ (ws : List B). walk f ys ws (walk f xs (drop first vs) s)) (ap (λ (n : ℕ). drop n vs) e ∙ sym (drop-drop (length xs) first vs))
+      ∙ sym (walk-append f xs ys (drop first vs) s) ∙ ap (λ (os : List A). walk f os (drop first vs) s) m
 
 -- ---- counts
 

@@ -2,8 +2,8 @@
 // and keeps the last on the compact one.
 ghost use mathlib.Core.Path.{_≡_};
 ghost use mathlib.Core.List.{[], _∷_};
-ghost use Prim.Native.Nat.{suc, _≤_, _<_};
-ghost use lib.ListN.{length, getD};
+ghost use Prim.Native.Nat.{suc, _+_, _≤_, _<_};
+ghost use lib.ListN.{length, getD, drop};
 ghost use lib.Dec.{T};
 ghost use Rattle.layout.specs.Lists.{join, rises};
 ghost use Rattle.layout.specs.Triangle.{triangle};
@@ -32,22 +32,23 @@ fn count_column(standard: bool, counts: &mut [u32], o: usize)
     }
 }
 
-// Column j of the block over sorted vertices.
+// Column j of the block over sorted vertices; its values begin at t.
 fn join_column(
     standard: bool,
     vertices: &[u32],
     j: usize,
+    t: usize,
     s: &[f64],
     z: &[f64],
     s_out: &mut [f64],
     z_out: &mut [f64],
     counts: &mut [u32],
 )
-    requires { ⌜ T (rises (now vertices)) × (j < length (now vertices)) × (j < length (now s)) × (j < length (now z)) ⌝ }
+    requires { ⌜ T (rises (now vertices)) × (j < length (now vertices)) × (t + j < length (now s)) × (t + j < length (now z)) ⌝ }
     requires { ⌜ (triangle (suc (getD (now vertices) j 0)) ≤ length (now «s_out»)) × (length (now «z_out») ≡ length (now «s_out»)) × (length (now «s_out») ≤ 65536) ⌝ }
     requires { ⌜ Countable standard (length (now «s_out»)) (suc j) (now counts) ⌝ }
-    ensures { λ _. ⌜ now («s_out» .exit) ≡ addColumns (columnRows (now (vertices .entry)) j) (now (s .entry)) (now («s_out» .entry)) ⌝ }
-    ensures { λ _. ⌜ now («z_out» .exit) ≡ joinZ standard (columnRows (now (vertices .entry)) j) (now (z .entry)) (now («z_out» .entry)) ⌝ }
+    ensures { λ _. ⌜ now («s_out» .exit) ≡ addColumns (columnRows (now (vertices .entry)) j) (drop t (now (s .entry))) (now («s_out» .entry)) ⌝ }
+    ensures { λ _. ⌜ now («z_out» .exit) ≡ joinZ standard (columnRows (now (vertices .entry)) j) (drop t (now (z .entry))) (now («z_out» .entry)) ⌝ }
     ensures { λ _. ⌜ Counts standard (columnRows (now (vertices .entry)) j) (now (counts .entry)) (now (counts .exit)) ⌝ }
 {
     let c = vertices[j];
@@ -55,17 +56,19 @@ fn join_column(
     let mut i = 0;
     while i <= j {
         let o = (row + vertices[i]) as usize;
-        s_out[o] = s_out[o] + s[i];
-        z_out[o] = z_value(standard, z_out[o], z[i]);
+        let k = t + i;
+        s_out[o] = s_out[o] + s[k];
+        z_out[o] = z_value(standard, z_out[o], z[k]);
         count_column(standard, &mut *counts, o);
         i += 1;
     }
 }
 
-// The block, column by column; how many entries.
+// The block, column by column, whose values begin at `first`; where they end.
 fn join_block(
     standard: bool,
     vertices: &[u32],
+    first: usize,
     s: &[f64],
     z: &[f64],
     s_out: &mut [f64],
@@ -73,23 +76,24 @@ fn join_block(
     counts: &mut [u32],
 ) -> usize
     requires { ⌜ T (rises (now vertices)) × ColumnsFit 0 (now vertices) (length (now «s_out»)) ⌝ }
-    requires { ⌜ (triangle (length (now vertices)) ≤ length (now s)) × (triangle (length (now vertices)) ≤ length (now z)) ⌝ }
+    requires { ⌜ (first + triangle (length (now vertices)) ≤ length (now s)) × (first + triangle (length (now vertices)) ≤ length (now z)) ⌝ }
     requires { ⌜ (length (now «z_out») ≡ length (now «s_out»)) × (length (now «s_out») ≤ 65536) ⌝ }
     requires { ⌜ Countable standard (length (now «s_out»)) (triangle (length (now vertices))) (now counts) ⌝ }
-    ensures { λ r. ⌜ r ≡ triangle (length (now (vertices .entry))) ⌝ }
-    ensures { λ _. ⌜ now («s_out» .exit) ≡ addColumns (blockRowsOf (now (vertices .entry))) (now (s .entry)) (now («s_out» .entry)) ⌝ }
-    ensures { λ _. ⌜ now («z_out» .exit) ≡ joinZ standard (blockRowsOf (now (vertices .entry))) (now (z .entry)) (now («z_out» .entry)) ⌝ }
+    ensures { λ r. ⌜ r ≡ first + triangle (length (now (vertices .entry))) ⌝ }
+    ensures { λ _. ⌜ now («s_out» .exit) ≡ addColumns (blockRowsOf (now (vertices .entry))) (drop first (now (s .entry))) (now («s_out» .entry)) ⌝ }
+    ensures { λ _. ⌜ now («z_out» .exit) ≡ joinZ standard (blockRowsOf (now (vertices .entry))) (drop first (now (z .entry))) (now («z_out» .entry)) ⌝ }
     ensures { λ _. ⌜ Counts standard (blockRowsOf (now (vertices .entry))) (now (counts .entry)) (now (counts .exit)) ⌝ }
 {
-    let mut t = 0;
+    let mut t = first;
     let mut j = 0;
     while j < vertices.len() {
         join_column(
             standard,
             vertices,
             j,
-            &s[t..],
-            &z[t..],
+            t,
+            s,
+            z,
             &mut *s_out,
             &mut *z_out,
             &mut *counts,
@@ -102,12 +106,14 @@ fn join_block(
 
 // ---- a pattern
 
-// The blocks of the cliques at some offsets, in the order of the route; how many entries. Each clique's vertices are written to a buffer first.
+// The blocks of the cliques at some offsets, in the order of the route, whose values begin at `first`; where they end. Each clique's vertices are
+// written to a buffer first.
 fn join_cliques(
     standard: bool,
     words: &[u32],
     ordering: &[u32],
     offsets: &[usize],
+    first: usize,
     s: &[f64],
     z: &[f64],
     s_out: &mut [f64],
@@ -116,25 +122,26 @@ fn join_cliques(
     vertices: &mut [u32],
 ) -> usize
     requires { ⌜ Standing (now words) (now ordering) (now offsets) × (triangle (length (now ordering)) ≤ length (now «s_out»)) ⌝ }
-    requires { ⌜ (length (join (rowsHere 0 (now words) (now ordering)) (inOrder standard (now offsets))) ≤ length (now s)) × (length (now z) ≡ length (now s)) ⌝ }
+    requires { ⌜ (first + length (join (rowsHere 0 (now words) (now ordering)) (inOrder standard (now offsets))) ≤ length (now s)) × (length (now z) ≡ length (now s)) ⌝ }
     requires { ⌜ (length (now «z_out») ≡ length (now «s_out»)) × (length (now «s_out») ≤ 65536) ⌝ }
     requires { ⌜ Countable standard (length (now «s_out»)) (length (join (rowsHere 0 (now words) (now ordering)) (inOrder standard (now offsets)))) (now counts) ⌝ }
     requires { ⌜ 256 ≤ length (now vertices) ⌝ }
-    ensures { λ r. ⌜ r ≡ length (join (rowsHere 0 (now (words .entry)) (now (ordering .entry))) (inOrder standard (now (offsets .entry)))) ⌝ }
-    ensures { λ _. ⌜ now («s_out» .exit) ≡ addColumns (join (rowsHere 0 (now (words .entry)) (now (ordering .entry))) (inOrder standard (now (offsets .entry)))) (now (s .entry)) (now («s_out» .entry)) ⌝ }
-    ensures { λ _. ⌜ now («z_out» .exit) ≡ joinZ standard (join (rowsHere 0 (now (words .entry)) (now (ordering .entry))) (inOrder standard (now (offsets .entry)))) (now (z .entry)) (now («z_out» .entry)) ⌝ }
+    ensures { λ r. ⌜ r ≡ first + length (join (rowsHere 0 (now (words .entry)) (now (ordering .entry))) (inOrder standard (now (offsets .entry)))) ⌝ }
+    ensures { λ _. ⌜ now («s_out» .exit) ≡ addColumns (join (rowsHere 0 (now (words .entry)) (now (ordering .entry))) (inOrder standard (now (offsets .entry)))) (drop first (now (s .entry))) (now («s_out» .entry)) ⌝ }
+    ensures { λ _. ⌜ now («z_out» .exit) ≡ joinZ standard (join (rowsHere 0 (now (words .entry)) (now (ordering .entry))) (inOrder standard (now (offsets .entry)))) (drop first (now (z .entry))) (now («z_out» .entry)) ⌝ }
     ensures { λ _. ⌜ Counts standard (join (rowsHere 0 (now (words .entry)) (now (ordering .entry))) (inOrder standard (now (offsets .entry)))) (now (counts .entry)) (now (counts .exit)) ⌝ }
 {
-    let mut t = 0;
+    let mut t = first;
     let mut i = 0;
     while i < offsets.len() {
         let at = offset_at(standard, offsets, i);
         let k = blocks::clique_vertices(words, ordering, at, &mut *vertices);
-        t += join_block(
+        t = join_block(
             standard,
             &vertices[..k],
-            &s[t..],
-            &z[t..],
+            t,
+            s,
+            z,
             &mut *s_out,
             &mut *z_out,
             &mut *counts,
@@ -144,11 +151,12 @@ fn join_cliques(
     t
 }
 
-// The blocks of the pattern at an offset; how many entries. The caller lends the buffers, since to clear them costs more than a small pattern.
+// The blocks of the pattern at an offset, whose values begin at `first`; where they end. The caller lends the buffers, since to clear them costs more than a small pattern.
 pub fn join_pattern(
     standard: bool,
     words: &[u32],
     at: usize,
+    first: usize,
     s: &[f64],
     z: &[f64],
     s_out: &mut [f64],
@@ -159,12 +167,12 @@ pub fn join_pattern(
 ) -> usize
     requires { ⌜ RightPattern (patternAt (now words) at) × (patternAt (now words) at .vertexCount ≤ 256) ⌝ }
     requires { ⌜ (triangle (patternAt (now words) at .vertexCount) ≤ length (now «s_out»)) × (length (now «z_out») ≡ length (now «s_out»)) × (length (now «s_out») ≤ 65536) ⌝ }
-    requires { ⌜ (blockRows (patternAt (now words) at) ≤ length (now s)) × (length (now z) ≡ length (now s)) ⌝ }
+    requires { ⌜ (first + blockRows (patternAt (now words) at) ≤ length (now s)) × (length (now z) ≡ length (now s)) ⌝ }
     requires { ⌜ Countable standard (length (now «s_out»)) (blockRows (patternAt (now words) at)) (now counts) ⌝ }
     requires { ⌜ (256 ≤ length (now offsets)) × (256 ≤ length (now vertices)) ⌝ }
-    ensures { λ r. ⌜ r ≡ blockRows (patternAt (now (words .entry)) at) ⌝ }
-    ensures { λ _. ⌜ now («s_out» .exit) ≡ addColumns (ownRows standard (patternAt (now (words .entry)) at)) (now (s .entry)) (now («s_out» .entry)) ⌝ }
-    ensures { λ _. ⌜ now («z_out» .exit) ≡ joinZ standard (ownRows standard (patternAt (now (words .entry)) at)) (now (z .entry)) (now («z_out» .entry)) ⌝ }
+    ensures { λ r. ⌜ r ≡ first + blockRows (patternAt (now (words .entry)) at) ⌝ }
+    ensures { λ _. ⌜ now («s_out» .exit) ≡ addColumns (ownRows standard (patternAt (now (words .entry)) at)) (drop first (now (s .entry))) (now («s_out» .entry)) ⌝ }
+    ensures { λ _. ⌜ now («z_out» .exit) ≡ joinZ standard (ownRows standard (patternAt (now (words .entry)) at)) (drop first (now (z .entry))) (now («z_out» .entry)) ⌝ }
     ensures { λ _. ⌜ Counts standard (ownRows standard (patternAt (now (words .entry)) at)) (now (counts .entry)) (now (counts .exit)) ⌝ }
 {
     let p = Pattern::here(words, at);
@@ -177,6 +185,7 @@ pub fn join_pattern(
         words,
         &words[a..e],
         &offsets[..k],
+        first,
         s,
         z,
         s_out,

@@ -1,8 +1,8 @@
 use Prim.Native.Nat.{ℕ, zero-le, _≤_, _<_, _-_, _+_}
-use native.Mathlib.Nat.{le-refl, le-trans}
+use native.Mathlib.Nat.{add-zero, le-trans}
 use mathlib.Core.Path.{_≡_, refl, ap, sym, subst, _∙_}
 use mathlib.Core.List.{List, [], _++_}
-use lib.ListN.{length, getD, take, length-append, length-map}
+use lib.ListN.{length, getD, take, drop, length-append, length-map}
 use lib.Seq.{take-all}
 use lib.Dec.{T}
 use Rattle.layout.specs.Lists.{join, rises}
@@ -18,34 +18,34 @@ use Rattle.layout.proofs.Buffers.{take-none}
 use Rattle.reverse_blocks.specs.Joins.{zAt, joinZ, Counts, Countable, blockRowsOf}
 use Rattle.reverse_standard.specs.Routes.{inOrder}
 use Rattle.reverse_blocks.proofs.Laws.{walk-joined, counts-none, counts-joined, countable-left, length-order, standing-order, by-same}
-use Rattle.reverse_blocks.proofs.Room.{same-le, le-same, lt-same, both-kept, begins, next-le, left-less, fits-count, fits-next, fits-value, rest-has}
+use Rattle.reverse_blocks.proofs.Room.{same-le, le-same, lt-same, both-kept, next-le, left-less, fits-next}
 use native.Mathlib.Omega.{arith}
 use Rattle.reverse_blocks.proofs.join_cliques.Statement.{statement}
 use Rattle.reverse_blocks.proofs.join_cliques.Tie as tie
 
 abbrev Inv-loop : tie.InvT-loop
-Inv-loop standard words ordering offsets s z s-out₀ z-out₀ counts₀ vertices₀ t₀ i₀ s-out z-out counts vertices t i =
+Inv-loop standard words ordering offsets first s z s-out₀ z-out₀ counts₀ vertices₀ t₀ i₀ s-out z-out counts vertices t i =
     let B = join (rowsHere 0 words ordering) (take i (inOrder standard offsets)) in
-    (i ≤ length offsets) × (t ≡ length B) × (length vertices ≡ length vertices₀)
+    (i ≤ length offsets) × (t ≡ first + length B) × (length vertices ≡ length vertices₀)
     × (length s-out ≡ length s-out₀) × (length z-out ≡ length z-out₀) × (length counts ≡ length counts₀)
-    × (s-out ≡ addColumns B s s-out₀) × (z-out ≡ joinZ standard B z z-out₀) × Counts standard B counts₀ counts
+    × (s-out ≡ addColumns B (drop first s) s-out₀) × (z-out ≡ joinZ standard B (drop first z) z-out₀) × Counts standard B counts₀ counts
 
 abbrev μ-loop : tie.MeasureT-loop
-μ-loop standard words ordering offsets s z s-out₀ z-out₀ counts₀ vertices₀ t₀ i₀ s-out z-out counts vertices t i = length offsets - i
+μ-loop standard words ordering offsets first s z s-out₀ z-out₀ counts₀ vertices₀ t₀ i₀ s-out z-out counts vertices t i = length offsets - i
 
 -- ---- numbers
 
 rows-in : (k n m : ℕ) → k ≤ n → m ≡ n → 0 + k ≤ m
 rows-in k n m h e = omega arith
 
-rows-left : (t d k b n : ℕ) → t ≡ d → b ≡ k → t + k ≤ n → d + b ≤ n
-rows-left t d k b n e m h = omega arith
+rows-left : (f t d k b n : ℕ) → t ≡ f + d → b ≡ k → t + k ≤ f + n → d + b ≤ n
+rows-left f t d k b n e m h = omega arith
 
-rows-next : (t b d k n : ℕ) → t ≡ d → b ≡ k → n ≡ d + k → t + b ≡ n
-rows-next t b d k n e m h = omega arith
+rows-next : (f t b d k n r : ℕ) → t ≡ f + d → b ≡ k → n ≡ d + k → r ≡ t + b → r ≡ f + n
+rows-next f t b d k n r e m h l = omega arith
 
-values-left : (t b k n : ℕ) → b ≡ k → t + k ≤ n → b ≤ n - t
-values-left t b k n e h = omega arith
+rows-here : (f t d k n : ℕ) → t ≡ f + d → d + k ≤ n → t + k ≤ f + n
+rows-here f t d k n e h = omega arith
 
 sum-le : (t b k n : ℕ) → b ≡ k → t + k ≤ n → t + b ≤ n
 sum-le t b k n e h = omega arith
@@ -73,23 +73,19 @@ inside : (i : tie.In-loop Inv-loop μ-loop) → i .before .loop .i < length (ord
 inside i = let a = start (i .before) .args in lt-same (i .loop-test .taken) (length-order (a .standard) (a .offsets .now))
 
 -- there are values for them
-fits : (i : tie.In-loop Inv-loop μ-loop) → i .before .loop .t + length (here (i .before)) ≤ length (join (rowsAt (start (i .before))) (order (start (i .before))))
+fits : (i : tie.In-loop Inv-loop μ-loop)
+    → i .before .loop .t + length (here (i .before)) ≤ start (i .before) .args .first + length (join (rowsAt (start (i .before))) (order (start (i .before))))
 fits i =
     let l = i .before in
     let s = start l in
-    subst (λ (t : ℕ). t + length (here l) ≤ length (join (rowsAt s) (order s))) (sym (l .loop .inv .1)) (up-room (rowsAt s) 0 (order s) (l .loop .i) (inside i))
+    rows-here (s .args .first) (l .loop .t) (length (done l)) (length (here l)) (length (join (rowsAt s) (order s))) (l .loop .inv .1)
+    (up-room (rowsAt s) 0 (order s) (l .loop .i) (inside i))
 
 s-fits : (i : tie.In-loop Inv-loop μ-loop) → i .before .loop .t + length (here (i .before)) ≤ length (start (i .before) .args .s .now)
 s-fits i = le-trans (fits i) (start (i .before) .pre .1 .0 .0)
 
 z-fits : (i : tie.In-loop Inv-loop μ-loop) → i .before .loop .t + length (here (i .before)) ≤ length (start (i .before) .args .z .now)
 z-fits i = le-same (s-fits i) (start (i .before) .pre .1 .0 .1)
-
-s-begins : (i : tie.In-loop Inv-loop μ-loop) → i .before .loop .t ≤ length (start (i .before) .args .s .now)
-s-begins i = let l = i .before in begins (l .loop .t) (length (here l)) (length (start l .args .s .now)) (s-fits i)
-
-z-begins : (i : tie.In-loop Inv-loop μ-loop) → i .before .loop .t ≤ length (start (i .before) .args .z .now)
-z-begins i = le-same (s-begins i) (start (i .before) .pre .1 .0 .1)
 
 -- the clique stands at its offset
 stands : (o : tie.After-offset-at Inv-loop μ-loop) → let s = start (o .before .before) in Stands (s .args .words .now) (s .args .ordering .now) (o .offset-at .result)
@@ -125,7 +121,7 @@ abbrev turn : tie.After-slice-known8 Inv-loop μ-loop → tie.After-join-block I
 turn c = c .before .before .before .before .before .before
 
 abbrev clique : tie.After-join-block Inv-loop μ-loop → tie.After-clique-vertices Inv-loop μ-loop
-clique k = k .before .before .before .before .before .before .before .before .before
+clique k = k .before .before .before .before .before .before .before
 
 loop-holds : tie.Need-loop-holds Inv-loop μ-loop
 loop-holds c =
@@ -133,13 +129,13 @@ loop-holds c =
     let a = s .args in
     let none : [] ≡ join (rowsAt s) (take 0 (order s)) = ap (join (rowsAt s)) (sym (take-none (order s))) in (
       zero-le,
-      ap length none,
+      sym (add-zero (a .first)) ∙ ap (λ (os : List ℕ). a .first + length os) none,
       refl,
       refl,
       refl,
       refl,
-      ap (λ (os : List ℕ). addColumns os (a .s .now) (a .s-out .now)) none,
-      ap (λ (os : List ℕ). joinZ (a .standard) os (a .z .now) (a .z-out .now)) none,
+      ap (λ (os : List ℕ). addColumns os (drop (a .first) (a .s .now)) (a .s-out .now)) none,
+      ap (λ (os : List ℕ). joinZ (a .standard) os (drop (a .first) (a .z .now)) (a .z-out .now)) none,
       subst (λ (os : List ℕ). Counts (a .standard) os (a .counts .now) (a .counts .now)) none (counts-none (a .standard) (a .counts .now)),
     )
 
@@ -163,33 +159,9 @@ slice-aggregate-join-block c =
     let v = c .before .before .before in
     v .clique-vertices .ensures .0 ∙ sym (ap length (v .clique-vertices .ensures .1))
 
-mul-join-block : tie.Need-mul-join-block Inv-loop μ-loop
-mul-join-block c = let i = at-clique (c .before .before .before) in fits-value (s-begins i) (start (i .before) .good .1 .1 .1 .1 .0)
-
-sub-join-block : tie.Need-sub-join-block Inv-loop μ-loop
-sub-join-block c = s-begins (at-clique (c .before .before .before))
-
-part-join-block-start : tie.Need-part-join-block-start Inv-loop μ-loop
-part-join-block-start c = s-begins (at-clique (c .before .before .before))
-
-part-join-block-end : tie.Need-part-join-block-end Inv-loop μ-loop
-part-join-block-end c = le-refl (length (start (at-clique (c .before .before .before) .before) .args .s .now))
-
-mul-join-block-2 : tie.Need-mul-join-block-2 Inv-loop μ-loop
-mul-join-block-2 c = let i = at-clique (c .before .before .before .before) in fits-value (z-begins i) (start (i .before) .good .1 .1 .1 .1 .1 .0)
-
-sub-join-block-2 : tie.Need-sub-join-block-2 Inv-loop μ-loop
-sub-join-block-2 c = z-begins (at-clique (c .before .before .before .before))
-
-part-join-block-start-2 : tie.Need-part-join-block-start-2 Inv-loop μ-loop
-part-join-block-start-2 c = z-begins (at-clique (c .before .before .before .before))
-
-part-join-block-end-2 : tie.Need-part-join-block-end-2 Inv-loop μ-loop
-part-join-block-end-2 c = le-refl (length (start (at-clique (c .before .before .before .before) .before) .args .z .now))
-
 join-block-requires : tie.Need-join-block-requires Inv-loop μ-loop
 join-block-requires c κs =
-    let v = c .before .before .before .before .before .before .before .before in
+    let v = c .before .before .before .before .before .before in
     let i = at-clique v in
     let l = i .before in
     let s = start l in
@@ -205,23 +177,18 @@ join-block-requires c κs =
             (vertices-fit ws o at 0 (length (l .loop .s-out)) (rows-in (triangle (length o)) (length (a .s-out .now)) (length (l .loop .s-out)) (s .pre .0 .1) n)),
       ),
       (
-        (same-le (size v) (rest-has (l .loop .t) (length (here l)) (a .s .now) (s-fits i)), same-le (size v) (rest-has (l .loop .t) (length (here l)) (a .z .now) (z-fits i))),
+        (
+          sum-le (l .loop .t) (triangle (length (found v))) (length (here l)) (length (a .s .now)) (size v) (s-fits i),
+          sum-le (l .loop .t) (triangle (length (found v))) (length (here l)) (length (a .z .now)) (size v) (z-fits i),
+        ),
         (
           (both-kept (l .loop .inv .4) (s .pre .1 .1 .0 .0) n, same-le n (s .pre .1 .1 .0 .1)),
           subst (λ (m : ℕ). Countable (a .standard) m (triangle (length (found v))) (l .loop .counts)) (sym n)
               (countable-left (a .standard) (length (a .s-out .now)) all (triangle (length (found v))) (done l) (a .counts .now) (l .loop .counts) (l .loop .inv .5)
-              (rows-left (l .loop .t) (length (done l)) (length (here l)) (triangle (length (found v))) all (l .loop .inv .1) (size v) (fits i)) (l .loop .inv .8) (s .pre .1 .1 .1 .0)),
+              (rows-left (a .first) (l .loop .t) (length (done l)) (length (here l)) (triangle (length (found v))) all (l .loop .inv .1) (size v) (fits i)) (l .loop .inv .8) (s .pre .1 .1 .1 .0)),
         ),
       ),
     )
-
-add-t : tie.Need-add-t Inv-loop μ-loop
-add-t c =
-    let k = turn c in
-    let v = clique k in
-    let i = at-clique v in
-    let l = i .before in
-    fits-count 8 (sum-le (l .loop .t) (k .join-block .result) (length (here l)) (length (start l .args .s .now)) (k .join-block .ensures .0 ∙ size v) (s-fits i)) (start l .good .1 .1 .1 .1 .0)
 
 add-i : tie.Need-add-i Inv-loop μ-loop
 add-i c = let i = at-clique (clique (turn c)) in fits-next 8 (i .loop-test .taken) (start (i .before) .good .1 .1 .1 .0)
@@ -243,19 +210,17 @@ loop-again c =
     let B = blockRowsOf (found v) in
     let next : List ℕ = join (rowsAt s) (take (n + 1) (order s)) in
     let as-next : done l ++ here l ≡ next = sym (up-more (rowsAt s) 0 (order s) n (inside i)) in
-    let more : done l ++ B ≡ next = ap (λ (os : List ℕ). done l ++ os) (block-is v) ∙ as-next in
-    let many : length B ≡ length (here l) = ap length (block-is v) in (
+    let more : done l ++ B ≡ next = ap (λ (os : List ℕ). done l ++ os) (block-is v) ∙ as-next in (
       next-le (i .loop-test .taken),
-      rows-next t (w .result) (length (done l)) (length (here l)) (length next) (l .loop .inv .1) (w .ensures .0 ∙ size v) (sym (ap length as-next) ∙ length-append (done l) (here l)),
+      rows-next (a .first) t (triangle (length (found v))) (length (done l)) (length (here l)) (length next) (w .result) (l .loop .inv .1) (size v)
+          (sym (ap length as-next) ∙ length-append (done l) (here l)) (w .ensures .0),
       v .clique-vertices .kept .1 .1 .1 .0 ∙ l .loop .inv .2,
-      w .kept .1 .1 .1 .1 .0 ∙ l .loop .inv .3,
-      w .kept .1 .1 .1 .1 .1 .0 ∙ l .loop .inv .4,
-      w .kept .1 .1 .1 .1 .1 .1 .0 ∙ l .loop .inv .5,
-      walk-joined addAt (done l) B next (a .s .now) (a .s-out .now) t (length (a .s .now) - t) (w .ensures .1 .0) (l .loop .inv .6) (l .loop .inv .1)
-          (values-left t (length B) (length (here l)) (length (a .s .now)) many (s-fits i)) more,
-      walk-joined (zAt (a .standard)) (done l) B next (a .z .now) (a .z-out .now) t (length (a .z .now) - t) (w .ensures .1 .1 .0) (l .loop .inv .7) (l .loop .inv .1)
-          (values-left t (length B) (length (here l)) (length (a .z .now)) many (z-fits i)) more,
-      counts-joined (a .standard) (done l) B next (a .counts .now) (l .loop .counts) (w .last .1 .1 .1 .1 .1 .1 .0) (w .kept .1 .1 .1 .1 .1 .1 .0) (l .loop .inv .8) (w .ensures .1 .1 .1) more,
+      w .kept .1 .1 .1 .1 .1 .0 ∙ l .loop .inv .3,
+      w .kept .1 .1 .1 .1 .1 .1 .0 ∙ l .loop .inv .4,
+      w .kept .1 .1 .1 .1 .1 .1 .1 .0 ∙ l .loop .inv .5,
+      walk-joined addAt (done l) B next (a .s .now) (a .s-out .now) (a .first) t (w .ensures .1 .0) (l .loop .inv .6) (l .loop .inv .1) more,
+      walk-joined (zAt (a .standard)) (done l) B next (a .z .now) (a .z-out .now) (a .first) t (w .ensures .1 .1 .0) (l .loop .inv .7) (l .loop .inv .1) more,
+      counts-joined (a .standard) (done l) B next (a .counts .now) (l .loop .counts) (w .last .1 .1 .1 .1 .1 .1 .1 .0) (w .kept .1 .1 .1 .1 .1 .1 .1 .0) (l .loop .inv .8) (w .ensures .1 .1 .1) more,
     )
 
 same-length : tie.Need-same-length Inv-loop μ-loop
@@ -277,11 +242,11 @@ returns c =
     let a = s .args in
     let all : done l ≡ join (rowsAt s) (order s) =
     ap (join (rowsAt s)) (take-all (l .loop .i) (order s) (same-le (length-order (a .standard) (a .offsets .now)) (c .loop-test .left))) in (
-      by-same length (l .loop .inv .1) all,
+      by-same (λ (os : List ℕ). a .first + length os) (l .loop .inv .1) all,
       (
-        by-same (λ (os : List ℕ). addColumns os (a .s .now) (a .s-out .now)) (l .loop .inv .6) all,
+        by-same (λ (os : List ℕ). addColumns os (drop (a .first) (a .s .now)) (a .s-out .now)) (l .loop .inv .6) all,
         (
-          by-same (λ (os : List ℕ). joinZ (a .standard) os (a .z .now) (a .z-out .now)) (l .loop .inv .7) all,
+          by-same (λ (os : List ℕ). joinZ (a .standard) os (drop (a .first) (a .z .now)) (a .z-out .now)) (l .loop .inv .7) all,
           subst (λ (os : List ℕ). Counts (a .standard) os (a .counts .now) (l .loop .counts)) all (l .loop .inv .8),
         ),
       ),
@@ -298,16 +263,7 @@ join-cliques-spec =
     clique-vertices-requires
     slice-reshare-prefix-join-block
     slice-aggregate-join-block
-    mul-join-block
-    sub-join-block
-    part-join-block-start
-    part-join-block-end
-    mul-join-block-2
-    sub-join-block-2
-    part-join-block-start-2
-    part-join-block-end-2
     join-block-requires
-    add-t
     add-i
     loop-less
     loop-again

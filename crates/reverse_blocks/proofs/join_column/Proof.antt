@@ -2,7 +2,7 @@ use Prim.Native.Nat.{ℕ, suc, zero-le, _≤_, _<_, _-_, _+_, _*_, _/_}
 use native.Mathlib.Nat.{le-refl, le-of-lt, lt-of-le-of-lt}
 use mathlib.Core.Path.{_≡_, refl, ap, sym, subst, _∙_}
 use mathlib.Core.List.{List, [], _∷_}
-use lib.ListN.{length, getD, take, set, length-set}
+use lib.ListN.{length, getD, take, drop, set, length-set}
 use lib.Seq.{take-all, length-take-le}
 use lib.Ieee.{nan, add, binary64}
 use mir.Syntax.{w32, w64}
@@ -15,19 +15,19 @@ use Rattle.blocks.proofs.Columns.{rises-le, length-column, row-at}
 use Rattle.layout.proofs.Buffers.{take-none}
 use Rattle.reverse_blocks.specs.Joins.{zAt, joinZ, Counts, columnRows}
 use Rattle.reverse_blocks.proofs.Laws.{z-stored, walk-stored, counts-none, counts-next, countable-less, countable-left, by-same}
-use Rattle.reverse_blocks.proofs.Room.{lt-same, fits-next, fits-value, fits-number, fits-row, fits-index}
+use Rattle.reverse_blocks.proofs.Room.{lt-same, fits-count, fits-next, fits-value, fits-number, fits-row, fits-index}
 use native.Mathlib.Omega.{arith}
 use Rattle.reverse_blocks.proofs.join_column.Statement.{statement}
 use Rattle.reverse_blocks.proofs.join_column.Tie as tie
 
 abbrev Inv-loop : tie.InvT-loop
-Inv-loop standard vertices j s z s-out₀ z-out₀ counts₀ c row i₀ s-out z-out counts i =
+Inv-loop standard vertices j t s z s-out₀ z-out₀ counts₀ c row i₀ s-out z-out counts i =
     let L = take i (columnRows vertices j) in
     (i ≤ j + 1) × (length s-out ≡ length s-out₀) × (length z-out ≡ length z-out₀) × (length counts ≡ length counts₀)
-    × (s-out ≡ addColumns L s s-out₀) × (z-out ≡ joinZ standard L z z-out₀) × Counts standard L counts₀ counts
+    × (s-out ≡ addColumns L (drop t s) s-out₀) × (z-out ≡ joinZ standard L (drop t z) z-out₀) × Counts standard L counts₀ counts
 
 abbrev μ-loop : tie.MeasureT-loop
-μ-loop standard vertices j s z s-out₀ z-out₀ counts₀ c row i₀ s-out z-out counts i = j + 1 - i
+μ-loop standard vertices j t s z s-out₀ z-out₀ counts₀ c row i₀ s-out z-out counts i = j + 1 - i
 
 -- ---- numbers: c is the column's vertex, d the turn's, o the row
 
@@ -54,6 +54,9 @@ turn-in i j n e h = omega arith
 
 turns-all : (i j n : ℕ) → n ≡ j + 1 → j < i → n ≤ i
 turns-all i j n e h = omega arith
+
+value-in : (t i j n : ℕ) → i ≤ j → t + j < n → t + i < n
+value-in t i j n h l = omega arith
 
 turn-counts : (i j n : ℕ) → n ≡ i → i ≤ j → n + 1 ≤ suc j
 turn-counts i j n e h = omega arith
@@ -99,17 +102,17 @@ z-inside : (i : tie.In-loop Inv-loop μ-loop) → coded (i .before) < length (i 
 z-inside i = lt-same (inside i) (i .before .loop .inv .2 ∙ start (i .before) .pre .1 .0 .1)
 
 o-fits : (i : tie.In-loop Inv-loop μ-loop) → Fits w64 (coded (i .before) * 8)
-o-fits i = fits-value (le-of-lt (inside i)) (start (i .before) .good .1 .1 .1 .1 .1 .0)
+o-fits i = fits-value (le-of-lt (inside i)) (start (i .before) .good .1 .1 .1 .1 .1 .1 .0)
 
 -- the turn's vertex, and its values
 here : (i : tie.In-loop Inv-loop μ-loop) → i .before .loop .i < length (start (i .before) .args .vertices .now)
 here i = lt-of-le-of-lt (i .loop-test .taken) (start (i .before) .pre .0 .1)
 
-s-here : (i : tie.In-loop Inv-loop μ-loop) → i .before .loop .i < length (start (i .before) .args .s .now)
-s-here i = lt-of-le-of-lt (i .loop-test .taken) (start (i .before) .pre .0 .2)
+s-here : (i : tie.In-loop Inv-loop μ-loop) → start (i .before) .args .t + i .before .loop .i < length (start (i .before) .args .s .now)
+s-here i = let s = start (i .before) in value-in (s .args .t) (i .before .loop .i) (s .args .j) (length (s .args .s .now)) (i .loop-test .taken) (s .pre .0 .2)
 
-z-here : (i : tie.In-loop Inv-loop μ-loop) → i .before .loop .i < length (start (i .before) .args .z .now)
-z-here i = lt-of-le-of-lt (i .loop-test .taken) (start (i .before) .pre .0 .3)
+z-here : (i : tie.In-loop Inv-loop μ-loop) → start (i .before) .args .t + i .before .loop .i < length (start (i .before) .args .z .now)
+z-here i = let s = start (i .before) in value-in (s .args .t) (i .before .loop .i) (s .args .j) (length (s .args .z .now)) (i .loop-test .taken) (s .pre .0 .3)
 
 size : (l : tie.At-loop Inv-loop μ-loop) → length (rows l) ≡ start l .args .j + 1
 size l = length-column (pairRow 0) (start l .args .vertices .now) (start l .args .j)
@@ -142,8 +145,8 @@ loop-holds c =
       refl,
       refl,
       refl,
-      ap (λ (os : List ℕ). addColumns os (a .s .now) (a .s-out .now)) none,
-      ap (λ (os : List ℕ). joinZ (a .standard) os (a .z .now) (a .z-out .now)) none,
+      ap (λ (os : List ℕ). addColumns os (drop (a .t) (a .s .now)) (a .s-out .now)) none,
+      ap (λ (os : List ℕ). joinZ (a .standard) os (drop (a .t) (a .z .now)) (a .z-out .now)) none,
       subst (λ (os : List ℕ). Counts (a .standard) os (a .counts .now) (a .counts .now)) none (counts-none (a .standard) (a .counts .now)),
     )
 
@@ -159,6 +162,9 @@ add-o c = let i = c .before in fits-row (inside i) (start (i .before) .pre .1 .0
 cast-o : tie.Need-cast-o Inv-loop μ-loop
 cast-o c = let i = c .before in fits-index (inside i) (start (i .before) .pre .1 .0 .2)
 
+add-k : tie.Need-add-k Inv-loop μ-loop
+add-k c = let i = c .before in fits-count 8 (le-of-lt (s-here i)) (start (i .before) .good .1 .1 .1 .1 .0)
+
 mul-s-out : tie.Need-mul-s-out Inv-loop μ-loop
 mul-s-out c = o-fits (c .before)
 
@@ -166,7 +172,7 @@ slice-read-s-out : tie.Need-slice-read-s-out Inv-loop μ-loop
 slice-read-s-out c = s-inside (c .before .before)
 
 mul-s-out-2 : tie.Need-mul-s-out-2 Inv-loop μ-loop
-mul-s-out-2 c = let i = c .before .before in fits-value (le-of-lt (s-here i)) (start (i .before) .good .1 .1 .1 .0)
+mul-s-out-2 c = let i = c .before .before in fits-value (le-of-lt (s-here i)) (start (i .before) .good .1 .1 .1 .1 .0)
 
 shared-slice-read-s-out : tie.Need-shared-slice-read-s-out Inv-loop μ-loop
 shared-slice-read-s-out c = s-here (c .before .before .before)
@@ -184,7 +190,7 @@ slice-read-z-value : tie.Need-slice-read-z-value Inv-loop μ-loop
 slice-read-z-value c = z-inside (c .before .before .before .before)
 
 mul-z-value-2 : tie.Need-mul-z-value-2 Inv-loop μ-loop
-mul-z-value-2 c = let i = c .before .before .before .before in fits-value (le-of-lt (z-here i)) (start (i .before) .good .1 .1 .1 .1 .0)
+mul-z-value-2 c = let i = c .before .before .before .before in fits-value (le-of-lt (z-here i)) (start (i .before) .good .1 .1 .1 .1 .1 .0)
 
 shared-slice-read-z-value : tie.Need-shared-slice-read-z-value Inv-loop μ-loop
 shared-slice-read-z-value c = z-here (c .before .before .before .before .before)
@@ -235,11 +241,12 @@ loop-again c =
     let zo = l .loop .z-out in
     let o = coded l in (
       turn-next n (a .j) (i .loop-test .taken),
-      length-set so o (add binary64 (getD so o nan) (getD (a .s .now) n nan)) ∙ l .loop .inv .1,
+      length-set so o (add binary64 (getD so o nan) (getD (a .s .now) (a .t + n) nan)) ∙ l .loop .inv .1,
       length-set zo o (v .z-value .result) ∙ l .loop .inv .2,
       k .count-column .kept .1 .0 ∙ l .loop .inv .3,
-      walk-stored addAt (rows l) (a .s .now) (a .s-out .now) n o 0 nan refl (l .loop .inv .4) (row-is i) (in-rows i) (s-here i),
-      walk-stored (zAt (a .standard)) (rows l) (a .z .now) (a .z-out .now) n o 0 nan (ap (set zo o) (v .z-value .ensures) ∙ z-stored (a .standard) o (getD (a .z .now) n nan) zo)
+      walk-stored addAt (rows l) (a .s .now) (a .s-out .now) (a .t) n o 0 nan refl (l .loop .inv .4) (row-is i) (in-rows i) (s-here i),
+      walk-stored (zAt (a .standard)) (rows l) (a .z .now) (a .z-out .now) (a .t) n o 0 nan
+          (ap (set zo o) (v .z-value .ensures) ∙ z-stored (a .standard) o (getD (a .z .now) (a .t + n) nan) zo)
           (l .loop .inv .5) (row-is i) (in-rows i) (z-here i),
       counts-next (a .standard) (rows l) n o (a .counts .now) (l .loop .counts) (k .count-column .last .1 .0) (in-rows i) (row-is i) (k .count-column .kept .1 .0) (l .loop .inv .6)
           (k .count-column .ensures),
@@ -259,9 +266,9 @@ returns c =
     let l = c .before in
     let a = start l .args in
     let all : take (l .loop .i) (rows l) ≡ rows l = take-all (l .loop .i) (rows l) (turns-all (l .loop .i) (a .j) (length (rows l)) (size l) (c .loop-test .left)) in (
-      by-same (λ (os : List ℕ). addColumns os (a .s .now) (a .s-out .now)) (l .loop .inv .4) all,
+      by-same (λ (os : List ℕ). addColumns os (drop (a .t) (a .s .now)) (a .s-out .now)) (l .loop .inv .4) all,
       (
-        by-same (λ (os : List ℕ). joinZ (a .standard) os (a .z .now) (a .z-out .now)) (l .loop .inv .5) all,
+        by-same (λ (os : List ℕ). joinZ (a .standard) os (drop (a .t) (a .z .now)) (a .z-out .now)) (l .loop .inv .5) all,
         subst (λ (os : List ℕ). Counts (a .standard) os (a .counts .now) (l .loop .counts)) all (l .loop .inv .6),
       ),
     )
@@ -281,6 +288,7 @@ join-column-spec =
     shared-slice-read-o
     add-o
     cast-o
+    add-k
     mul-s-out
     slice-read-s-out
     mul-s-out-2

@@ -1,4 +1,4 @@
-use Prim.Native.Nat.{ℕ, _≤_, _-_}
+use Prim.Native.Nat.{ℕ, _+_, _≤_, _-_}
 use native.Mathlib.Nat.{le-trans}
 use mathlib.Core.Path.{_≡_, refl, ap, sym, subst, _∙_}
 use mathlib.Core.List.{List}
@@ -138,7 +138,7 @@ join-cliques-requires c κs =
         subst (λ (n : ℕ). triangle n ≤ length (a .s-out .now)) (sym (ap length (ordering-here h) ∙ s .pre .0 .0 .ordered .vertices)) (s .pre .1 .0 .0),
       ),
       (
-        (subst (λ (n : ℕ). n ≤ length (a .s .now)) (sym (size o)) (s .pre .1 .1 .0 .0), s .pre .1 .1 .0 .1),
+        (subst (λ (n : ℕ). a .first + n ≤ length (a .s .now)) (sym (size o)) (s .pre .1 .1 .0 .0), s .pre .1 .1 .0 .1),
         ((s .pre .1 .0 .1, s .pre .1 .0 .2), (subst (λ (n : ℕ). Countable (a .standard) (length (a .s-out .now)) n (a .counts .now)) (sym (size o)) (s .pre .1 .1 .1 .0), s .pre .1 .1 .1 .1 .1)),
       ),
     )
@@ -151,19 +151,19 @@ abbrev filled : tie.After-join-cliques → tie.After-clique-offsets
 filled j = j .before .before .before .before .before .before .before .before .before .before
 
 same-length : tie.Need-same-length
-same-length c = end c .join-cliques .kept .1 .1 .1 .1 .1 .1 .0
+same-length c = end c .join-cliques .kept .1 .1 .1 .1 .1 .1 .1 .0
 
 same-length-2 : tie.Need-same-length-2
-same-length-2 c = end c .join-cliques .kept .1 .1 .1 .1 .1 .1 .1 .0
+same-length-2 c = end c .join-cliques .kept .1 .1 .1 .1 .1 .1 .1 .1 .0
 
 same-length-3 : tie.Need-same-length-3
-same-length-3 c = end c .join-cliques .kept .1 .1 .1 .1 .1 .1 .1 .1 .0
+same-length-3 c = end c .join-cliques .kept .1 .1 .1 .1 .1 .1 .1 .1 .1 .0
 
 same-length-4 : tie.Need-same-length-4
 same-length-4 c = filled (end c) .clique-offsets .kept .1 .1 .1 .0
 
 same-length-5 : tie.Need-same-length-5
-same-length-5 c = end c .join-cliques .kept .1 .1 .1 .1 .1 .1 .1 .1 .1 .0
+same-length-5 c = end c .join-cliques .kept .1 .1 .1 .1 .1 .1 .1 .1 .1 .1 .0
 
 returns : tie.Need-returns
 returns c =
@@ -171,12 +171,12 @@ returns c =
     let o = filled j in
     let a = start (read o) .args in
     let w = j .join-cliques .ensures in (
-      by-same length (w .0) (rows o) ∙ length-own (a .standard) (pattern (start (read o))) (start (read o) .pre .0 .0),
+      by-same (λ (n : ℕ). a .first + n) (w .0) (size o),
       (
-        by-same (λ (os : List ℕ). addColumns os (a .s .now) (a .s-out .now)) (w .1 .0) (rows o),
+        by-same (λ (os : List ℕ). addColumns os (drop (a .first) (a .s .now)) (a .s-out .now)) (w .1 .0) (rows o),
         (
-          by-same (λ (os : List ℕ). joinZ (a .standard) os (a .z .now) (a .z-out .now)) (w .1 .1 .0) (rows o),
-          subst (λ (os : List ℕ). Counts (a .standard) os (a .counts .now) (j .join-cliques .last .1 .1 .1 .1 .1 .1 .1 .1 .0)) (rows o) (w .1 .1 .1),
+          by-same (λ (os : List ℕ). joinZ (a .standard) os (drop (a .first) (a .z .now)) (a .z-out .now)) (w .1 .1 .0) (rows o),
+          subst (λ (os : List ℕ). Counts (a .standard) os (a .counts .now) (j .join-cliques .last .1 .1 .1 .1 .1 .1 .1 .1 .1 .0)) (rows o) (w .1 .1 .1),
         ),
       ),
     )
