@@ -71,7 +71,7 @@ fn join_parts(
             }
             Met::Cut(at, next) => {
                 let n = cone_rows(words, at);
-                t += join_cut(
+                t = join_cut(
                     standard,
                     words,
                     at,

@@ -58,11 +58,12 @@ fn average(standard: bool, z: &mut [f64], counts: &mut [u32])
     }
 }
 
-// s and z on the rows of the cone; how many entries the blocks have. No count is above 0 before and after.
+// s and z on the rows of the cone, whose blocks' values begin at t; where they end. No count is above 0 before and after.
 fn join_rows(
     standard: bool,
     words: &[u32],
     at: usize,
+    t: usize,
     s: &[f64],
     z: &[f64],
     s_out: &mut [f64],
@@ -73,21 +74,22 @@ fn join_rows(
 ) -> usize
     requires { ⌜ RightPattern (patternAt (now words) at) × (patternAt (now words) at .vertexCount ≤ 256) ⌝ }
     requires { ⌜ (length (now «s_out») ≡ triangle (patternAt (now words) at .vertexCount)) × (length (now «z_out») ≡ triangle (patternAt (now words) at .vertexCount)) ⌝ }
-    requires { ⌜ (blockRows (patternAt (now words) at) ≤ 262144) × (blockRows (patternAt (now words) at) ≤ length (now s)) × (length (now z) ≡ length (now s)) ⌝ }
+    requires { ⌜ (blockRows (patternAt (now words) at) ≤ 262144) × (t + blockRows (patternAt (now words) at) ≤ length (now s)) × (length (now z) ≡ length (now s)) ⌝ }
     requires { ⌜ CountsRows standard (length (now «s_out»)) (now counts) × Cleared standard (now counts) ⌝ }
     requires { ⌜ (256 ≤ length (now offsets)) × (256 ≤ length (now vertices)) ⌝ }
-    ensures { λ r. ⌜ r ≡ blockRows (patternAt (now (words .entry)) at) ⌝ }
-    ensures { λ _. ⌜ now («s_out» .exit) ≡ sCut standard (patternAt (now (words .entry)) at) (now (s .entry)) ⌝ }
-    ensures { λ _. ⌜ now («z_out» .exit) ≡ zCut standard (patternAt (now (words .entry)) at) (now (z .entry)) ⌝ }
+    ensures { λ r. ⌜ r ≡ t + blockRows (patternAt (now (words .entry)) at) ⌝ }
+    ensures { λ _. ⌜ now («s_out» .exit) ≡ sCut standard (patternAt (now (words .entry)) at) (drop t (now (s .entry))) ⌝ }
+    ensures { λ _. ⌜ now («z_out» .exit) ≡ zCut standard (patternAt (now (words .entry)) at) (drop t (now (z .entry))) ⌝ }
     ensures { λ _. ⌜ Cleared standard (now (counts .exit)) ⌝ }
 {
     let n = s_out.len();
     csc::fill_values(&mut *s_out, n, 0.0);
     csc::fill_values(&mut *z_out, n, 0.0);
-    let k = reverse_blocks::join_pattern(
+    let end = reverse_blocks::join_pattern(
         standard,
         words,
         at,
+        t,
         s,
         z,
         s_out,
@@ -97,10 +99,10 @@ fn join_rows(
         vertices,
     );
     average(standard, z_out, counts);
-    k
+    end
 }
 
-// The same on n rows from row `row` on; the values begin at t.
+// The same on n rows from row `row` on.
 pub fn join_cut(
     standard: bool,
     words: &[u32],
@@ -121,7 +123,7 @@ pub fn join_cut(
     requires { ⌜ (blockRows (patternAt (now words) at) ≤ 262144) × (t + blockRows (patternAt (now words) at) ≤ length (now s)) × (length (now z) ≡ length (now s)) ⌝ }
     requires { ⌜ CountsRows standard n (now counts) × Cleared standard (now counts) ⌝ }
     requires { ⌜ (256 ≤ length (now offsets)) × (256 ≤ length (now vertices)) ⌝ }
-    ensures { λ r. ⌜ r ≡ blockRows (patternAt (now (words .entry)) at) ⌝ }
+    ensures { λ r. ⌜ r ≡ t + blockRows (patternAt (now (words .entry)) at) ⌝ }
     ensures { λ _. ⌜ now («s_out» .exit) ≡ writtenAt row (sCut standard (patternAt (now (words .entry)) at) (drop t (now (s .entry)))) (now («s_out» .entry)) ⌝ }
     ensures { λ _. ⌜ now («z_out» .exit) ≡ writtenAt row (zCut standard (patternAt (now (words .entry)) at) (drop t (now (z .entry)))) (now («z_out» .entry)) ⌝ }
     ensures { λ _. ⌜ Cleared standard (now (counts .exit)) ⌝ }
@@ -131,8 +133,9 @@ pub fn join_cut(
         standard,
         words,
         at,
-        &s[t..],
-        &z[t..],
+        t,
+        s,
+        z,
         &mut s_out[row..e],
         &mut z_out[row..e],
         counts,

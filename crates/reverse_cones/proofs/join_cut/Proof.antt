@@ -1,5 +1,5 @@
 use Prim.Native.Nat.{ℕ, _+_, _-_, _≤_}
-use native.Mathlib.Nat.{le-refl, le-of-eq, le-add-right}
+use native.Mathlib.Nat.{le-of-eq, le-add-right}
 use mathlib.Core.Path.{_≡_, refl, _∙_}
 use mathlib.Core.List.{List}
 use lib.ListN.{length, take, drop}
@@ -7,22 +7,16 @@ use lib.Ieee.{Float}
 use Rattle.layout.specs.Patterns.{Pattern}
 use Rattle.layout.specs.Blocks.{blockRows}
 use Rattle.supernode_tree.specs.Reads.{patternAt}
-use Rattle.reverse_blocks.proofs.Room.{le-same, begins, fits-count, fits-value, length-part, rest-has, length-put}
+use Rattle.reverse_blocks.proofs.Room.{begins, fits-count, fits-value, length-part, length-put}
 use Rattle.reverse_cones.specs.Parts.{sCut, zCut}
-use Rattle.reverse_cones.proofs.Laws.{rests-same, put-made, rows-kept}
+use Rattle.reverse_cones.proofs.Laws.{put-same, rows-kept}
 use Rattle.reverse_cones.proofs.join_cut.Statement.{statement}
 use Rattle.reverse_cones.proofs.join_cut.Tie as tie
 
 abbrev here : tie.Start → Pattern
 here s = patternAt (s .args .words .now) (s .args .at)
 
--- the values and the rows begin in their slices
-s-begins : (s : tie.Start) → s .args .t ≤ length (s .args .s .now)
-s-begins s = begins (s .args .t) (blockRows (here s)) (length (s .args .s .now)) (s .pre .1 .1 .0 .1)
-
-z-begins : (s : tie.Start) → s .args .t ≤ length (s .args .z .now)
-z-begins s = le-same (s-begins s) (s .pre .1 .1 .0 .2)
-
+-- the rows begin in their slices
 s-rows : (s : tie.Start) → s .args .row ≤ length (s .args .s-out .now)
 s-rows s = begins (s .args .row) (s .args .n) (length (s .args .s-out .now)) (s .pre .1 .0 .0)
 
@@ -33,59 +27,35 @@ z-rows s = begins (s .args .row) (s .args .n) (length (s .args .z-out .now)) (s 
 abbrev start : tie.After-slice-known5 → tie.Start
 start c = c .before .before .before .before .before .before .before .before
 
-abbrev lent : tie.After-join-rows-arg3 → tie.After-slice-known5
-lent c = c .before .before .before
+abbrev lent : tie.After-join-rows-arg → tie.After-slice-known5
+lent c = c .before
 
 add-e : tie.Need-add-e
 add-e c = fits-count 8 (start c .pre .1 .0 .0) (start c .good .1 .1 .1 .1 .1 .1 .1 .1 .0)
 
 mul-join-rows : tie.Need-mul-join-rows
-mul-join-rows c = fits-value (s-begins (start c)) (start c .good .1 .1 .1 .1 .1 .1 .0)
+mul-join-rows c = let s = start c in fits-value (s-rows s) (s .good .1 .1 .1 .1 .1 .1 .1 .1 .0)
 
 sub-join-rows : tie.Need-sub-join-rows
-sub-join-rows c = s-begins (start c)
+sub-join-rows c = let a = start c .args in le-add-right (a .row) (a .n)
 
 part-join-rows-start : tie.Need-part-join-rows-start
-part-join-rows-start c = s-begins (start c)
+part-join-rows-start c = let a = start c .args in le-add-right (a .row) (a .n)
 
 part-join-rows-end : tie.Need-part-join-rows-end
-part-join-rows-end c = le-refl (length (start c .args .s .now))
+part-join-rows-end c = start c .pre .1 .0 .0
 
 mul-join-rows-2 : tie.Need-mul-join-rows-2
-mul-join-rows-2 c = let s = start (c .before) in fits-value (z-begins s) (s .good .1 .1 .1 .1 .1 .1 .1 .0)
+mul-join-rows-2 c = let s = start (lent c) in fits-value (z-rows s) (s .good .1 .1 .1 .1 .1 .1 .1 .1 .1 .0)
 
 sub-join-rows-2 : tie.Need-sub-join-rows-2
-sub-join-rows-2 c = z-begins (start (c .before))
+sub-join-rows-2 c = let a = start (lent c) .args in le-add-right (a .row) (a .n)
 
 part-join-rows-start-2 : tie.Need-part-join-rows-start-2
-part-join-rows-start-2 c = z-begins (start (c .before))
+part-join-rows-start-2 c = let a = start (lent c) .args in le-add-right (a .row) (a .n)
 
 part-join-rows-end-2 : tie.Need-part-join-rows-end-2
-part-join-rows-end-2 c = le-refl (length (start (c .before) .args .z .now))
-
-mul-join-rows-3 : tie.Need-mul-join-rows-3
-mul-join-rows-3 c = let s = start (c .before .before) in fits-value (s-rows s) (s .good .1 .1 .1 .1 .1 .1 .1 .1 .0)
-
-sub-join-rows-3 : tie.Need-sub-join-rows-3
-sub-join-rows-3 c = let a = start (c .before .before) .args in le-add-right (a .row) (a .n)
-
-part-join-rows-start-3 : tie.Need-part-join-rows-start-3
-part-join-rows-start-3 c = let a = start (c .before .before) .args in le-add-right (a .row) (a .n)
-
-part-join-rows-end-3 : tie.Need-part-join-rows-end-3
-part-join-rows-end-3 c = start (c .before .before) .pre .1 .0 .0
-
-mul-join-rows-4 : tie.Need-mul-join-rows-4
-mul-join-rows-4 c = let s = start (lent c) in fits-value (z-rows s) (s .good .1 .1 .1 .1 .1 .1 .1 .1 .1 .0)
-
-sub-join-rows-4 : tie.Need-sub-join-rows-4
-sub-join-rows-4 c = let a = start (lent c) .args in le-add-right (a .row) (a .n)
-
-part-join-rows-start-4 : tie.Need-part-join-rows-start-4
-part-join-rows-start-4 c = let a = start (lent c) .args in le-add-right (a .row) (a .n)
-
-part-join-rows-end-4 : tie.Need-part-join-rows-end-4
-part-join-rows-end-4 c = start (lent c) .pre .1 .0 .1
+part-join-rows-end-2 c = start (lent c) .pre .1 .0 .1
 
 join-rows-requires : tie.Need-join-rows-requires
 join-rows-requires c κs =
@@ -98,7 +68,7 @@ join-rows-requires c κs =
       (
         (s-lent ∙ s .pre .0 .2, z-lent ∙ s .pre .0 .2),
         (
-          (s .pre .1 .1 .0 .0, rest-has (a .t) (blockRows (here s)) (a .s .now) (s .pre .1 .1 .0 .1), rests-same (a .t) (a .s .now) (a .z .now) (s .pre .1 .1 .0 .2)),
+          s .pre .1 .1 .0,
           (
             (rows-kept (a .standard) (a .n) (length s-part) (a .counts .now) (a .counts .now) (le-of-eq s-lent) refl (s .pre .1 .1 .1 .0 .0), s .pre .1 .1 .1 .0 .1),
             s .pre .1 .1 .1 .1,
@@ -118,22 +88,22 @@ same-length : tie.Need-same-length
 same-length c =
     let j = end c in
     let a = first j .args in
-    length-put (a .row) (a .row + a .n - a .row) (a .s-out .now) (j .join-rows .last .1 .1 .1 .1 .1 .0) (s-rows (first j)) (j .join-rows .kept .1 .1 .1 .1 .1 .0)
+    length-put (a .row) (a .row + a .n - a .row) (a .s-out .now) (j .join-rows .last .1 .1 .1 .1 .1 .1 .0) (s-rows (first j)) (j .join-rows .kept .1 .1 .1 .1 .1 .1 .0)
 
 same-length-2 : tie.Need-same-length-2
 same-length-2 c =
     let j = end c in
     let a = first j .args in
-    length-put (a .row) (a .row + a .n - a .row) (a .z-out .now) (j .join-rows .last .1 .1 .1 .1 .1 .1 .0) (z-rows (first j)) (j .join-rows .kept .1 .1 .1 .1 .1 .1 .0)
+    length-put (a .row) (a .row + a .n - a .row) (a .z-out .now) (j .join-rows .last .1 .1 .1 .1 .1 .1 .1 .0) (z-rows (first j)) (j .join-rows .kept .1 .1 .1 .1 .1 .1 .1 .0)
 
 same-length-3 : tie.Need-same-length-3
-same-length-3 c = end c .join-rows .kept .1 .1 .1 .1 .1 .1 .1 .0
+same-length-3 c = end c .join-rows .kept .1 .1 .1 .1 .1 .1 .1 .1 .0
 
 same-length-4 : tie.Need-same-length-4
-same-length-4 c = end c .join-rows .kept .1 .1 .1 .1 .1 .1 .1 .1 .0
+same-length-4 c = end c .join-rows .kept .1 .1 .1 .1 .1 .1 .1 .1 .1 .0
 
 same-length-5 : tie.Need-same-length-5
-same-length-5 c = end c .join-rows .kept .1 .1 .1 .1 .1 .1 .1 .1 .1 .0
+same-length-5 c = end c .join-rows .kept .1 .1 .1 .1 .1 .1 .1 .1 .1 .1 .0
 
 returns : tie.Need-returns
 returns c =
@@ -143,9 +113,9 @@ returns c =
     let w = j .join-rows in (
       w .ensures .0,
       (
-        put-made (sCut (a .standard) (here s)) (a .s .now) (w .last .1 .1 .1 .1 .1 .0) (a .s-out .now) (a .t) (a .row) (a .n) (s .pre .1 .0 .0) (w .ensures .1 .0) (w .kept .1 .1 .1 .1 .1 .0),
+        put-same (sCut (a .standard) (here s) (drop (a .t) (a .s .now))) (w .last .1 .1 .1 .1 .1 .1 .0) (a .s-out .now) (a .row) (a .n) (s .pre .1 .0 .0) (w .ensures .1 .0) (w .kept .1 .1 .1 .1 .1 .1 .0),
         (
-          put-made (zCut (a .standard) (here s)) (a .z .now) (w .last .1 .1 .1 .1 .1 .1 .0) (a .z-out .now) (a .t) (a .row) (a .n) (s .pre .1 .0 .1) (w .ensures .1 .1 .0) (w .kept .1 .1 .1 .1 .1 .1 .0),
+          put-same (zCut (a .standard) (here s) (drop (a .t) (a .z .now))) (w .last .1 .1 .1 .1 .1 .1 .1 .0) (a .z-out .now) (a .row) (a .n) (s .pre .1 .0 .1) (w .ensures .1 .1 .0) (w .kept .1 .1 .1 .1 .1 .1 .1 .0),
           w .ensures .1 .1 .1,
         ),
       ),
@@ -164,14 +134,6 @@ join-cut-spec =
     sub-join-rows-2
     part-join-rows-start-2
     part-join-rows-end-2
-    mul-join-rows-3
-    sub-join-rows-3
-    part-join-rows-start-3
-    part-join-rows-end-3
-    mul-join-rows-4
-    sub-join-rows-4
-    part-join-rows-start-4
-    part-join-rows-end-4
     join-rows-requires
     same-length
     same-length-2

@@ -2,7 +2,7 @@ use Prim.Native.Nat.{ℕ}
 use native.Mathlib.Nat.{le-refl, le-of-eq}
 use mathlib.Core.Path.{_≡_, refl, ap, sym, subst, _∙_}
 use mathlib.Core.List.{List}
-use lib.ListN.{length, replicate}
+use lib.ListN.{length, drop, replicate}
 use lib.Ieee.{Float, ofBits}
 use Rattle.layout.specs.Lists.{written}
 use Rattle.layout.specs.Triangle.{triangle}
@@ -56,22 +56,22 @@ abbrev z-filled : tie.After-join-pattern → tie.After-fill-values2
 z-filled j = j .before .before .before .before .before .before .before .before
 
 abbrev z-joined : tie.After-join-pattern → List Float
-z-joined j = j .join-pattern .last .1 .1 .1 .1 .1 .1 .0
+z-joined j = j .join-pattern .last .1 .1 .1 .1 .1 .1 .1 .0
 
 abbrev counted : tie.After-join-pattern → List ℕ
-counted j = j .join-pattern .last .1 .1 .1 .1 .1 .1 .1 .0
+counted j = j .join-pattern .last .1 .1 .1 .1 .1 .1 .1 .1 .0
 
 size : (j : tie.After-join-pattern) → length (z-joined j) ≡ length (start (s-filled (z-filled j)) .args .s-out .now)
 size j =
     let f = z-filled j in
-    kept-twice (j .join-pattern .kept .1 .1 .1 .1 .1 .1 .0) (f .fill-values2 .kept .0) (sym (sizes (start (s-filled f))))
+    kept-twice (j .join-pattern .kept .1 .1 .1 .1 .1 .1 .1 .0) (f .fill-values2 .kept .0) (sym (sizes (start (s-filled f))))
 
 -- the counts have room
 room : (j : tie.After-join-pattern) → CountsRows (start (s-filled (z-filled j)) .args .standard) (length (z-joined j)) (counted j)
 room j =
     let s = start (s-filled (z-filled j)) in
     let a = s .args in
-    rows-kept (a .standard) (length (a .s-out .now)) (length (z-joined j)) (a .counts .now) (counted j) (le-of-eq (size j)) (j .join-pattern .kept .1 .1 .1 .1 .1 .1 .1 .0) (s .pre .1 .1 .1 .0 .0)
+    rows-kept (a .standard) (length (a .s-out .now)) (length (z-joined j)) (a .counts .now) (counted j) (le-of-eq (size j)) (j .join-pattern .kept .1 .1 .1 .1 .1 .1 .1 .1 .0) (s .pre .1 .1 .1 .0 .0)
 
 fill-values-requires : tie.Need-fill-values-requires
 fill-values-requires c κs = le-refl (length (c .before .before .before .before .before .before .before .before .before .args .s-out .now))
@@ -113,22 +113,22 @@ abbrev joined : tie.After-average → tie.After-join-pattern
 joined v = v .before .before .before .before .before .before .before .before .before .before .before .before .before
 
 same-length : tie.Need-same-length
-same-length c = let j = joined (averaged c) in j .join-pattern .kept .1 .1 .1 .1 .1 .0 ∙ s-filled (z-filled j) .fill-values .kept .0
+same-length c = let j = joined (averaged c) in j .join-pattern .kept .1 .1 .1 .1 .1 .1 .0 ∙ s-filled (z-filled j) .fill-values .kept .0
 
 same-length-2 : tie.Need-same-length-2
 same-length-2 c =
     let v = averaged c in
     let j = joined v in
-    kept-twice (v .average .kept .1 .0) (j .join-pattern .kept .1 .1 .1 .1 .1 .1 .0) (z-filled j .fill-values2 .kept .0)
+    kept-twice (v .average .kept .1 .0) (j .join-pattern .kept .1 .1 .1 .1 .1 .1 .1 .0) (z-filled j .fill-values2 .kept .0)
 
 same-length-3 : tie.Need-same-length-3
-same-length-3 c = let v = averaged c in v .average .kept .1 .1 .0 ∙ joined v .join-pattern .kept .1 .1 .1 .1 .1 .1 .1 .0
+same-length-3 c = let v = averaged c in v .average .kept .1 .1 .0 ∙ joined v .join-pattern .kept .1 .1 .1 .1 .1 .1 .1 .1 .0
 
 same-length-4 : tie.Need-same-length-4
-same-length-4 c = joined (averaged c) .join-pattern .kept .1 .1 .1 .1 .1 .1 .1 .1 .0
+same-length-4 c = joined (averaged c) .join-pattern .kept .1 .1 .1 .1 .1 .1 .1 .1 .1 .0
 
 same-length-5 : tie.Need-same-length-5
-same-length-5 c = joined (averaged c) .join-pattern .kept .1 .1 .1 .1 .1 .1 .1 .1 .1 .0
+same-length-5 c = joined (averaged c) .join-pattern .kept .1 .1 .1 .1 .1 .1 .1 .1 .1 .1 .0
 
 returns : tie.Need-returns
 returns c =
@@ -143,9 +143,9 @@ returns c =
     let clear = s .pre .1 .1 .1 .0 .1 in (
       e .0,
       (
-        by-same (addColumns os (a .s .now)) (e .1 .0) (s-zeros f),
+        by-same (addColumns os (drop (a .t) (a .s .now))) (e .1 .0) (s-zeros f),
         (
-          averaged-cut (a .standard) os (a .counts .now) (counted j) (a .z .now) (zeros s) (g .fill-values2 .last .0) (z-joined j) (v .average .last .1 .0) (room j) clear (e .1 .1 .1)
+          averaged-cut (a .standard) os (a .counts .now) (counted j) (drop (a .t) (a .z .now)) (zeros s) (g .fill-values2 .last .0) (z-joined j) (v .average .last .1 .0) (room j) clear (e .1 .1 .1)
               (v .average .ensures .0) (e .1 .1 .0) (z-zeros g),
           cleared-again (a .standard) (here s) (length (z-joined j)) (a .counts .now) (counted j) (v .average .last .1 .1 .0) (size j ∙ s .pre .1 .0 .0) clear (e .1 .1 .1) (v .average .ensures .1),
         ),
