@@ -17,7 +17,7 @@ use Rattle.layout.specs.Checks.{noCone}
 use Rattle.layout.proofs.Tests.{and-iff, or-iff, not-iff, leb-iff, ltb-iff, eqb-iff}
 use Rattle.layout.proofs.Members.{all-at}
 use Rattle.layout.proofs.Triangles.{triangle-mono}
-use Rattle.reverse.specs.Counts.{sideFew, sidesFew, RowsWithin, CountsWithin, CountsCones}
+use Rattle.reverse.specs.Counts.{sideFew, sidesFew, RowsWithin, CountsCones}
 
 -- 4,096 counts are enough where there are few rows, or few in each cone
 within : (m : ℕ) (cones : List ℕ) → T (leb m 4096 || sidesFew cones) → RowsWithin 4096 m cones
@@ -33,29 +33,28 @@ within m cones h p named fits few =
         (λ yes. omega (arith, triangle-mono (p .vertexCount) 90 (omega (arith, leb-iff (c .first) 90 .0 yes, is .1))))
         (or-iff (not (eqb (c .kind) 6)) (leb (c .first) 90) .0 side)
 
-pub within-some : (standard : Bool) (m : ℕ) (cones : List ℕ) → T (leb m 4096 || sidesFew cones) → CountsWithin standard 4096 m cones
-within-some true m cones h = within m cones h
-within-some false m cones h = tt
-
--- 256 are where there are no more rows
-pub within-few : (standard : Bool) (m : ℕ) (cones : List ℕ) → T (not standard || leb m 256) → CountsWithin standard 256 m cones
-within-few true m cones h = λ p named fits few. le-trans fits (leb-iff m 256 .0 h)
-within-few false m cones h = tt
-
--- the largest cone that a pattern may cut has 32,896 rows
-pub within-all : (standard : Bool) (m : ℕ) (cones : List ℕ) → CountsWithin standard 32896 m cones
-within-all true m cones = λ p named fits few. triangle-mono (p .vertexCount) 256 few
-within-all false m cones = tt
-
 all-zero : (k o : ℕ) → getD (replicate {A = ℕ} k 0) o 0 ≡ 0
 all-zero zero o = refl
 all-zero (suc k) zero = refl
 all-zero (suc k) (suc o) = all-zero k o
 
--- the counts of a fresh table: room for cones of at most k rows, and none above 0
-pub counts-within : (standard : Bool) (k m : ℕ) (cones : List ℕ) → CountsWithin standard k m cones → CountsCones standard m cones (replicate k 0)
-counts-within true k m cones h = (λ p named fits few. subst (λ (n : ℕ). triangle (p .vertexCount) ≤ n) (sym (length-replicate {A = ℕ} k 0)) (h p named fits few), all-zero k)
-counts-within false k m cones h = tt
+-- k counts of a fresh table: room for cones of at most k rows, and none above 0
+fresh : (k m : ℕ) (cones : List ℕ) → RowsWithin k m cones → CountsCones true m cones (replicate k 0)
+fresh k m cones h = (λ p named fits few. subst (λ (n : ℕ). triangle (p .vertexCount) ≤ n) (sym (length-replicate {A = ℕ} k 0)) (h p named fits few), all-zero k)
+
+-- 256 where there are no more rows
+pub counts-few : (standard : Bool) (m : ℕ) (cones : List ℕ) → T (not standard || leb m 256) → CountsCones standard m cones (replicate 256 0)
+counts-few true m cones h = fresh 256 m cones (λ p named fits few. le-trans fits (leb-iff m 256 .0 h))
+counts-few false m cones h = tt
+
+pub counts-some : (standard : Bool) (m : ℕ) (cones : List ℕ) → T (leb m 4096 || sidesFew cones) → CountsCones standard m cones (replicate 4096 0)
+counts-some true m cones h = fresh 4096 m cones (within m cones h)
+counts-some false m cones h = tt
+
+-- the largest cone that a pattern may cut has 32,896 rows
+pub counts-many : (standard : Bool) (m : ℕ) (cones : List ℕ) → CountsCones standard m cones (replicate 32896 0)
+counts-many true m cones = fresh 32896 m cones (λ p named fits few. triangle-mono (p .vertexCount) 256 few)
+counts-many false m cones = tt
 
 -- ---- the pattern of a cut part is one of the patterns
 

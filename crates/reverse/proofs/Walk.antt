@@ -37,14 +37,14 @@ module _ (f : Part → List Float → List Float) (m : ℕ) (vs old : List Float
   joins-none ps ahead t e = record { size = refl; front = ap (λ (qs : List Part). valuesFrom f qs (drop t vs)) e; rest = refl }
 
   -- the next part's rows were joined
-  pub joins-more : (full : List Float) (x : Part) (ps ahead : List Part) (row t n k : ℕ) (out new : List Float) → Joins f m full vs old ahead row t out → ahead ≡ x ∷ ps
-      → row + n ≤ m → k ≡ partRows x → length (f x (drop t vs)) ≡ n → new ≡ writtenAt row (f x (drop t vs)) out → Joins f m full vs old ps (row + n) (t + k) new
-  joins-more full x ps ahead row t n k out new h e fits used wide w = record {
+  pub joins-more : (full : List Float) (x : Part) (ps ahead : List Part) (row t n next : ℕ) (out new : List Float) → Joins f m full vs old ahead row t out → ahead ≡ x ∷ ps
+      → row + n ≤ m → next ≡ t + partRows x → length (f x (drop t vs)) ≡ n → new ≡ writtenAt row (f x (drop t vs)) out → Joins f m full vs old ps (row + n) next new
+  joins-more full x ps ahead row t n next out new h e fits used wide w = record {
     size = ap length w ∙ length-append A (written xs (drop row out)) ∙ omega (arith, before, length-written xs (drop row out) (omega (arith, behind)), behind, h .size);
     front =
-        ap (λ (r : List Float). r ++ later (drop (t + k) vs)) (ap (take (row + n)) w ∙ joined)
-        ∙ append-assoc A xs (later (drop (t + k) vs))
-        ∙ ap (λ (r : List Float). A ++ (xs ++ later r)) (sym (drop-drop k t vs) ∙ ap (λ (j : ℕ). drop j (drop t vs)) used)
+        ap (λ (r : List Float). r ++ later (drop next vs)) (ap (take (row + n)) w ∙ joined)
+        ∙ append-assoc A xs (later (drop next vs))
+        ∙ ap (λ (r : List Float). A ++ (xs ++ later r)) (ap (λ (j : ℕ). drop j vs) used ∙ sym (drop-drop (partRows x) t vs))
         ∙ ap (λ (qs : List Part). A ++ valuesFrom f qs (drop t vs)) (sym e) ∙ h .front;
     rest = ap (drop m) w ∙ kept ∙ h .rest;
   }
@@ -85,7 +85,7 @@ module _ (f : Part → List Float → List Float) (m : ℕ) (vs old : List Float
       → ((ws : List Float) → f (whole i c at) ws ≡ wholeValues standard (take (rowCount c) ws)) → Joins f m full vs old ahead row t out → ahead ≡ whole i c at ∷ ps
       → row + n ≤ m → n ≡ rowCount c → t + n ≤ length vs → new ≡ writtenAt row (wholeValues standard (part t (t + n) vs)) out → Joins f m full vs old ps (row + n) (t + n) new
   joins-whole full standard i c at ps ahead row t n out new is h e fits used inside w =
-      joins-more full (whole i c at) ps ahead row t n n out new h e fits used wide (w ∙ ap (λ (xs : List Float). writtenAt row xs out) values)
+      joins-more full (whole i c at) ps ahead row t n (t + n) out new h e fits (ap (λ (k : ℕ). t + k) used) wide (w ∙ ap (λ (xs : List Float). writtenAt row xs out) values)
     where
       values : wholeValues standard (part t (t + n) vs) ≡ f (whole i c at) (drop t vs)
       values = ap (λ (k : ℕ). wholeValues standard (take k (drop t vs))) (add-sub-cancel-left t n ∙ used) ∙ sym (is (drop t vs))

@@ -23,12 +23,7 @@ abbrev pub RowsWithin : ℕ → ℕ → List ℕ → Type 0
 RowsWithin k m cones =
     (p : Pattern) → T (namesItsCone (records cones) p) → triangle (p .vertexCount) ≤ m → p .vertexCount ≤ 256 → triangle (p .vertexCount) ≤ k
 
--- k counts are enough: true stands for the standard route, and the compact one counts nothing
-abbrev pub CountsWithin : Bool → ℕ → ℕ → List ℕ → Type 0
-CountsWithin true k m cones = RowsWithin k m cones
-CountsWithin false k m cones = Unit {0}
-
--- there are counts for each, and none is above 0
+-- there are counts for each, and none is above 0: true stands for the standard route, and the compact one counts nothing
 abbrev pub CountsCones : Bool → ℕ → List ℕ → List ℕ → Type 0
 CountsCones true m cones counts = RowsWithin (length counts) m cones × Cleared true counts
 CountsCones false m cones counts = Unit {0}

@@ -6,7 +6,7 @@ ghost use lib.ListN.{length, take};
 ghost use lib.Dec.{leb};
 ghost use Rattle.layout.specs.Lists.{written};
 ghost use Rattle.reverse.specs.Joined.{Joinable, joinedOf, routeOf, firstOf};
-ghost use Rattle.reverse.specs.Counts.{sideFew, sidesFew, CountsWithin, CountsCones};
+ghost use Rattle.reverse.specs.Counts.{sideFew, sidesFew, CountsCones};
 use parts::Met;
 use parts::Place;
 use reverse_cones::cone_rows;
@@ -140,102 +140,6 @@ fn counts_few(standard: bool, m: u32) -> bool
 
 // ---- s and z
 
-// s and z with counts for a cone of few rows, since they are soon cleared.
-fn with_few(
-    standard: bool,
-    m: u32,
-    cones: &[u32],
-    count: u32,
-    words: &[u32],
-    s: &[f64],
-    z: &[f64],
-    s_out: &mut [f64],
-    z_out: &mut [f64],
-)
-    requires { ⌜ Joinable (routeOf standard) m (now cones) count (now words) (now s) (now z) ⌝ }
-    requires { ⌜ (m ≤ length (now «s_out»)) × (m ≤ length (now «z_out»)) × CountsWithin standard 256 m (now cones) ⌝ }
-    ensures { λ _. ⌜ now («s_out» .exit) ≡ written (joinedOf (routeOf standard) m (now (cones .entry)) count (now (words .entry)) (now (s .entry)) (now (z .entry)) .s) (now («s_out» .entry)) ⌝ }
-    ensures { λ _. ⌜ now («z_out» .exit) ≡ written (joinedOf (routeOf standard) m (now (cones .entry)) count (now (words .entry)) (now (s .entry)) (now (z .entry)) .z) (now («z_out» .entry)) ⌝ }
-{
-    let mut counts = [0u32; 256];
-    join_parts(
-        standard,
-        m,
-        cones,
-        count,
-        words,
-        s,
-        z,
-        s_out,
-        z_out,
-        &mut counts,
-    );
-}
-
-// The same for more rows, or for many cones of few rows.
-fn with_some(
-    standard: bool,
-    m: u32,
-    cones: &[u32],
-    count: u32,
-    words: &[u32],
-    s: &[f64],
-    z: &[f64],
-    s_out: &mut [f64],
-    z_out: &mut [f64],
-)
-    requires { ⌜ Joinable (routeOf standard) m (now cones) count (now words) (now s) (now z) ⌝ }
-    requires { ⌜ (m ≤ length (now «s_out»)) × (m ≤ length (now «z_out»)) × CountsWithin standard 4096 m (now cones) ⌝ }
-    ensures { λ _. ⌜ now («s_out» .exit) ≡ written (joinedOf (routeOf standard) m (now (cones .entry)) count (now (words .entry)) (now (s .entry)) (now (z .entry)) .s) (now («s_out» .entry)) ⌝ }
-    ensures { λ _. ⌜ now («z_out» .exit) ≡ written (joinedOf (routeOf standard) m (now (cones .entry)) count (now (words .entry)) (now (s .entry)) (now (z .entry)) .z) (now («z_out» .entry)) ⌝ }
-{
-    let mut counts = [0u32; 4096];
-    join_parts(
-        standard,
-        m,
-        cones,
-        count,
-        words,
-        s,
-        z,
-        s_out,
-        z_out,
-        &mut counts,
-    );
-}
-
-// The same for the largest cone that a pattern may cut.
-fn with_many(
-    standard: bool,
-    m: u32,
-    cones: &[u32],
-    count: u32,
-    words: &[u32],
-    s: &[f64],
-    z: &[f64],
-    s_out: &mut [f64],
-    z_out: &mut [f64],
-)
-    requires { ⌜ Joinable (routeOf standard) m (now cones) count (now words) (now s) (now z) ⌝ }
-    requires { ⌜ (m ≤ length (now «s_out»)) × (m ≤ length (now «z_out»)) × CountsWithin standard 32896 m (now cones) ⌝ }
-    ensures { λ _. ⌜ now («s_out» .exit) ≡ written (joinedOf (routeOf standard) m (now (cones .entry)) count (now (words .entry)) (now (s .entry)) (now (z .entry)) .s) (now («s_out» .entry)) ⌝ }
-    ensures { λ _. ⌜ now («z_out» .exit) ≡ written (joinedOf (routeOf standard) m (now (cones .entry)) count (now (words .entry)) (now (s .entry)) (now (z .entry)) .z) (now («z_out» .entry)) ⌝ }
-{
-    let mut counts = [0u32; 32896];
-    join_parts(
-        standard,
-        m,
-        cones,
-        count,
-        words,
-        s,
-        z,
-        s_out,
-        z_out,
-        &mut counts,
-    );
-}
-
 // Clarabel's `decomp_reverse_standard` and `decomp_reverse_compact`: s and z of a solution.
 pub fn decomp_reverse(
     standard: bool,
@@ -254,10 +158,46 @@ pub fn decomp_reverse(
     ensures { λ _. ⌜ now («z_out» .exit) ≡ written (joinedOf (routeOf standard) m (now (cones .entry)) count (now (words .entry)) (now (s .entry)) (now (z .entry)) .z) (now («z_out» .entry)) ⌝ }
 {
     if counts_few(standard, m) {
-        with_few(standard, m, cones, count, words, s, z, s_out, z_out);
+        let mut counts = [0u32; 256];
+        join_parts(
+            standard,
+            m,
+            cones,
+            count,
+            words,
+            s,
+            z,
+            s_out,
+            z_out,
+            &mut counts,
+        );
     } else if rows_few(m, cones) {
-        with_some(standard, m, cones, count, words, s, z, s_out, z_out);
+        let mut counts = [0u32; 4096];
+        join_parts(
+            standard,
+            m,
+            cones,
+            count,
+            words,
+            s,
+            z,
+            s_out,
+            z_out,
+            &mut counts,
+        );
     } else {
-        with_many(standard, m, cones, count, words, s, z, s_out, z_out);
+        let mut counts = [0u32; 32896];
+        join_parts(
+            standard,
+            m,
+            cones,
+            count,
+            words,
+            s,
+            z,
+            s_out,
+            z_out,
+            &mut counts,
+        );
     }
 }

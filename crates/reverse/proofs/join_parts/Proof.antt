@@ -55,6 +55,9 @@ sum-fits a n k rest left total h e f = omega arith
 sum-next : (a n k rest left total : ℕ) → a + left ≡ total → left ≡ k + rest → n ≡ k → a + n + rest ≡ total
 sum-next a n k rest left total h e f = omega arith
 
+values-next : (t next k rest left total : ℕ) → t + left ≡ total → left ≡ k + rest → next ≡ t + k → next + rest ≡ total
+values-next t next k rest left total h e f = omega arith
+
 sum-done : (a left m : ℕ) → a + left ≡ m → left ≡ 0 → a ≡ m
 sum-done a left m h e = omega arith
 
@@ -193,10 +196,11 @@ rows-cut r =
     sum-fits (l .loop .row) (r .cone-rows .result) (triangle (patternOf c .vertexCount)) (rowsOf (after-cut c)) (rowsOf (left l)) (start l .args .m) (l .loop .inv .3) (ap rowsOf (met-cut c))
     (r .cone-rows .ensures)
 
-s-cut : (c : tie.After-known-told2 Inv-loop μ-loop) (n : ℕ) → n ≡ blockRows (patternOf c) → loop-of2 c .loop .t + n ≤ length (start (loop-of2 c) .args .s .now)
-s-cut c n e =
+s-cut : (c : tie.After-known-told2 Inv-loop μ-loop) → loop-of2 c .loop .t + blockRows (patternOf c) ≤ length (start (loop-of2 c) .args .s .now)
+s-cut c =
     let l = loop-of2 c in
-    sum-fits (l .loop .t) n (blockRows (patternOf c)) (blockRowCount (after-cut c)) (blockRowCount (left l)) (length (start l .args .s .now)) (l .loop .inv .4) (ap blockRowCount (met-cut c)) e
+    let k = blockRows (patternOf c) in
+    sum-fits (l .loop .t) k k (blockRowCount (after-cut c)) (blockRowCount (left l)) (length (start l .args .s .now)) (l .loop .inv .4) (ap blockRowCount (met-cut c)) refl
 
 -- ---- the needs
 
@@ -320,7 +324,7 @@ join-cut-requires c κs =
       (
         (le-same (le-trans (rows-cut r) (s .pre .1 .0)) (l .loop .inv .0 .size), le-same (le-trans (rows-cut r) (s .pre .1 .1)) (l .loop .inv .1 .size)),
         (
-          (few-cut k, s-cut k (blockRows (patternOf k)) refl, z-same s),
+          (few-cut k, s-cut k, z-same s),
           (
             (
               counts-rows (a .standard) (a .m) n (a .cones .now) (a .counts .now) (l .loop .counts) (patternOf k) (r .cone-rows .ensures) (part-le (l .loop .row) n (a .m) (rows-cut r)) (h .2)
@@ -338,12 +342,6 @@ joined-cut c = c .before .before .before .before .before .before .before .before
 
 abbrev sized : tie.After-join-cut Inv-loop μ-loop → tie.After-cone-rows Inv-loop μ-loop
 sized j = j .before .before .before .before .before .before
-
-add-t-2 : tie.Need-add-t-2 Inv-loop μ-loop
-add-t-2 c =
-    let j = joined-cut c in
-    let k = met-of (sized j) in
-    fits-count 8 (s-cut k (j .join-cut .result) (j .join-cut .ensures .0)) (start (loop-of2 k) .good .1 .1 .1 .1 .1 .0)
 
 add-row-2 : tie.Need-add-row-2 Inv-loop μ-loop
 add-row-2 c =
@@ -377,7 +375,7 @@ loop-again-2 c =
           (length-z-cut (a .standard) p (drop t (a .z .now)) ∙ sym n) (w .ensures .1 .1 .0),
       (_∙_ {b = length (l .loop .counts)} (w .kept .1 .1 .1 .1 .1 .1 .1 .1 .1 .1 .0) (l .loop .inv .2 .0), w .ensures .1 .1 .1),
       sum-next row (r .cone-rows .result) (triangle (p .vertexCount)) (rowsOf (after-cut k)) (rowsOf (left l)) (a .m) (l .loop .inv .3) (ap rowsOf e) n,
-      sum-next t (w .result) (blockRows p) (blockRowCount (after-cut k)) (blockRowCount (left l)) (length (a .s .now)) (l .loop .inv .4) (ap blockRowCount e) (w .ensures .0),
+      values-next t (w .result) (blockRows p) (blockRowCount (after-cut k)) (blockRowCount (left l)) (length (a .s .now)) (l .loop .inv .4) (ap blockRowCount e) (w .ensures .0),
       rest-few (blockRows p) (blockRowCount (after-cut k)) (blockRowCount (left l)) 262144 (ap blockRowCount e) (l .loop .inv .5),
       knows-cut k .6,
       _∙_ {b = length (l .loop .offsets)} (w .kept .1 .1 .1 .1 .1 .1 .1 .1 .1 .1 .1 .0) (l .loop .inv .7),
@@ -439,7 +437,6 @@ join-parts-spec =
     slice-aggregate-join-cut
     slice-aggregate-join-cut-2
     join-cut-requires
-    add-t-2
     add-row-2
     loop-less-2
     loop-again-2
