@@ -87,6 +87,14 @@ pub fn rows_right(m: u32, n: u32, starts: &[u32], rows: &[u32], values: &[f64]) 
     columns_rise(n, starts, rows)
 }
 
+// How many entries a matrix that passes check 2 has: its last start.
+fn nnz(n: u32, starts: &[u32], rows: &[u32], values: &[f64]) -> u32
+    requires { ⌜ T (startsRight n (matrix (now starts) (now rows) (now values))) ⌝ }
+    ensures { λ r. ⌜ r ≡ length (now (values .entry)) ⌝ }
+{
+    starts[n as usize]
+}
+
 // Copies src to the front of out.
 pub fn copy_numbers(out: &mut [u32], src: &[u32])
     requires { ⌜ length (now src) ≤ length (now out) ⌝ }
@@ -158,5 +166,5 @@ pub fn extend_starts(
     ensures { λ _. ⌜ now (out .exit) ≡ written (extendedP k (matrix (now (starts .entry)) (now (rows .entry)) (now (values .entry))) .starts) (now (out .entry)) ⌝ }
 {
     copy_numbers(&mut *out, starts);
-    fill_numbers(&mut out[starts.len()..], k, starts[n as usize]);
+    fill_numbers(&mut out[starts.len()..], k, nnz(n, starts, rows, values));
 }

@@ -1,23 +1,12 @@
-use native.Mathlib.Omega.{arith}
-use Prim.Native.Nat.{ℕ, suc, _<_}
-use mathlib.Core.Path.{_≡_, refl, _∙_}
-use lib.ListN.{length, getD, replicate, length-replicate}
+use mathlib.Core.Path.{refl}
+use lib.ListN.{length, replicate, length-replicate}
 use borrow.Author.Needs.{needs}
 use Rattle.layout.proofs.Buffers.{written-after}
-use Rattle.layout.proofs.Columns.{RightStarts, starts-right}
-use Rattle.csc.specs.Matrix.{matrix}
 use Rattle.csc.proofs.extend_starts.Statement.{statement}
 use Rattle.csc.proofs.extend_starts.Tie as tie
 
-right : (s : tie.Start) → RightStarts (s .args .n) (matrix (s .args .starts .now) (s .args .rows .now) (s .args .values .now))
-right s = starts-right (s .args .n) (matrix (s .args .starts .now) (s .args .rows .now) (s .args .values .now)) (s .pre .0)
-
 abbrev start : tie.After-copy-numbers → tie.Start
 start c = c .before .before .before .before .before .before
-
--- the place of the last start
-below-count : (n k : ℕ) → k ≡ suc n → n < k
-below-count n k e = omega arith
 
 copy-numbers-requires : tie.Need-copy-numbers-requires
 copy-numbers-requires c κs = search needs
@@ -34,13 +23,8 @@ part-fill-numbers-start c = search needs
 part-fill-numbers-end : tie.Need-part-fill-numbers-end
 part-fill-numbers-end c = search needs
 
-mul-fill-numbers-2 : tie.Need-mul-fill-numbers-2
-mul-fill-numbers-2 c = search needs
-
-shared-slice-read-fill-numbers : tie.Need-shared-slice-read-fill-numbers
-shared-slice-read-fill-numbers c =
-    let s = start (c .before .before .before .before) in
-    below-count (s .args .n) (length (s .args .starts .now)) (right s .count)
+nnz-requires : tie.Need-nnz-requires
+nnz-requires c κs = search needs
 
 fill-numbers-requires : tie.Need-fill-numbers-requires
 fill-numbers-requires c κs = search needs
@@ -51,13 +35,11 @@ same-length c = search needs
 returns : tie.Need-returns
 returns c =
     let f = c .before .before in
-    let g = f .before .before .before .before .before in
-    let s = start g in
-    let a = s .args in
-    let end = getD (a .starts .now) (a .n) 0 in
-    let e : end ≡ length (a .values .now) = right s .last ∙ right s .even in
-    rw (← e)
-    (written-after (a .starts .now) (replicate (a .k) end) (a .out .now) (length (a .starts .now)) refl (rw (length-replicate (a .k) end) (s .pre .1)) (g .copy-numbers .ensures) (f .fill-numbers .ensures))
+    let z = f .before in
+    let g = z .before .before .before .before in
+    let a = start g .args in
+    rw (← z .nnz .ensures)
+    (written-after (a .starts .now) (replicate (a .k) (z .nnz .result)) (a .out .now) (length (a .starts .now)) refl (rw (length-replicate (a .k) (z .nnz .result)) (start g .pre .1)) (g .copy-numbers .ensures) (f .fill-numbers .ensures))
 
 pub extend-starts-spec : {M : Type 1} → statement M
 extend-starts-spec =
@@ -68,8 +50,7 @@ extend-starts-spec =
     sub-fill-numbers
     part-fill-numbers-start
     part-fill-numbers-end
-    mul-fill-numbers-2
-    shared-slice-read-fill-numbers
+    nnz-requires
     fill-numbers-requires
     same-length
     returns)
