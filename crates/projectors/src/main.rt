@@ -5,7 +5,6 @@
 // The lists that a function is lent have one lifetime, and a proof then follows one loan.
 use libc::STDIN_FILENO;
 use libc::STDOUT_FILENO;
-use stored::front_words;
 use stored::item;
 use stored::same_values;
 use stored::same_words;
@@ -18,14 +17,47 @@ const N: u32 = 1;
 
 const M: u32 = 6;
 
-// All tables are lists that lie one after the other, the k-th from starts[k] to starts[k + 1] (crate stored).
+// All tables are lists that lie one after the other, those of u32 numbered from 0 and those of f64 from 16 (crate stored).
+// WORDS begins with where each list starts.
 //
 // Those of u32: P's starts, P's rows, of which there are none, A's starts 0 5, A's rows 0 1 2 4 5, the cones 6 3 0, the
 // pattern, the starts 0 6 and the rows 0 1 2 3 4 5 of an A with an entry more, and the pattern's words that are told. The
 // pattern has cone 0, 3 vertices, 2 cliques and the ordering 0 1 2; then, from its words 6 and 11 on, a clique: parent,
 // snode count, separator count, snode, separator. 4294967295 says that there is no parent. Told are the first clique's
 // snode and separator, its separator again, and the second clique's snode.
-const WORDS: [u32; 41] = [
+const WORDS: [u32; 73] = [
+    32,
+    34,
+    34,
+    36,
+    41,
+    44,
+    60,
+    62,
+    68,
+    73,
+    0,
+    0,
+    0,
+    0,
+    0,
+    0,
+    0,
+    0,
+    1,
+    6,
+    12,
+    12,
+    18,
+    20,
+    26,
+    33,
+    45,
+    51,
+    63,
+    0,
+    0,
+    0,
     0,
     0,
     0,
@@ -68,8 +100,6 @@ const WORDS: [u32; 41] = [
     14,
     15,
 ];
-
-const STARTS: [usize; 10] = [0, 2, 2, 4, 9, 12, 28, 30, 36, 41];
 
 const P_STARTS: u8 = 0;
 
@@ -158,88 +188,53 @@ const VALUES: [f64; 63] = [
     2048.0,
 ];
 
-const VALUE_STARTS: [usize; 13] = [0, 0, 1, 6, 12, 12, 18, 20, 26, 33, 45, 51, 63];
+const P_VALUES: u8 = 16;
 
-const P_VALUES: u8 = 0;
+const Q: u8 = 17;
 
-const Q: u8 = 1;
+const A_VALUES: u8 = 18;
 
-const A_VALUES: u8 = 2;
+const B: u8 = 19;
 
-const B: u8 = 3;
+const ALPHAS: u8 = 20;
 
-const ALPHAS: u8 = 4;
-
-const MORE_VALUES: u8 = 5;
+const MORE_VALUES: u8 = 21;
 
 const TAU: f64 = 2.0;
 
 const KAPPA: f64 = 3.0;
 
-// A step of the story: a route, 0 standard or 1 compact; the lists of A; those of a solution of what the cut writes, and of
-// one that shows which rows are joined: the sum of any of its values tells them all.
-struct Step {
-    route: u32,
-    a_starts: u8,
-    a_rows: u8,
-    a_values: u8,
-    x: u8,
-    both: u8,
-    powers: u8,
-}
+// The lists of a solution of what the cut writes on a route, and of one that shows which rows are joined: the sum of any of
+// its values tells them all.
+const COMPACT_X: u8 = 22;
 
-const COMPACT: Step = Step {
-    route: 1,
-    a_starts: A_STARTS,
-    a_rows: A_ROWS,
-    a_values: A_VALUES,
-    x: 6,
-    both: 7,
-    powers: 10,
-};
+const COMPACT_BOTH: u8 = 23;
 
-const STANDARD: Step = Step {
-    route: 0,
-    a_starts: A_STARTS,
-    a_rows: A_ROWS,
-    a_values: A_VALUES,
-    x: 8,
-    both: 9,
-    powers: 11,
-};
+const COMPACT_POWERS: u8 = 26;
 
-const REFUSED: Step = Step {
-    route: 1,
-    a_starts: MORE_STARTS,
-    a_rows: MORE_ROWS,
-    a_values: MORE_VALUES,
-    x: 6,
-    both: 7,
-    powers: 10,
-};
+const STANDARD_X: u8 = 24;
+
+const STANDARD_BOTH: u8 = 25;
+
+const STANDARD_POWERS: u8 = 27;
+
+const STANDARD: u32 = 0;
+
+const COMPACT: u32 = 1;
 
 // ---- words and numbers
-
-// Copies a byte of the words; not at a #, nor at their end.
-fn letter() -> bool {
-    let mut byte = [0u8; 1];
-    if io::read_full(STDIN_FILENO, &mut byte) == 0 {
-        return false;
-    }
-    if byte[0] == b'#' {
-        return false;
-    }
-    io::write_all(STDOUT_FILENO, &byte)
-}
 
 // The words up to the next #, or to their end.
 fn words() {
     let mut left: u32 = 65536;
     while 0 < left {
         left -= 1;
-        if !letter() {
+        let mut byte = [b'#'; 1];
+        io::read_full(STDIN_FILENO, &mut byte);
+        if byte[0] == b'#' {
             return;
         }
+        io::write_all(STDOUT_FILENO, &byte);
     }
 }
 
@@ -261,12 +256,12 @@ fn whole(v: f64) -> u64 {
 // The next number is a value, which the example has whole.
 fn tell_value(v: f64) {
     words();
+    let mut size = v;
     if v < 0.0 {
         io::write_all(STDOUT_FILENO, b"-");
-        io::print_decimal(STDOUT_FILENO, whole(-v));
-    } else {
-        io::print_decimal(STDOUT_FILENO, whole(v));
+        size = -v;
     }
+    io::print_decimal(STDOUT_FILENO, whole(size));
 }
 
 fn value(values: &[f64], i: usize) -> f64 {
@@ -349,48 +344,42 @@ fn tell_members<'a>(pattern: &'a [u32], told: &'a [u32]) {
     }
 }
 
-fn tell_problem<'a>(
-    words: &'a [u32],
-    starts: &'a [usize],
-    values: &'a [f64],
-    value_starts: &'a [usize],
-) {
+fn tell_problem<'a>(words: &'a [u32], values: &'a [f64]) {
     tell(N);
     tell(M);
     tell_rows([0.0; 32]);
     tell_columns(
         N,
-        words_at(words, starts, A_STARTS),
-        words_at(words, starts, A_ROWS),
-        values_at(values, value_starts, A_VALUES),
+        words_at(words, A_STARTS),
+        words_at(words, A_ROWS),
+        values_at(words, values, A_VALUES),
     );
-    tell_values(values_at(values, value_starts, B), M);
-    tell_all(words_at(words, starts, CONES), 3);
-    tell_members(
-        words_at(words, starts, PATTERN),
-        words_at(words, starts, TOLD),
-    );
+    tell_values(values_at(words, values, B), M);
+    tell_all(words_at(words, CONES), 3);
+    tell_members(words_at(words, PATTERN), words_at(words, TOLD));
 }
 
 // ---- the joining
 
-struct Joined {
-    answer: u32,
-    x: [f64; 32],
-    s: [f64; 32],
-    z: [f64; 32],
-    scalars: [f64; 32],
+// The front of an output.
+fn tell_front(out: [u32; 32], n: u32) {
+    tell_all(&out, n);
 }
 
-// A solution whose s and z are the same.
-fn join<'a>(
+fn tell_front_values(out: [f64; 32], n: u32) {
+    tell_values(&out, n);
+}
+
+// Joins a solution whose s and z are the same, and tells what it becomes, or only the rows that are joined.
+fn tell_joined<'a>(
+    rows_only: bool,
     route: u32,
     cones: &'a [u32],
     pattern: &'a [u32],
     map: &'a [u32],
     x: &'a [f64],
     both: &'a [f64],
-) -> Joined {
+) {
     let mut x_out = [0f64; 32];
     let mut s_out = [0f64; 32];
     let mut z_out = [0f64; 32];
@@ -413,63 +402,18 @@ fn join<'a>(
         &mut z_out,
         &mut scalars_out,
     );
-    Joined {
-        answer: answer,
-        x: x_out,
-        s: s_out,
-        z: z_out,
-        scalars: scalars_out,
+    if rows_only {
+        tell_rows(s_out);
+    } else {
+        tell(answer);
+        tell_front_values(x_out, N);
+        tell_front_values(s_out, M);
+        tell_front_values(z_out, M);
+        tell_front_values(scalars_out, 2);
     }
 }
 
 // ---- the steps
-
-// The front of an output.
-fn tell_front(out: [u32; 32], n: u32) {
-    tell_all(&out, n);
-}
-
-fn tell_front_values(out: [f64; 32], n: u32) {
-    tell_values(&out, n);
-}
-
-fn tell_joined(joined: Joined) {
-    tell(joined.answer);
-    let x = joined.x;
-    tell_front_values(x, N);
-    let s = joined.s;
-    tell_front_values(s, M);
-    let z = joined.z;
-    tell_front_values(z, M);
-    let scalars = joined.scalars;
-    tell_front_values(scalars, 2);
-}
-
-fn tell_solution<'a>(lengths: &'a [u32], x: &'a [f64], both: &'a [f64]) {
-    tell_values(x, item(lengths, 3));
-    tell_values(both, item(lengths, 7));
-    tell_value(TAU);
-    tell_value(KAPPA);
-}
-
-// The rows that stand for the original ones, and a solution joined.
-fn tell_back<'a>(
-    route: u32,
-    lengths: &'a [u32],
-    cones: &'a [u32],
-    pattern: &'a [u32],
-    map_out: [u32; 32],
-    x: &'a [f64],
-    both: &'a [f64],
-    powers: &'a [f64],
-) {
-    let map = front_words(&map_out, item(lengths, 10) as usize);
-    let marked = join(route, cones, pattern, map, x, powers);
-    let sums = marked.s;
-    tell_rows(sums);
-    tell_solution(lengths, x, both);
-    tell_joined(join(route, cones, pattern, map, x, both));
-}
 
 // What every place of an output holds before the cut, so that a place not written shows.
 const BEFORE: u32 = 77;
@@ -493,19 +437,14 @@ fn kept_values(kept: u32, out: [f64; 32]) -> u32 {
     }
 }
 
-// What the cut answers, and the augmented problem's sizes, A and b.
+// The augmented problem's sizes, A and b.
 fn tell_matrix(
-    answer: u32,
     lengths: &[u32],
     a_starts: [u32; 32],
     a_rows: [u32; 32],
     a_values: [f64; 32],
     b: [f64; 32],
 ) {
-    tell(answer);
-    if answer != 0 {
-        return;
-    }
     let m = item(lengths, 7);
     let n = item(lengths, 3);
     tell(m);
@@ -514,9 +453,8 @@ fn tell_matrix(
     tell_front_values(b, m);
 }
 
-// Its cones and the cone map, and a solution of it joined again.
-fn tell_cones<'a>(
-    answer: u32,
+// Its cones and the cone map, the rows that stand for the original ones, and a solution of it joined again.
+fn tell_back<'a>(
     route: u32,
     lengths: &'a [u32],
     cones: &'a [u32],
@@ -527,17 +465,29 @@ fn tell_cones<'a>(
     both: &'a [f64],
     powers: &'a [f64],
 ) {
-    if answer != 0 {
-        return;
-    }
     tell_front(cones_out, item(lengths, 8));
-    tell_front(map_out, item(lengths, 10));
-    tell_back(route, lengths, cones, pattern, map_out, x, both, powers);
+    let n = item(lengths, 10) % 33;
+    let end = n as usize;
+    let map = &map_out[..end];
+    tell_all(map, n);
+    tell_joined(true, route, cones, pattern, map, x, powers);
+    tell_values(x, item(lengths, 3));
+    tell_values(both, item(lengths, 7));
+    tell_value(TAU);
+    tell_value(KAPPA);
+    tell_joined(false, route, cones, pattern, map, x, both);
 }
 
-// Refused, each output holds what it held.
-fn tell_kept(
+// What the cut answers and wrote. Refused, each output holds what it held.
+fn tell_outputs<'a>(
     answer: u32,
+    route: u32,
+    lengths: &'a [u32],
+    cones: &'a [u32],
+    pattern: &'a [u32],
+    x: &'a [f64],
+    both: &'a [f64],
+    powers: &'a [f64],
     p_starts: [u32; 32],
     p_rows: [u32; 32],
     p_values: [f64; 32],
@@ -546,27 +496,40 @@ fn tell_kept(
     a_rows: [u32; 32],
     a_values: [f64; 32],
     b: [f64; 32],
-    cones: [u32; 32],
+    cones_out: [u32; 32],
     alphas: [f64; 32],
     map: [u32; 32],
 ) {
+    tell(answer);
     if answer == 0 {
-        return;
+        tell_matrix(lengths, a_starts, a_rows, a_values, b);
+        tell_back(
+            route,
+            lengths,
+            cones,
+            pattern,
+            cones_out,
+            map,
+            x,
+            both,
+            powers,
+        );
+    } else {
+        let mut kept = 0;
+        kept = kept_words(kept, p_starts);
+        kept = kept_words(kept, p_rows);
+        kept = kept_values(kept, p_values);
+        kept = kept_values(kept, q);
+        kept = kept_words(kept, a_starts);
+        kept = kept_words(kept, a_rows);
+        kept = kept_values(kept, a_values);
+        kept = kept_values(kept, b);
+        kept = kept_words(kept, cones_out);
+        kept = kept_values(kept, alphas);
+        kept = kept_words(kept, map);
+        tell(BEFORE);
+        tell(kept);
     }
-    let mut kept = 0;
-    kept = kept_words(kept, p_starts);
-    kept = kept_words(kept, p_rows);
-    kept = kept_values(kept, p_values);
-    kept = kept_values(kept, q);
-    kept = kept_words(kept, a_starts);
-    kept = kept_words(kept, a_rows);
-    kept = kept_values(kept, a_values);
-    kept = kept_values(kept, b);
-    kept = kept_words(kept, cones);
-    kept = kept_values(kept, alphas);
-    kept = kept_words(kept, map);
-    tell(BEFORE);
-    tell(kept);
 }
 
 // The cut, whose outputs have more room than they need.
@@ -627,28 +590,15 @@ fn tell_cut<'a>(
         &mut alphas_out,
         &mut map_out,
     );
-    tell_matrix(
-        answer,
-        lengths,
-        a_starts_out,
-        a_rows_out,
-        a_values_out,
-        b_out,
-    );
-    tell_cones(
+    tell_outputs(
         answer,
         route,
         lengths,
         cones,
         pattern,
-        cones_out,
-        map_out,
         x,
         both,
         powers,
-    );
-    tell_kept(
-        answer,
         p_starts_out,
         p_rows_out,
         p_values_out,
@@ -671,36 +621,42 @@ fn tell_sizes(answer: u32, lengths: &[u32]) {
     }
 }
 
+// A step of the story: a route, the lists of A, those of a solution of what the cut writes, and of the one that shows the
+// rows.
 fn tell_step<'a>(
-    step: Step,
+    route: u32,
+    a_starts: u8,
+    a_rows: u8,
+    a_values: u8,
+    x: u8,
+    both: u8,
+    powers: u8,
     words: &'a [u32],
-    starts: &'a [usize],
     values: &'a [f64],
-    value_starts: &'a [usize],
 ) {
-    let p_starts = words_at(words, starts, P_STARTS);
-    let p_rows = words_at(words, starts, P_ROWS);
-    let p_values = values_at(values, value_starts, P_VALUES);
-    let q = values_at(values, value_starts, Q);
-    let a_starts = words_at(words, starts, step.a_starts);
-    let a_rows = words_at(words, starts, step.a_rows);
-    let a_values = values_at(values, value_starts, step.a_values);
-    let b = values_at(values, value_starts, B);
-    let cones = words_at(words, starts, CONES);
-    let alphas = values_at(values, value_starts, ALPHAS);
-    let pattern = words_at(words, starts, PATTERN);
+    let p_starts = words_at(words, P_STARTS);
+    let p_rows = words_at(words, P_ROWS);
+    let p_values = values_at(words, values, P_VALUES);
+    let q = values_at(words, values, Q);
+    let a_starts_list = words_at(words, a_starts);
+    let a_rows_list = words_at(words, a_rows);
+    let a_values_list = values_at(words, values, a_values);
+    let b = values_at(words, values, B);
+    let cones = words_at(words, CONES);
+    let alphas = values_at(words, values, ALPHAS);
+    let pattern = words_at(words, PATTERN);
     let mut lengths = [0u32; 11];
     let answer = decomp::sizes(
-        step.route,
+        route,
         N,
         M,
         p_starts,
         p_rows,
         p_values,
         q,
-        a_starts,
-        a_rows,
-        a_values,
+        a_starts_list,
+        a_rows_list,
+        a_values_list,
         b,
         cones,
         alphas,
@@ -710,39 +666,69 @@ fn tell_step<'a>(
     );
     tell_sizes(answer, &lengths);
     tell_cut(
-        step.route,
+        route,
         p_starts,
         p_rows,
         p_values,
         q,
-        a_starts,
-        a_rows,
-        a_values,
+        a_starts_list,
+        a_rows_list,
+        a_values_list,
         b,
         cones,
         alphas,
         pattern,
         &lengths,
-        values_at(values, value_starts, step.x),
-        values_at(values, value_starts, step.both),
-        values_at(values, value_starts, step.powers),
+        values_at(words, values, x),
+        values_at(words, values, both),
+        values_at(words, values, powers),
     );
 }
 
-fn story<'a>(words: &'a [u32], starts: &'a [usize], values: &'a [f64], value_starts: &'a [usize]) {
-    tell_problem(words, starts, values, value_starts);
-    tell_step(COMPACT, words, starts, values, value_starts);
-    tell_step(STANDARD, words, starts, values, value_starts);
+fn story<'a>(words: &'a [u32], values: &'a [f64]) {
+    tell_problem(words, values);
+    tell_step(
+        COMPACT,
+        A_STARTS,
+        A_ROWS,
+        A_VALUES,
+        COMPACT_X,
+        COMPACT_BOTH,
+        COMPACT_POWERS,
+        words,
+        values,
+    );
+    tell_step(
+        STANDARD,
+        A_STARTS,
+        A_ROWS,
+        A_VALUES,
+        STANDARD_X,
+        STANDARD_BOTH,
+        STANDARD_POWERS,
+        words,
+        values,
+    );
     tell_columns(
         N,
-        words_at(words, starts, MORE_STARTS),
-        words_at(words, starts, MORE_ROWS),
-        values_at(values, value_starts, MORE_VALUES),
+        words_at(words, MORE_STARTS),
+        words_at(words, MORE_ROWS),
+        values_at(words, values, MORE_VALUES),
     );
-    tell_step(REFUSED, words, starts, values, value_starts);
+    tell_step(
+        COMPACT,
+        MORE_STARTS,
+        MORE_ROWS,
+        MORE_VALUES,
+        COMPACT_X,
+        COMPACT_BOTH,
+        COMPACT_POWERS,
+        words,
+        values,
+    );
 }
 
 fn main() {
-    story(&WORDS, &STARTS, &VALUES, &VALUE_STARTS);
+    story(&WORDS, &VALUES);
     words();
 }

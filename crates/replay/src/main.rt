@@ -2,26 +2,22 @@
 // each. The answers were worked out by make_answers.py and by the comparison's plain reading of document 01
 // (compare/run --store crates/replay/data --cases 120 --seed 11); crate stored says how they are written.
 //
-// A further family is a number with its call, a line of numbers_and_patterns or whole_problems and one of stdout, and a
+// A further family is a number with its call, a line of numbers_and_patterns or main and one of stdout, and a
 // function that makes its answers.
 use libc::STDOUT_FILENO;
-use stored::front_values;
-use stored::front_values_mut;
-use stored::front_words;
-use stored::front_words_mut;
 use stored::item;
 use stored::load_values;
 use stored::load_words;
-use stored::prefill_values;
-use stored::prefill_words;
 use stored::same_values;
 use stored::same_words;
 use stored::values_at;
+use stored::values_room;
 use stored::word;
 use stored::words_at;
+use stored::words_room;
 
 // A case's lists of u32 are the call's numbers, its answer, its inputs and its outputs; its lists of f64 are
-// its inputs and its outputs. An output's list is what the whole of its room holds after the call, so it
+// its inputs and its outputs, numbered from 16. An output's list is what the whole of its room holds after the call, so it
 // also says how much room the call is given.
 //
 // The lists that a function is lent have one lifetime, and a proof then follows one loan.
@@ -31,31 +27,9 @@ use stored::words_at;
 // No call answers this number: an output does not hold what is stored.
 const DIFFERS: u32 = 4294967295;
 
-// The room for the k-th list, with what an output holds before a call.
-fn words_room<'a, 'b>(
-    out: &'a mut [u32],
-    words: &'b [u32],
-    starts: &'b [usize],
-    k: u8,
-) -> &'a mut [u32] {
-    prefill_words(&mut *out);
-    front_words_mut(out, words_at(words, starts, k).len())
-}
-
-fn values_room<'a, 'b>(
-    out: &'a mut [f64],
-    values: &'b [f64],
-    starts: &'b [usize],
-    k: u8,
-) -> &'a mut [f64] {
-    prefill_values(&mut *out);
-    front_values_mut(out, values_at(values, starts, k).len())
-}
-
-// A call's answer, where its output holds the k-th list.
-fn holds<'a>(answer: u32, words: &'a [u32], starts: &'a [usize], k: u8, out: [u32; 4096]) -> u32 {
-    let want = words_at(words, starts, k);
-    if same_words(front_words(&out, want.len()), want) {
+// A call's answer, where its output holds list k.
+fn holds(answer: u32, words: &[u32], k: u8, out: [u32; 4096]) -> u32 {
+    if same_words(&out, words_at(words, k)) {
         answer
     } else {
         DIFFERS
@@ -64,13 +38,12 @@ fn holds<'a>(answer: u32, words: &'a [u32], starts: &'a [usize], k: u8, out: [u3
 
 fn values_hold<'a>(
     answer: u32,
+    words: &'a [u32],
     values: &'a [f64],
-    starts: &'a [usize],
     k: u8,
     out: [f64; 4096],
 ) -> u32 {
-    let want = values_at(values, starts, k);
-    if same_values(front_values(&out, want.len()), want) {
+    if same_values(&out, values_at(words, values, k)) {
         answer
     } else {
         DIFFERS
@@ -96,16 +69,11 @@ fn call_on_pattern<'a>(family: u8, given: &'a [u32], list: &'a [u32], room: &mut
     }
 }
 
-fn on_pattern<'a>(family: u8, words: &'a [u32], starts: &'a [usize]) -> u32 {
+fn on_pattern(family: u8, words: &[u32]) -> u32 {
     let mut out = [0u32; 4096];
-    let room = words_room(&mut out, words, starts, 2);
-    let r = call_on_pattern(
-        family,
-        words_at(words, starts, 0),
-        words_at(words, starts, 1),
-        room,
-    );
-    holds(r, words, starts, 2, out)
+    let room = words_room(&mut out, words, 2);
+    let r = call_on_pattern(family, words_at(words, 0), words_at(words, 1), room);
+    holds(r, words, 2, out)
 }
 
 // ---- the calls on a whole problem
@@ -133,9 +101,7 @@ fn same_layout<'a>(
     alphas: &'a [f64],
     pattern: &'a [u32],
     words: &'a [u32],
-    starts: &'a [usize],
     values: &'a [f64],
-    value_starts: &'a [usize],
 ) -> u32 {
     let mut out = [0u32; 4096];
     let r = same_layout::same_layout(
@@ -155,21 +121,21 @@ fn same_layout<'a>(
         pattern,
         item(given, 3),
         item(given, 4),
-        words_at(words, starts, 8),
-        words_at(words, starts, 9),
-        values_at(values, value_starts, 5),
-        values_at(values, value_starts, 6),
-        words_at(words, starts, 10),
-        words_at(words, starts, 11),
-        values_at(values, value_starts, 7),
-        values_at(values, value_starts, 8),
-        words_at(words, starts, 12),
-        values_at(values, value_starts, 9),
+        words_at(words, 8),
+        words_at(words, 9),
+        values_at(words, values, 21),
+        values_at(words, values, 22),
+        words_at(words, 10),
+        words_at(words, 11),
+        values_at(words, values, 23),
+        values_at(words, values, 24),
+        words_at(words, 12),
+        values_at(words, values, 25),
         item(given, 5),
-        words_at(words, starts, 13),
-        words_room(&mut out, words, starts, 14),
+        words_at(words, 13),
+        words_room(&mut out, words, 14),
     );
-    holds(r, words, starts, 14, out)
+    holds(r, words, 14, out)
 }
 
 fn sizes<'a>(
@@ -186,7 +152,6 @@ fn sizes<'a>(
     alphas: &'a [f64],
     pattern: &'a [u32],
     words: &'a [u32],
-    starts: &'a [usize],
 ) -> u32 {
     let mut out = [0u32; 4096];
     let r = decomp::sizes(
@@ -205,18 +170,16 @@ fn sizes<'a>(
         alphas,
         item(given, 3),
         pattern,
-        words_room(&mut out, words, starts, 8),
+        words_room(&mut out, words, 8),
     );
-    holds(r, words, starts, 8, out)
+    holds(r, words, 8, out)
 }
 
 // The cut's answer, where the outputs hold what is stored.
 fn cut_answer<'a>(
     answer: u32,
     words: &'a [u32],
-    starts: &'a [usize],
     values: &'a [f64],
-    value_starts: &'a [usize],
     p_starts: [u32; 4096],
     p_rows: [u32; 4096],
     p_values: [f64; 4096],
@@ -230,17 +193,17 @@ fn cut_answer<'a>(
     map: [u32; 4096],
 ) -> u32 {
     let mut r = answer;
-    r = holds(r, words, starts, 8, p_starts);
-    r = holds(r, words, starts, 9, p_rows);
-    r = values_hold(r, values, value_starts, 5, p_values);
-    r = values_hold(r, values, value_starts, 6, q);
-    r = holds(r, words, starts, 10, a_starts);
-    r = holds(r, words, starts, 11, a_rows);
-    r = values_hold(r, values, value_starts, 7, a_values);
-    r = values_hold(r, values, value_starts, 8, b);
-    r = holds(r, words, starts, 12, cones);
-    r = values_hold(r, values, value_starts, 9, alphas);
-    r = holds(r, words, starts, 13, map);
+    r = holds(r, words, 8, p_starts);
+    r = holds(r, words, 9, p_rows);
+    r = values_hold(r, words, values, 21, p_values);
+    r = values_hold(r, words, values, 22, q);
+    r = holds(r, words, 10, a_starts);
+    r = holds(r, words, 11, a_rows);
+    r = values_hold(r, words, values, 23, a_values);
+    r = values_hold(r, words, values, 24, b);
+    r = holds(r, words, 12, cones);
+    r = values_hold(r, words, values, 25, alphas);
+    r = holds(r, words, 13, map);
     r
 }
 
@@ -258,9 +221,7 @@ fn cut<'a>(
     alphas: &'a [f64],
     pattern: &'a [u32],
     words: &'a [u32],
-    starts: &'a [usize],
     values: &'a [f64],
-    value_starts: &'a [usize],
 ) -> u32 {
     let mut p_starts_out = [0u32; 4096];
     let mut p_rows_out = [0u32; 4096];
@@ -289,24 +250,22 @@ fn cut<'a>(
         alphas,
         item(given, 3),
         pattern,
-        words_room(&mut p_starts_out, words, starts, 8),
-        words_room(&mut p_rows_out, words, starts, 9),
-        values_room(&mut p_values_out, values, value_starts, 5),
-        values_room(&mut q_out, values, value_starts, 6),
-        words_room(&mut a_starts_out, words, starts, 10),
-        words_room(&mut a_rows_out, words, starts, 11),
-        values_room(&mut a_values_out, values, value_starts, 7),
-        values_room(&mut b_out, values, value_starts, 8),
-        words_room(&mut cones_out, words, starts, 12),
-        values_room(&mut alphas_out, values, value_starts, 9),
-        words_room(&mut map_out, words, starts, 13),
+        words_room(&mut p_starts_out, words, 8),
+        words_room(&mut p_rows_out, words, 9),
+        values_room(&mut p_values_out, words, values, 21),
+        values_room(&mut q_out, words, values, 22),
+        words_room(&mut a_starts_out, words, 10),
+        words_room(&mut a_rows_out, words, 11),
+        values_room(&mut a_values_out, words, values, 23),
+        values_room(&mut b_out, words, values, 24),
+        words_room(&mut cones_out, words, 12),
+        values_room(&mut alphas_out, words, values, 25),
+        words_room(&mut map_out, words, 13),
     );
     cut_answer(
         r,
         words,
-        starts,
         values,
-        value_starts,
         p_starts_out,
         p_rows_out,
         p_values_out,
@@ -336,9 +295,7 @@ fn call_on_problem<'a>(
     alphas: &'a [f64],
     pattern: &'a [u32],
     words: &'a [u32],
-    starts: &'a [usize],
     values: &'a [f64],
-    value_starts: &'a [usize],
 ) -> u32 {
     match family {
         CHECK_PROBLEM => checks::check_problem(
@@ -371,9 +328,7 @@ fn call_on_problem<'a>(
             alphas,
             pattern,
             words,
-            starts,
             values,
-            value_starts,
         ),
         SIZES => sizes(
             given,
@@ -389,7 +344,6 @@ fn call_on_problem<'a>(
             alphas,
             pattern,
             words,
-            starts,
         ),
         _ => cut(
             given,
@@ -405,39 +359,29 @@ fn call_on_problem<'a>(
             alphas,
             pattern,
             words,
-            starts,
             values,
-            value_starts,
         ),
     }
 }
 
 // The problem's lists, which all these calls have at the same places.
-fn on_problem<'a>(
-    family: u8,
-    words: &'a [u32],
-    starts: &'a [usize],
-    values: &'a [f64],
-    value_starts: &'a [usize],
-) -> u32 {
+fn on_problem<'a>(family: u8, words: &'a [u32], values: &'a [f64]) -> u32 {
     call_on_problem(
         family,
-        words_at(words, starts, 0),
-        words_at(words, starts, 2),
-        words_at(words, starts, 3),
-        values_at(values, value_starts, 0),
-        values_at(values, value_starts, 1),
-        words_at(words, starts, 4),
-        words_at(words, starts, 5),
-        values_at(values, value_starts, 2),
-        values_at(values, value_starts, 3),
-        words_at(words, starts, 6),
-        values_at(values, value_starts, 4),
-        words_at(words, starts, 7),
+        words_at(words, 0),
+        words_at(words, 2),
+        words_at(words, 3),
+        values_at(words, values, 16),
+        values_at(words, values, 17),
+        words_at(words, 4),
+        words_at(words, 5),
+        values_at(words, values, 18),
+        values_at(words, values, 19),
+        words_at(words, 6),
+        values_at(words, values, 20),
+        words_at(words, 7),
         words,
-        starts,
         values,
-        value_starts,
     )
 }
 
@@ -450,97 +394,69 @@ fn value(list: &[f64], i: usize) -> f64 {
     if i < list.len() { list[i] } else { 0.0 }
 }
 
-fn join<'a>(
-    words: &'a [u32],
-    starts: &'a [usize],
-    values: &'a [f64],
-    value_starts: &'a [usize],
-) -> u32 {
+fn join<'a>(words: &'a [u32], values: &'a [f64]) -> u32 {
     let mut x = [0f64; 4096];
     let mut s = [0f64; 4096];
     let mut z = [0f64; 4096];
     let mut both = [0f64; 4096];
-    let given = words_at(words, starts, 0);
-    let scalars = values_at(values, value_starts, 3);
+    let given = words_at(words, 0);
+    let scalars = values_at(words, values, 19);
     let mut r = decomp_reverse::join(
         item(given, 0),
         item(given, 1),
         item(given, 2),
-        words_at(words, starts, 2),
+        words_at(words, 2),
         item(given, 3),
-        words_at(words, starts, 3),
-        values_at(values, value_starts, 0),
-        values_at(values, value_starts, 1),
-        values_at(values, value_starts, 2),
+        words_at(words, 3),
+        values_at(words, values, 16),
+        values_at(words, values, 17),
+        values_at(words, values, 18),
         value(scalars, 0),
         value(scalars, 1),
-        words_at(words, starts, 4),
-        values_room(&mut x, values, value_starts, 4),
-        values_room(&mut s, values, value_starts, 5),
-        values_room(&mut z, values, value_starts, 6),
-        values_room(&mut both, values, value_starts, 7),
+        words_at(words, 4),
+        values_room(&mut x, words, values, 20),
+        values_room(&mut s, words, values, 21),
+        values_room(&mut z, words, values, 22),
+        values_room(&mut both, words, values, 23),
     );
-    r = values_hold(r, values, value_starts, 4, x);
-    r = values_hold(r, values, value_starts, 5, s);
-    r = values_hold(r, values, value_starts, 6, z);
-    values_hold(r, values, value_starts, 7, both)
+    r = values_hold(r, words, values, 20, x);
+    r = values_hold(r, words, values, 21, s);
+    r = values_hold(r, words, values, 22, z);
+    values_hold(r, words, values, 23, both)
 }
 
 // ---- a case
 
-// What a case's call answers, where it leaves in its outputs what is stored.
-fn call<'a>(
-    family: u8,
-    words: &'a [u32],
-    starts: &'a [usize],
-    values: &'a [f64],
-    value_starts: &'a [usize],
-) -> u32 {
-    if family <= RENUMBER {
-        on_pattern(family, words, starts)
+// Whether a case's call answers what is stored, the first number of a list, and leaves in its outputs what is stored.
+fn agrees<'a>(family: u8, answer: u8, words: &'a [u32], values: &'a [f64]) -> bool {
+    let r = if family <= RENUMBER {
+        on_pattern(family, words)
     } else if family <= CUT {
-        on_problem(family, words, starts, values, value_starts)
+        on_problem(family, words, values)
     } else {
-        join(words, starts, values, value_starts)
-    }
+        join(words, values)
+    };
+    r == item(words_at(words, answer), 0)
 }
 
-// Whether it answers what is stored, which is the first number of a list.
-fn agrees<'a>(
-    family: u8,
-    answer: u8,
-    words: &'a [u32],
-    starts: &'a [usize],
-    values: &'a [f64],
-    value_starts: &'a [usize],
-) -> bool {
-    call(family, words, starts, values, value_starts) == item(words_at(words, starts, answer), 0)
-}
-
-// The next case of a file. It has up to 63 lists of each kind, of 16,384 numbers in all.
+// The next case of a file. It has 16,384 numbers of each kind at most.
 fn next_agrees(fd: i32, family: u8, answer: u8) -> bool {
     let mut words = [0u32; 16384];
-    let mut starts = [0usize; 64];
     let mut values = [0f64; 16384];
-    let mut value_starts = [0usize; 64];
-    load_words(fd, &mut words, &mut starts);
-    load_values(fd, &mut values, &mut value_starts);
-    agrees(family, answer, &words, &starts, &values, &value_starts)
-}
-
-fn tell(n: u32, what: &[u8]) {
-    io::write_all(STDOUT_FILENO, b": ");
-    io::print_decimal(STDOUT_FILENO, n as u64);
-    io::write_all(STDOUT_FILENO, what);
+    load_words(fd, &mut words);
+    load_values(fd, &mut words, &mut values);
+    agrees(family, answer, &words, &values)
 }
 
 // A family's line: how many cases it has, or how many are equal before one that is not.
 fn report(name: &[u8], cases: u32, equal: u32) {
     io::write_all(STDOUT_FILENO, name);
+    io::write_all(STDOUT_FILENO, b": ");
+    io::print_decimal(STDOUT_FILENO, equal as u64);
     if equal == cases {
-        tell(cases, b" cases, all equal\n");
+        io::write_all(STDOUT_FILENO, b" cases, all equal\n");
     } else {
-        tell(equal, b" cases equal and the next one not\n");
+        io::write_all(STDOUT_FILENO, b" cases equal and the next one not\n");
     }
 }
 
@@ -567,15 +483,11 @@ fn numbers_and_patterns() {
     replay(b"renumber", RENUMBER, 0);
 }
 
-fn whole_problems() {
+fn main() {
+    numbers_and_patterns();
     replay(b"check_problem", CHECK_PROBLEM, 1);
     replay(b"same_layout", SAME_LAYOUT, 1);
     replay(b"sizes", SIZES, 1);
     replay(b"cut", CUT, 1);
     replay(b"join", JOIN, 1);
-}
-
-fn main() {
-    numbers_and_patterns();
-    whole_problems();
 }

@@ -1,3 +1,2 @@
-pub mod Lists
+pub mod Fronts
 pub mod Floats
-pub mod Parts

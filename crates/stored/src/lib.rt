@@ -2,35 +2,26 @@
 // with one byte after it, a space or a line's end. So a number is one read, and the descriptor is the cursor.
 //
 // It begins with how many cases it has. A case is how many lists of u32 it has, then each list: its length
-// and its numbers; then the same of its lists of f64. Its lists lie one after the other in a buffer, the
-// k-th from starts[k] to starts[k + 1]. No contract can say what a file holds, so the functions that read
-// promise only that they are safe, that they end, and that buffers keep their lengths.
+// and its numbers; then the same of its lists of f64. A case is held in a buffer of u32 and one of f64, in
+// which its lists lie one after the other. Those of u32 are numbered from 0 and those of f64 from 16, and word
+// k of the first buffer says where list k starts: it ends where the next one starts. No contract can say what
+// a file holds, so the functions that read promise only that they are safe and that they end.
 ghost use mathlib.Core.Path.{_≡_};
 ghost use Prim.Native.Nat.{_<_, _≤_};
 ghost use lib.ListN.{length, take, getD};
 ghost use lib.Dec.{eqb};
 ghost use lib.Ieee.{binary64, ofBits};
-ghost use Rattle.stored.specs.Lists.{listAt, wordsBefore, valuesBefore};
+ghost use Rattle.stored.specs.Lists.{listFrom, listEnd, listAt, wordsBefore, valuesBefore, CaseRoom};
 ghost use Rattle.layout.specs.Lists.{sameBy};
 ghost use Rattle.stored.specs.Same.{alikeValues};
-
-// The value of a hexadecimal digit; 0 for any other byte.
-fn digit(b: u8) -> u64
-    ensures { λ r. ⌜ r < 16 ⌝ }
-{
-    match b {
-        48..=57 => (b - 48) as u64,
-        97..=102 => (b - 87) as u64,
-        _ => 0,
-    }
-}
 
 // The number that all bytes but the last spell, up to 16 digits.
 fn number(text: &[u8]) -> u64 {
     let mut n = 0;
     let mut k = 1;
     while k < text.len() {
-        n = n % 0x1000_0000_0000_0000 * 16 + digit(text[k - 1]);
+        let b = text[k - 1];
+        n = n % 0x1000_0000_0000_0000 * 16 + ((b % 16 + b / 64 * 9) % 16) as u64;
         k += 1;
     }
     n
@@ -64,96 +55,46 @@ fn value(fd: i32) -> f64 {
 }
 
 fn least(a: usize, b: usize) -> usize
-    ensures { λ r. ⌜ (r ≤ a) × (r ≤ b) × (a ≤ b → r ≡ a) × (b ≤ a → r ≡ b) ⌝ }
+    ensures { λ r. ⌜ (r ≤ b) × (b ≤ a → r ≡ b) × (a ≤ b → r ≡ a) ⌝ }
 {
     if a < b { a } else { b }
 }
 
-// Reads a list to the front of out, cut where out is too short, and answers its length.
-fn read_words(fd: i32, out: &mut [u32]) -> usize
-    ensures { λ r. ⌜ r ≤ length (now (out .entry)) ⌝ }
+// Reads a case's lists of u32, up to 15 of them, cut where the buffer ends.
+pub fn load_words(fd: i32, words: &mut [u32])
+    requires { ⌜ CaseRoom (length (now words)) ⌝ }
 {
-    let n = least(word(fd) as usize, out.len());
+    let lists = (word(fd) % 16) as usize;
+    let mut at = 32;
+    words[0] = 32;
     let mut k = 0;
-    while k < n {
-        out[k] = word(fd);
-        k += 1;
-    }
-    n
-}
-
-fn read_values(fd: i32, out: &mut [f64]) -> usize
-    ensures { λ r. ⌜ r ≤ length (now (out .entry)) ⌝ }
-{
-    let n = least(word(fd) as usize, out.len());
-    let mut k = 0;
-    while k < n {
-        out[k] = value(fd);
-        k += 1;
-    }
-    n
-}
-
-// Reads a case's lists of u32. Lists that the case lacks are empty.
-pub fn load_words(fd: i32, words: &mut [u32], starts: &mut [usize])
-    ensures { λ _. ⌜ (length (now (words .exit)) ≡ length (now (words .entry))) × (length (now (starts .exit)) ≡ length (now (starts .entry))) ⌝ }
-{
-    let lists = word(fd) as usize;
-    let mut at = 0;
-    let mut k = 0;
-    while k < starts.len() {
-        starts[k] = at;
-        if k < lists {
-            at += read_words(fd, &mut words[at..]);
+    while k < lists {
+        let end = least(at + word(fd) as usize, words.len());
+        while at < end {
+            words[at] = word(fd);
+            at += 1;
         }
         k += 1;
+        words[k] = at as u32;
     }
 }
 
-pub fn load_values(fd: i32, values: &mut [f64], starts: &mut [usize])
-    ensures { λ _. ⌜ (length (now (values .exit)) ≡ length (now (values .entry))) × (length (now (starts .exit)) ≡ length (now (starts .entry))) ⌝ }
+pub fn load_values(fd: i32, words: &mut [u32], values: &mut [f64])
+    requires { ⌜ CaseRoom (length (now words)) × CaseRoom (length (now values)) ⌝ }
 {
-    let lists = word(fd) as usize;
+    let lists = (word(fd) % 16) as usize;
     let mut at = 0;
-    let mut k = 0;
-    while k < starts.len() {
-        starts[k] = at;
-        if k < lists {
-            at += read_values(fd, &mut values[at..]);
+    words[16] = 0;
+    let mut k = 16;
+    while k < 16 + lists {
+        let end = least(at + word(fd) as usize, values.len());
+        while at < end {
+            values[at] = value(fd);
+            at += 1;
         }
         k += 1;
+        words[k] = at as u32;
     }
-}
-
-// Where the k-th list starts; 0 where the starts do not say.
-fn start(starts: &[usize], k: usize) -> usize
-    ensures { λ r. ⌜ r ≡ getD (now (starts .entry)) k 0 ⌝ }
-{
-    if k < starts.len() { starts[k] } else { 0 }
-}
-
-// An end that lies within n; 0 for any other.
-fn within(end: usize, n: usize) -> usize
-    ensures { λ r. ⌜ (r ≤ n) × (end ≤ n → r ≡ end) × (n < end → r ≡ 0) ⌝ }
-{
-    if end <= n { end } else { 0 }
-}
-
-// The k-th list; empty where there is none.
-pub fn words_at<'a>(words: &'a [u32], starts: &[usize], k: u8) -> &'a [u32]
-    ensures { λ r. ⌜ now r ≡ listAt (now (words .entry)) (now (starts .entry)) k ⌝ }
-{
-    let end = within(start(starts, k as usize + 1), words.len());
-    let from = least(start(starts, k as usize), end);
-    &words[from..end]
-}
-
-pub fn values_at<'a>(values: &'a [f64], starts: &[usize], k: u8) -> &'a [f64]
-    ensures { λ r. ⌜ now r ≡ listAt (now (values .entry)) (now (starts .entry)) k ⌝ }
-{
-    let end = within(start(starts, k as usize + 1), values.len());
-    let from = least(start(starts, k as usize), end);
-    &values[from..end]
 }
 
 // The i-th number of a list; 0 where there is none.
@@ -163,62 +104,82 @@ pub fn item(list: &[u32], i: usize) -> u32
     if i < list.len() { list[i] } else { 0 }
 }
 
-// The first n, or all where there are fewer.
-pub fn front_words(list: &[u32], n: usize) -> &[u32]
-    ensures { λ r. ⌜ now r ≡ take n (now (list .entry)) ⌝ }
-{
-    if n <= list.len() { &list[..n] } else { list }
+struct Span {
+    from: usize,
+    end: usize,
 }
 
-pub fn front_values(list: &[f64], n: usize) -> &[f64]
-    ensures { λ r. ⌜ now r ≡ take n (now (list .entry)) ⌝ }
+// Where list k lies in a buffer of n numbers; from 0 to 0 where the words do not say.
+fn bounds(words: &[u32], k: u8, n: usize) -> Span
+    ensures { λ r. ⌜ (r .from ≤ r .end) × (r .end ≤ n) × (r .from ≡ listFrom (now (words .entry)) k n) × (r .end ≡ listEnd (now (words .entry)) k n) ⌝ }
 {
-    if n <= list.len() { &list[..n] } else { list }
-}
-
-// The same of an output, to lend to a call.
-pub fn front_words_mut(out: &mut [u32], n: usize) -> &mut [u32]
-    ensures { λ r. ⌜ now r ≡ take n (now (out .entry)) ⌝ }
-{
-    if n <= out.len() { &mut out[..n] } else { out }
-}
-
-pub fn front_values_mut(out: &mut [f64], n: usize) -> &mut [f64]
-    ensures { λ r. ⌜ now r ≡ take n (now (out .entry)) ⌝ }
-{
-    if n <= out.len() { &mut out[..n] } else { out }
-}
-
-// What an output holds before a call, so that a place not written shows.
-pub fn prefill_words(out: &mut [u32])
-    ensures { λ _. ⌜ now (out .exit) ≡ wordsBefore (length (now (out .entry))) ⌝ }
-{
-    let mut k = 0;
-    while k < out.len() {
-        out[k] = 0xf000_0000 + (k % 65536) as u32;
-        k += 1;
+    let from = item(words, k as usize) as usize;
+    let end = item(words, k as usize + 1) as usize;
+    if from <= end {
+        if end <= n {
+            return Span {
+                from: from,
+                end: end,
+            };
+        }
     }
+    Span { from: 0, end: 0 }
 }
 
-pub fn prefill_values(out: &mut [f64])
-    ensures { λ _. ⌜ now (out .exit) ≡ valuesBefore (length (now (out .entry))) ⌝ }
+// List k; empty where there is none.
+pub fn words_at(words: &[u32], k: u8) -> &[u32]
+    ensures { λ r. ⌜ now r ≡ listAt (now (words .entry)) (now (words .entry)) k ⌝ }
 {
-    let mut k = 0;
-    while k < out.len() {
-        out[k] = -0.5 - (k % 65536) as u32 as f64;
-        k += 1;
+    let b = bounds(words, k, words.len());
+    let from = b.from;
+    let end = b.end;
+    &words[from..end]
+}
+
+pub fn values_at<'a>(words: &[u32], values: &'a [f64], k: u8) -> &'a [f64]
+    ensures { λ r. ⌜ now r ≡ listAt (now (values .entry)) (now (words .entry)) k ⌝ }
+{
+    let b = bounds(words, k, values.len());
+    let from = b.from;
+    let end = b.end;
+    &values[from..end]
+}
+
+// The room for list k, with what an output holds before a call, so that a place not written shows.
+pub fn words_room<'a>(out: &'a mut [u32], words: &[u32], k: u8) -> &'a mut [u32]
+    ensures { λ r. ⌜ now r ≡ take (length (listAt (now (words .entry)) (now (words .entry)) k)) (wordsBefore (length (now (out .entry)))) ⌝ }
+{
+    let mut i = 0;
+    while i < out.len() {
+        out[i] = 0xf000_0000 + (i % 65536) as u32;
+        i += 1;
     }
+    let n = least(words_at(words, k).len(), out.len());
+    &mut out[..n]
 }
 
-pub fn same_words(a: &[u32], b: &[u32]) -> bool
-    ensures { λ r. ⌜ r ≡ sameBy eqb (now (a .entry)) (now (b .entry)) ⌝ }
+pub fn values_room<'a>(out: &'a mut [f64], words: &[u32], values: &[f64], k: u8) -> &'a mut [f64]
+    ensures { λ r. ⌜ now r ≡ take (length (listAt (now (values .entry)) (now (words .entry)) k)) (valuesBefore (length (now (out .entry)))) ⌝ }
 {
-    if a.len() != b.len() {
+    let mut i = 0;
+    while i < out.len() {
+        out[i] = -0.5 - (i % 65536) as u32 as f64;
+        i += 1;
+    }
+    let n = least(values_at(words, values, k).len(), out.len());
+    &mut out[..n]
+}
+
+// Whether an output begins with a list.
+pub fn same_words(out: &[u32], list: &[u32]) -> bool
+    ensures { λ r. ⌜ r ≡ sameBy eqb (take (length (now (list .entry))) (now (out .entry))) (now (list .entry)) ⌝ }
+{
+    if out.len() < list.len() {
         return false;
     }
     let mut k = 0;
-    while k < a.len() {
-        if a[k] != b[k] {
+    while k < list.len() {
+        if out[k] != list[k] {
             return false;
         }
         k += 1;
@@ -239,15 +200,15 @@ fn alike_values(x: f64, y: f64) -> bool
     f64::to_bits(x) == f64::to_bits(y)
 }
 
-pub fn same_values(a: &[f64], b: &[f64]) -> bool
-    ensures { λ r. ⌜ r ≡ sameBy alikeValues (now (a .entry)) (now (b .entry)) ⌝ }
+pub fn same_values(out: &[f64], list: &[f64]) -> bool
+    ensures { λ r. ⌜ r ≡ sameBy alikeValues (take (length (now (list .entry))) (now (out .entry))) (now (list .entry)) ⌝ }
 {
-    if a.len() != b.len() {
+    if out.len() < list.len() {
         return false;
     }
     let mut k = 0;
-    while k < a.len() {
-        if !alike_values(a[k], b[k]) {
+    while k < list.len() {
+        if !alike_values(out[k], list[k]) {
             return false;
         }
         k += 1;

@@ -1,4 +1,5 @@
 use Prim.Native.Nat.{_-_, _≤_}
+use native.Mathlib.Omega.{arith}
 use lib.ListN.{length}
 use borrow.Author.Needs.{needs}
 use Rattle.stored.proofs.number.Statement.{statement}
@@ -13,20 +14,26 @@ abbrev μ-loop : tie.MeasureT-loop
 loop-holds : tie.Need-loop-holds Inv-loop μ-loop
 loop-holds c = search needs
 
+sub-b : tie.Need-sub-b Inv-loop μ-loop
+sub-b c = search needs
+
+shared-slice-read-b : tie.Need-shared-slice-read-b Inv-loop μ-loop
+shared-slice-read-b c = search needs
+
 mul-n : tie.Need-mul-n Inv-loop μ-loop
 mul-n c = search needs
 
-sub-digit : tie.Need-sub-digit Inv-loop μ-loop
-sub-digit c = search needs
-
-shared-slice-read-digit : tie.Need-shared-slice-read-digit Inv-loop μ-loop
-shared-slice-read-digit c = search needs
-
-digit-requires : tie.Need-digit-requires Inv-loop μ-loop
-digit-requires c κs = search needs
+mul-n-2 : tie.Need-mul-n-2 Inv-loop μ-loop
+mul-n-2 c = omega (arith, c .shared-slice-known .given (c .before .before .loop .k - 1))
 
 add-n : tie.Need-add-n Inv-loop μ-loop
-add-n c = search needs
+add-n c = omega (arith, c .shared-slice-known .given (c .before .before .loop .k - 1))
+
+cast-n : tie.Need-cast-n Inv-loop μ-loop
+cast-n c = search needs
+
+add-n-2 : tie.Need-add-n-2 Inv-loop μ-loop
+add-n-2 c = search needs
 
 add-k : tie.Need-add-k Inv-loop μ-loop
 add-k c = search needs
@@ -47,11 +54,13 @@ number-spec =
     Inv-loop
     μ-loop
     loop-holds
+    sub-b
+    shared-slice-read-b
     mul-n
-    sub-digit
-    shared-slice-read-digit
-    digit-requires
+    mul-n-2
     add-n
+    cast-n
+    add-n-2
     add-k
     loop-less
     loop-again

@@ -1,24 +1,24 @@
 use Prim.Native.Nat.{_-_, _≤_}
 use native.Mathlib.Omega.{arith}
 use mathlib.Core.Path.{_≡_, sym, _∙_}
-use lib.ListN.{length, drop}
+use lib.ListN.{length, take, drop}
 use lib.Ieee.{nan}
 use borrow.Author.Tests.{not-true, not-false}
+use Rattle.stored.specs.Same.{alikeValues}
 use borrow.Author.Needs.{needs}
 use Rattle.layout.specs.Lists.{sameBy}
-use Rattle.stored.specs.Same.{alikeValues}
-use Rattle.layout.proofs.Walks.{same-lengths, same-step, same-miss, same-done}
+use Rattle.stored.proofs.Fronts.{front-short, front-step, front-miss, front-done}
 use Rattle.stored.proofs.same_values.Statement.{statement}
 use Rattle.stored.proofs.same_values.Tie as tie
 
 abbrev Inv-loop : tie.InvT-loop
-Inv-loop a b k₀ k = (k ≤ length a) × (length a ≡ length b) × (sameBy alikeValues a b ≡ sameBy alikeValues (drop k a) (drop k b))
+Inv-loop out list k₀ k = (k ≤ length list) × (length list ≤ length out) × (sameBy alikeValues (take (length list) out) list ≡ sameBy alikeValues (drop k (take (length list) out)) (drop k list))
 
 abbrev μ-loop : tie.MeasureT-loop
-μ-loop a b k₀ k = length a - k
+μ-loop out list k₀ k = length list - k
 
 returns : tie.Need-returns Inv-loop μ-loop
-returns c = sym (same-lengths alikeValues (c .before .before .before .args .a .now) (c .before .before .before .args .b .now) (c .if1 .taken))
+returns c = sym (front-short alikeValues (c .before .before .before .args .out .now) (c .before .before .before .args .list .now) (c .if1 .taken))
 
 loop-holds : tie.Need-loop-holds Inv-loop μ-loop
 loop-holds c = search needs
@@ -41,8 +41,8 @@ alike-values-requires c κs = search needs
 returns-2 : tie.Need-returns-2 Inv-loop μ-loop
 returns-2 c =
     let l = c .before .before .before .before .before in
-    let s = l .before .before .before .before in
-    sym (l .loop .inv .2 ∙ same-miss alikeValues (s .args .a .now) (s .args .b .now) nan (l .loop .k) (omega arith) (omega arith) (sym (c .before .alike-values .ensures) ∙ not-true _ (c .if2 .taken)))
+    let a = l .before .before .before .before .args in
+    sym (l .loop .inv .2 ∙ front-miss alikeValues (a .out .now) (a .list .now) (l .loop .inv .1) nan (l .loop .k) (omega arith) (sym (c .before .alike-values .ensures) ∙ not-true _ (c .if2 .taken)))
 
 add-k : tie.Need-add-k Inv-loop μ-loop
 add-k c = search needs
@@ -53,17 +53,17 @@ loop-less c = search needs
 loop-again : tie.Need-loop-again Inv-loop μ-loop
 loop-again c =
     let l = c .before .before .before .before .before in
-    let s = l .before .before .before .before in (
+    let a = l .before .before .before .before .args in (
       omega arith,
       l .loop .inv .1,
-      l .loop .inv .2 ∙ same-step alikeValues (s .args .a .now) (s .args .b .now) nan (l .loop .k) (omega arith) (omega arith) (sym (c .before .alike-values .ensures) ∙ not-false _ (c .if2 .left)),
+      l .loop .inv .2 ∙ front-step alikeValues (a .out .now) (a .list .now) (l .loop .inv .1) nan (l .loop .k) (omega arith) (sym (c .before .alike-values .ensures) ∙ not-false _ (c .if2 .left)),
     )
 
 returns-3 : tie.Need-returns-3 Inv-loop μ-loop
 returns-3 c =
     let l = c .before in
-    let s = l .before .before .before .before in
-    sym (l .loop .inv .2 ∙ same-done alikeValues (s .args .a .now) (s .args .b .now) (l .loop .k) (omega arith) (omega arith))
+    let a = l .before .before .before .before .args in
+    sym (l .loop .inv .2 ∙ front-done alikeValues (a .out .now) (a .list .now) (l .loop .inv .1) (l .loop .k) (c .loop-test .left))
 
 pub same-values-spec : {M : Type 1} → statement M
 same-values-spec =

@@ -1,23 +1,23 @@
 use Prim.Native.Nat.{_-_, _≤_}
 use native.Mathlib.Omega.{arith}
 use mathlib.Core.Path.{_≡_, sym, _∙_}
-use lib.ListN.{length, drop}
+use lib.ListN.{length, take, drop}
 use lib.Dec.{eqb}
 use borrow.Author.Tests.{eq-eqb, ne-eqb}
 use borrow.Author.Needs.{needs}
 use Rattle.layout.specs.Lists.{sameBy}
-use Rattle.layout.proofs.Walks.{same-lengths, same-step, same-miss, same-done}
+use Rattle.stored.proofs.Fronts.{front-short, front-step, front-miss, front-done}
 use Rattle.stored.proofs.same_words.Statement.{statement}
 use Rattle.stored.proofs.same_words.Tie as tie
 
 abbrev Inv-loop : tie.InvT-loop
-Inv-loop a b k₀ k = (k ≤ length a) × (length a ≡ length b) × (sameBy eqb a b ≡ sameBy eqb (drop k a) (drop k b))
+Inv-loop out list k₀ k = (k ≤ length list) × (length list ≤ length out) × (sameBy eqb (take (length list) out) list ≡ sameBy eqb (drop k (take (length list) out)) (drop k list))
 
 abbrev μ-loop : tie.MeasureT-loop
-μ-loop a b k₀ k = length a - k
+μ-loop out list k₀ k = length list - k
 
 returns : tie.Need-returns Inv-loop μ-loop
-returns c = sym (same-lengths eqb (c .before .args .a .now) (c .before .args .b .now) (c .if1 .taken))
+returns c = sym (front-short eqb (c .before .args .out .now) (c .before .args .list .now) (c .if1 .taken))
 
 loop-holds : tie.Need-loop-holds Inv-loop μ-loop
 loop-holds c = search needs
@@ -37,8 +37,8 @@ shared-slice-read-if2-2 c = search needs
 returns-2 : tie.Need-returns-2 Inv-loop μ-loop
 returns-2 c =
     let l = c .before .before .before .before in
-    let s = l .before .before in
-    sym (l .loop .inv .2 ∙ same-miss eqb (s .args .a .now) (s .args .b .now) 0 (l .loop .k) (omega arith) (omega arith) (ne-eqb _ _ (c .if2 .taken)))
+    let a = l .before .before .args in
+    sym (l .loop .inv .2 ∙ front-miss eqb (a .out .now) (a .list .now) (l .loop .inv .1) 0 (l .loop .k) (omega arith) (ne-eqb _ _ (c .if2 .taken)))
 
 add-k : tie.Need-add-k Inv-loop μ-loop
 add-k c = search needs
@@ -49,17 +49,17 @@ loop-less c = search needs
 loop-again : tie.Need-loop-again Inv-loop μ-loop
 loop-again c =
     let l = c .before .before .before .before in
-    let s = l .before .before in (
+    let a = l .before .before .args in (
       omega arith,
       l .loop .inv .1,
-      l .loop .inv .2 ∙ same-step eqb (s .args .a .now) (s .args .b .now) 0 (l .loop .k) (omega arith) (omega arith) (eq-eqb _ _ (c .if2 .left)),
+      l .loop .inv .2 ∙ front-step eqb (a .out .now) (a .list .now) (l .loop .inv .1) 0 (l .loop .k) (omega arith) (eq-eqb _ _ (c .if2 .left)),
     )
 
 returns-3 : tie.Need-returns-3 Inv-loop μ-loop
 returns-3 c =
     let l = c .before in
-    let s = l .before .before in
-    sym (l .loop .inv .2 ∙ same-done eqb (s .args .a .now) (s .args .b .now) (l .loop .k) (omega arith) (omega arith))
+    let a = l .before .before .args in
+    sym (l .loop .inv .2 ∙ front-done eqb (a .out .now) (a .list .now) (l .loop .inv .1) (l .loop .k) (c .loop-test .left))
 
 pub same-words-spec : {M : Type 1} → statement M
 same-words-spec =
