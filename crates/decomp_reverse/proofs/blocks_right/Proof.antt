@@ -1,5 +1,5 @@
 use Prim.Native.Nat.{ℕ, _+_, _-_, _≤_}
-use mathlib.Core.Path.{_≡_, ap, sym, _∙_}
+use mathlib.Core.Path.{_≡_, refl, ap, sym, _∙_}
 use mathlib.Core.Bool.{true}
 use mathlib.Core.List.{[], _∷_}
 use lib.ListN.{length, drop}
@@ -7,7 +7,6 @@ use borrow.Author.Tests.{not-true, not-false}
 use Rattle.decomp_reverse.specs.Begins.{begins}
 use Rattle.decomp_reverse.proofs.Entries.{inside, blockWords, block-hit, block-miss}
 use native.Mathlib.Omega.{arith}
-use borrow.Author.Needs.{needs}
 use Rattle.decomp_reverse.proofs.blocks_right.Statement.{statement}
 use Rattle.decomp_reverse.proofs.blocks_right.Tie as tie
 
@@ -20,13 +19,13 @@ abbrev μ-loop : tie.MeasureT-loop
 μ-loop entries t cone pattern count at₀ c₀ at c = c
 
 loop-holds : tie.Need-loop-holds Inv-loop μ-loop
-loop-holds c = search needs
+loop-holds c = (c .before .pre, refl)
 
 sub-c : tie.Need-sub-c Inv-loop μ-loop
-sub-c c = search needs
+sub-c c = omega arith
 
 entry-right-requires : tie.Need-entry-right-requires Inv-loop μ-loop
-entry-right-requires c κs = search needs
+entry-right-requires c κs = c .before .loop .inv .0
 
 returns : tie.Need-returns Inv-loop μ-loop
 returns c =
@@ -55,7 +54,7 @@ add-at : tie.Need-add-at Inv-loop μ-loop
 add-at c = omega (arith, hit c)
 
 loop-less : tie.Need-loop-less Inv-loop μ-loop
-loop-less c = search needs
+loop-less c = omega arith
 
 loop-again : tie.Need-loop-again Inv-loop μ-loop
 loop-again c =

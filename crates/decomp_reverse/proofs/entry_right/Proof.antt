@@ -3,21 +3,20 @@ use mathlib.Core.Path.{_≡_, sym, _∙_}
 use mathlib.Core.List.{[], _∷_}
 use Rattle.decomp_reverse.proofs.Entries.{too-few, word-hit, word-miss, last-word}
 use native.Mathlib.Omega.{arith}
-use borrow.Author.Needs.{needs}
 use Rattle.decomp_reverse.proofs.entry_right.Statement.{statement}
 use Rattle.decomp_reverse.proofs.entry_right.Tie as tie
 
 sub-if1 : tie.Need-sub-if1
-sub-if1 c = search needs
+sub-if1 c = omega arith
 
 returns : tie.Need-returns
 returns c = let a = c .before .args in sym (too-few (a .entries .now) (a .t) (a .a ∷ a .b ∷ a .c ∷ []) (c .if1 .taken))
 
 mul-if2 : tie.Need-mul-if2
-mul-if2 c = search needs
+mul-if2 c = omega arith
 
 shared-slice-read-if2 : tie.Need-shared-slice-read-if2
-shared-slice-read-if2 c = search needs
+shared-slice-read-if2 c = omega arith
 
 returns-2 : tie.Need-returns-2
 returns-2 c =
@@ -25,13 +24,13 @@ returns-2 c =
     sym (word-miss (a .entries .now) (a .t) (a .a) (a .b ∷ a .c ∷ []) (omega arith) (c .if2 .taken))
 
 add-if3 : tie.Need-add-if3
-add-if3 c = search needs
+add-if3 c = omega arith
 
 mul-if3 : tie.Need-mul-if3
-mul-if3 c = search needs
+mul-if3 c = omega arith
 
 shared-slice-read-if3 : tie.Need-shared-slice-read-if3
-shared-slice-read-if3 c = search needs
+shared-slice-read-if3 c = omega arith
 
 returns-3 : tie.Need-returns-3
 returns-3 c =
@@ -40,13 +39,13 @@ returns-3 c =
     ∙ word-miss (a .entries .now) (a .t + 1) (a .b) (a .c ∷ []) (omega arith) (c .if3 .taken))
 
 add-result : tie.Need-add-result
-add-result c = search needs
+add-result c = omega arith
 
 mul-result : tie.Need-mul-result
-mul-result c = search needs
+mul-result c = omega arith
 
 shared-slice-read-result : tie.Need-shared-slice-read-result
-shared-slice-read-result c = search needs
+shared-slice-read-result c = omega arith
 
 returns-4 : tie.Need-returns-4
 returns-4 c =

@@ -1,11 +1,15 @@
-use Prim.Native.Nat.{ℕ, _+_, _*_, _≤_, _<_}
+use Prim.Native.Nat.{ℕ, zero-le, _+_, _*_, _^_, _≤_, _<_}
 use mathlib.Core.Path.{_≡_, sym, ap, subst, _∙_}
 use mathlib.Core.Bool.{true}
 use mathlib.Core.List.{List, _∷_}
 use lib.ListN.{length, getD, drop}
+use mir.Syntax.{w64}
+use mir.Val.{Fits}
+use mir.Facts.{fits-le}
 use borrow.Author.Tests.{not-true, not-false}
 use Rattle.layout.specs.Lists.{sameNumbers}
 use Rattle.layout.specs.Cones.{records}
+use Rattle.layout.specs.Patterns.{cliqueCount}
 use Rattle.layout.specs.Blocks.{Part, whole, cut}
 use Rattle.layout.specs.Checks.{noCone}
 use Rattle.layout.specs.Compact.{coneMap, mapPart, mapWords}
@@ -32,8 +36,23 @@ abbrev μ-loop : tie.MeasureT-loop
 abbrev start : tie.At-loop Inv-loop μ-loop → tie.Start Inv-loop μ-loop
 start l = l .before .before .before .before .before
 
-small : (s : tie.Start Inv-loop μ-loop) → length (s .args .entries .now) < 18446744073709551616
-small s = omega arith
+-- ---- numbers and lists
+
+fits-next : (t k n : ℕ) → t + k ≤ n → n < 2 ^ 64 → Fits w64 (t + k)
+fits-next t k n h l = fits-le h (record { fits = l })
+
+words-next : (t k n m : ℕ) → t + m ≤ n → m ≡ 3 * k → t + 3 * k ≤ n
+words-next t k n m h e = omega arith
+
+threes : (m b k : ℕ) → m ≡ b * 3 → k ≡ b → m ≡ 3 * k
+threes m b k e h = omega arith
+
+shorter : (x : Part) (before later : List Part) → before ≡ x ∷ later → length later < length before
+shorter x before later e = omega (arith, ap length e)
+
+-- the entries are so many
+small : (s : tie.Start Inv-loop μ-loop) → length (s .args .entries .now) < 2 ^ 64
+small s = s .good .1 .1 .1 .1 .0 .0
 
 abbrev aheadOf : tie.At-loop Inv-loop μ-loop → List Part
 aheadOf l = let a = start l .args in ahead (a .cones .now) (a .words .now) (l .loop .place)
@@ -118,11 +137,8 @@ counted r =
     let k = r .before .before .before .before in
     let l = k .before .before .before in
     let q = l .loop .place in
-    omega (
-      arith,
-      map-words (patternAt (start l .args .words .now) (k .met2 .given .0 .0)) (q .cone) (q .row) (q .pattern),
-      r .before .before .clique-count .ensures,
-    )
+    let p = patternAt (start l .args .words .now) (k .met2 .given .0 .0) in
+    threes (length (mapWords (mapPart (cutOf k)))) (cliqueCount p) (r .before .before .clique-count .result) (map-words p (q .cone) (q .row) (q .pattern)) (r .before .before .clique-count .ensures)
 
 -- they were there
 same-cut : (c : tie.Else2 Inv-loop μ-loop)
@@ -137,27 +153,29 @@ fits-cut : (c : tie.Else2 Inv-loop μ-loop)
 fits-cut c =
     let k = c .before .before .before .before .before in
     let l = k .before .before .before in
-    omega (arith, inside (start l .args .entries .now) (l .loop .t) (mapWords (mapPart (cutOf k))) (l .loop .inv .0) (same-cut c), counted (c .before))
+    let ws = mapWords (mapPart (cutOf k)) in
+    words-next (l .loop .t) (c .before .before .before .clique-count .result) (length (start l .args .entries .now)) (length ws)
+    (inside (start l .args .entries .now) (l .loop .t) ws (l .loop .inv .0) (same-cut c)) (counted (c .before))
 
 start-requires : tie.Need-start-requires Inv-loop μ-loop
-start-requires c κs = search needs
+start-requires c κs = c .before .before .before .pre
 
 loop-holds : tie.Need-loop-holds Inv-loop μ-loop
 loop-holds c =
     let a = c .before .before .before .before .args in
-    (omega arith, c .start .ensures .1, ap (λ (ps : List Part). sameNumbers (a .entries .now) (mapWords (coneMap ps))) (c .start .ensures .0))
+    (zero-le, c .start .ensures .1, ap (λ (ps : List Part). sameNumbers (a .entries .now) (mapWords (coneMap ps))) (c .start .ensures .0))
 
 next-requires : tie.Need-next-requires Inv-loop μ-loop
 next-requires c κs = c .loop .inv .1
 
 enum-known-met : tie.Need-enum-known-met Inv-loop μ-loop
-enum-known-met c = search needs
+enum-known-met c = c .match .keys1
 
 cast-entry-right : tie.Need-cast-entry-right Inv-loop μ-loop
 cast-entry-right c = omega (arith, knows-whole (c .before .before) .2)
 
 entry-right-requires : tie.Need-entry-right-requires Inv-loop μ-loop
-entry-right-requires c κs = search needs
+entry-right-requires c κs = turn (c .before .before) .loop .inv .0
 
 returns : tie.Need-returns Inv-loop μ-loop
 returns c =
@@ -168,10 +186,10 @@ returns c =
     ∙ entries-miss (start l .args .entries .now) (l .loop .t) (wholeOf k) (aheadOf l) _ (met-whole k) (sym (r .entry-right .ensures) ∙ not-true _ (c .if1 .taken)))
 
 add-t : tie.Need-add-t Inv-loop μ-loop
-add-t c = omega (arith, fits-whole c, small (start (turn (c .before .before .before .before))))
+add-t c = let l = turn (c .before .before .before .before) in fits-next (l .loop .t) 3 (length (start l .args .entries .now)) (fits-whole c) (small (start l))
 
 loop-less : tie.Need-loop-less Inv-loop μ-loop
-loop-less c = omega (arith, ap length (met-whole (c .before .before .before .before)))
+loop-less c = let k = c .before .before .before .before in shorter (wholeOf k) (aheadOf (turn k)) _ (met-whole k)
 
 loop-again : tie.Need-loop-again Inv-loop μ-loop
 loop-again c =
@@ -183,7 +201,7 @@ loop-again c =
     )
 
 enum-known-met-2 : tie.Need-enum-known-met-2 Inv-loop μ-loop
-enum-known-met-2 c = search needs
+enum-known-met-2 c = c .match .keys2
 
 clique-count-requires : tie.Need-clique-count-requires Inv-loop μ-loop
 clique-count-requires c κs = knows-cut (c .before) .1
@@ -192,7 +210,7 @@ cast-blocks-right : tie.Need-cast-blocks-right Inv-loop μ-loop
 cast-blocks-right c = omega (arith, knows-cut (c .before .before .before) .4)
 
 blocks-right-requires : tie.Need-blocks-right-requires Inv-loop μ-loop
-blocks-right-requires c κs = search needs
+blocks-right-requires c κs = c .before .before .before .before .before .before .loop .inv .0
 
 returns-2 : tie.Need-returns-2 Inv-loop μ-loop
 returns-2 c =
@@ -209,10 +227,12 @@ mul-t : tie.Need-mul-t Inv-loop μ-loop
 mul-t c = search needs
 
 add-t-2 : tie.Need-add-t-2 Inv-loop μ-loop
-add-t-2 c = omega (arith, fits-cut c, small (start (c .before .before .before .before .before .before .before .before)))
+add-t-2 c =
+    let l = c .before .before .before .before .before .before .before .before in
+    fits-next (l .loop .t) (3 * c .before .before .before .clique-count .result) (length (start l .args .entries .now)) (fits-cut c) (small (start l))
 
 loop-less-2 : tie.Need-loop-less-2 Inv-loop μ-loop
-loop-less-2 c = omega (arith, ap length (met-cut (c .before .before .before .before .before)))
+loop-less-2 c = let k = c .before .before .before .before .before in shorter (cutOf k) (aheadOf (k .before .before .before)) _ (met-cut k)
 
 loop-again-2 : tie.Need-loop-again-2 Inv-loop μ-loop
 loop-again-2 c =
@@ -220,7 +240,7 @@ loop-again-2 c =
     let k = r .before .before .before .before in
     let l = k .before .before .before in
     let a = start l .args in
-    let e : l .loop .t + length (mapWords (mapPart (cutOf k))) ≡ l .loop .t + 3 * r .before .before .clique-count .result = omega (arith, counted r) in (
+    let e : l .loop .t + length (mapWords (mapPart (cutOf k))) ≡ l .loop .t + 3 * r .before .before .clique-count .result = ap (λ (n : ℕ). l .loop .t + n) (counted r) in (
       fits-cut c,
       knows-cut k .6,
       ap (λ (j : ℕ). sameNumbers (drop j (a .entries .now)) (mapWords (coneMap (ahead (a .cones .now) (a .words .now) (k .met2 .given .0 .1 .0))))) (sym e)
@@ -228,7 +248,7 @@ loop-again-2 c =
     )
 
 enum-told : tie.Need-enum-told Inv-loop μ-loop
-enum-told c = search needs
+enum-told c = c .match .keys3
 
 returns-3 : tie.Need-returns-3 Inv-loop μ-loop
 returns-3 c =
