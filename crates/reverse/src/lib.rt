@@ -140,7 +140,8 @@ fn counts_few(standard: bool, m: u32) -> bool
 
 // ---- s and z
 
-// Clarabel's `decomp_reverse_standard` and `decomp_reverse_compact`: s and z of a solution.
+// Clarabel's `decomp_reverse_standard` and `decomp_reverse_compact`: s and z of a solution. The table of counts is as short as the cones allow, since it is
+// cleared first.
 pub fn decomp_reverse(
     standard: bool,
     m: u32,
