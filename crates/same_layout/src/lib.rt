@@ -94,7 +94,7 @@ pub fn same_layout(
     ensures { λ r. ⌜ r ≡ sameLayoutRefusal (problem n m (now («p_starts» .entry)) (now («p_rows» .entry)) (now («p_values» .entry)) (now (q .entry)) (now («a_starts» .entry)) (now («a_rows» .entry)) (now («a_values» .entry)) (now (b .entry)) (now (cones .entry)) (now (alphas .entry)) count (now (words .entry))) (problem n2 m2 (now («p_starts2» .entry)) (now («p_rows2» .entry)) (now («p_values2» .entry)) (now (q2 .entry)) (now («a_starts2» .entry)) (now («a_rows2» .entry)) (now («a_values2» .entry)) (now (b2 .entry)) (now (cones2 .entry)) (now (alphas2 .entry)) count2 (now (words2 .entry))) (length (now (out .entry))) ⌝ }
     ensures { λ _. ⌜ now (out .exit) ≡ output (sameLayoutRefusal (problem n m (now («p_starts» .entry)) (now («p_rows» .entry)) (now («p_values» .entry)) (now (q .entry)) (now («a_starts» .entry)) (now («a_rows» .entry)) (now («a_values» .entry)) (now (b .entry)) (now (cones .entry)) (now (alphas .entry)) count (now (words .entry))) (problem n2 m2 (now («p_starts2» .entry)) (now («p_rows2» .entry)) (now («p_values2» .entry)) (now (q2 .entry)) (now («a_starts2» .entry)) (now («a_rows2» .entry)) (now («a_values2» .entry)) (now (b2 .entry)) (now (cones2 .entry)) (now (alphas2 .entry)) count2 (now (words2 .entry))) (length (now (out .entry)))) (sameLayoutWords (problem n m (now («p_starts» .entry)) (now («p_rows» .entry)) (now («p_values» .entry)) (now (q .entry)) (now («a_starts» .entry)) (now («a_rows» .entry)) (now («a_values» .entry)) (now (b .entry)) (now (cones .entry)) (now (alphas .entry)) count (now (words .entry))) (problem n2 m2 (now («p_starts2» .entry)) (now («p_rows2» .entry)) (now («p_values2» .entry)) (now (q2 .entry)) (now («a_starts2» .entry)) (now («a_rows2» .entry)) (now («a_values2» .entry)) (now (b2 .entry)) (now (cones2 .entry)) (now (alphas2 .entry)) count2 (now (words2 .entry)))) (now (out .entry)) ⌝ }
 {
-    let first = checks::check_problem(
+    let mut refusal = checks::check_problem(
         n,
         m,
         p_starts,
@@ -110,31 +110,30 @@ pub fn same_layout(
         count,
         words,
     );
-    if first != 0 {
-        return first;
+    if refusal == 0 {
+        refusal = checks::check_problem(
+            n2,
+            m2,
+            p_starts2,
+            p_rows2,
+            p_values2,
+            q2,
+            a_starts2,
+            a_rows2,
+            a_values2,
+            b2,
+            cones2,
+            alphas2,
+            count2,
+            words2,
+        );
     }
-    let second = checks::check_problem(
-        n2,
-        m2,
-        p_starts2,
-        p_rows2,
-        p_values2,
-        q2,
-        a_starts2,
-        a_rows2,
-        a_values2,
-        b2,
-        cones2,
-        alphas2,
-        count2,
-        words2,
-    );
-    if second != 0 {
-        return second;
+    if refusal == 0 {
+        if out.len() < 1 {
+            refusal = 11;
+        } else {
+            out[0] = word_of(layouts_agree(n, m, cones, words, n2, m2, cones2, words2));
+        }
     }
-    if out.len() < 1 {
-        return 11;
-    }
-    out[0] = word_of(layouts_agree(n, m, cones, words, n2, m2, cones2, words2));
-    0
+    refusal
 }

@@ -1,11 +1,12 @@
 use Prim.Native.Nat.{ℕ}
-use mathlib.Core.Path.{refl, ap, _∙_}
+use mathlib.Core.Path.{_≡_, refl, ap, _∙_}
 use mathlib.Core.Bool.{Bool, cond}
 use mathlib.Core.List.{List}
 use lib.ListN.{length-set}
 use Rattle.layout.specs.Problem.{Problem, problem}
-use Rattle.layout.specs.Answers.{sameLayoutWords}
-use Rattle.same_layout.proofs.Agreement.{first-refused, second-refused, no-room, answered}
+use mathlib.Core.Logic.{⊎-elim}
+use Rattle.layout.specs.Answers.{sameLayoutWords, orElse, problemRefusal}
+use Rattle.same_layout.proofs.Agreement.{second-checked, first-refused, refused, no-room, answered}
 use Rattle.same_layout.proofs.same_layout.Statement.{statement}
 use Rattle.same_layout.proofs.same_layout.Tie as tie
 
@@ -32,26 +33,8 @@ words-at s = sameLayoutWords (given s) (given2 s)
 check-problem-requires : tie.Need-check-problem-requires
 check-problem-requires c κs = tt
 
-returns : tie.Need-returns
-returns c =
-    let s = start (c .before) in
-    first-refused (given s) (given2 s) (words-at s) (s .args .out .now) _ (c .before .check-problem .ensures) (c .if1 .taken)
-
 check-problem-requires-2 : tie.Need-check-problem-requires-2
 check-problem-requires-2 c κs = tt
-
-returns-2 : tie.Need-returns-2
-returns-2 c =
-    let e = c .before .before in
-    let s = start (e .before) in
-    second-refused (given s) (given2 s) (words-at s) (s .args .out .now) _ (e .before .check-problem .ensures) _ (c .before .check-problem2 .ensures) (e .if1 .left) (c .if2 .taken)
-
-returns-3 : tie.Need-returns-3
-returns-3 c =
-    let f = c .before in
-    let e = f .before .before in
-    let s = start (e .before) in
-    no-room (given s) (given2 s) (words-at s) (s .args .out .now) _ (e .before .check-problem .ensures) _ (f .before .check-problem2 .ensures) (e .if1 .left) (f .if2 .left) (c .if3 .taken)
 
 layouts-agree-requires : tie.Need-layouts-agree-requires
 layouts-agree-requires c κs = tt
@@ -62,29 +45,48 @@ word-of-requires c κs = tt
 slice-write-out : tie.Need-slice-write-out
 slice-write-out c = c .before .before .if3 .left
 
-same-length : tie.Need-same-length
-same-length c = length-set (start (c .before .before .before .before .before .before) .args .out .now) 0 (c .word-of .result)
+-- both problems were checked
+both : (c : tie.Joined1) → let s = start (c .before) in c .if1 .refusal ≡ orElse (problemRefusal (given s)) (problemRefusal (given2 s))
+both c =
+    let f = c .before in
+    let s = start f in
+    ⊎-elim
+    (λ w. second-checked (problemRefusal (given s)) (problemRefusal (given2 s)) (f .check-problem .result) _ (c .if1 .refusal) (f .check-problem .ensures) (w .0 .taken) (w .1 .ensures) (w .2))
+    (λ w. first-refused (problemRefusal (given s)) (problemRefusal (given2 s)) (f .check-problem .result) (c .if1 .refusal) (f .check-problem .ensures) (w .0 .left) (w .1))
+    (c .if1 .came)
 
-returns-4 : tie.Need-returns-4
-returns-4 c =
-    let g = c .before .before in
-    let f = g .before in
-    let e = f .before .before in
-    let s = start (e .before) in
-    answered (given s) (given2 s) (words-at s) (s .args .out .now) _ (e .before .check-problem .ensures) _ (f .before .check-problem2 .ensures) (e .if1 .left) (f .if2 .left) (g .if3 .left)
+returns : tie.Need-returns
+returns c =
+    let j = c .before .before in
+    let s = start (j .before) in
+    no-room (given s) (given2 s) (words-at s) (s .args .out .now) (j .if1 .refusal) (both j) (c .before .if2 .taken) (c .if3 .taken)
+
+same-length : tie.Need-same-length
+same-length c = length-set (start (c .before .before .before .before .before) .args .out .now) 0 (c .word-of .result)
+
+returns-2 : tie.Need-returns-2
+returns-2 c =
+    let j = c .before .before .before .before in
+    let s = start (j .before) in
+    answered (given s) (given2 s) (words-at s) (s .args .out .now) (j .if1 .refusal) (both j) (c .before .before .before .if2 .taken) (c .before .before .if3 .left)
     _ _ (c .word-of .ensures ∙ ap (λ (b : Bool). cond b 1 0) (c .before .layouts-agree .ensures)) refl
+
+returns-3 : tie.Need-returns-3
+returns-3 c =
+    let j = c .before in
+    let s = start (j .before) in
+    refused (given s) (given2 s) (words-at s) (s .args .out .now) (j .if1 .refusal) (both j) (c .if2 .left)
 
 pub same-layout-spec : {M : Type 1} → statement M
 same-layout-spec =
     tie.close
     (tie.spec
     check-problem-requires
-    returns
     check-problem-requires-2
-    returns-2
-    returns-3
     layouts-agree-requires
     word-of-requires
     slice-write-out
+    returns
     same-length
-    returns-4)
+    returns-2
+    returns-3)
