@@ -7,15 +7,14 @@ use Rattle.layout.proofs.Tests.{and-iff, leb-iff, passes}
 use Rattle.supportedcone.proofs.Records.{cones-read}
 use Rattle.checks.proofs.Order.{refused, bounded-cones}
 use native.Mathlib.Omega.{arith}
-use borrow.Author.Needs.{needs}
 use Rattle.checks.proofs.check_joined.Statement.{statement}
 use Rattle.checks.proofs.check_joined.Tie as tie
 
 join-bounded-requires : tie.Need-join-bounded-requires
-join-bounded-requires c κs = search needs
+join-bounded-requires c κs = tt
 
 refused-as-requires : tie.Need-refused-as-requires
-refused-as-requires c κs = search needs
+refused-as-requires c κs = tt
 
 all-bounded : (c : tie.Else1) → let s = c .before .before .before .before in
     joinBounded (s .args .n) (s .args .m) (s .args .cones .now) ≡ true
@@ -36,7 +35,7 @@ check-cones-requires c κs =
     bounded-cones (s .args .n) (s .args .m) (s .args .cones .now) (all-bounded c)
 
 refused-as-requires-2 : tie.Need-refused-as-requires-2
-refused-as-requires-2 c κs = search needs
+refused-as-requires-2 c κs = tt
 
 returns-2 : tie.Need-returns-2
 returns-2 c =

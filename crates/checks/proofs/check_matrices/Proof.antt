@@ -4,12 +4,11 @@ use borrow.Author.Tests.{not-true, not-false}
 use Rattle.layout.specs.Checks.{startsRight, rowsRight}
 use Rattle.csc.specs.Matrix.{matrix}
 use Rattle.layout.proofs.Tests.{passes}
-use borrow.Author.Needs.{needs}
 use Rattle.checks.proofs.check_matrices.Statement.{statement}
 use Rattle.checks.proofs.check_matrices.Tie as tie
 
 starts-right-requires : tie.Need-starts-right-requires
-starts-right-requires c κs = search needs
+starts-right-requires c κs = tt
 
 returns : tie.Need-returns
 returns c = rw (sym (c .before .starts-right .ensures) ∙ not-true _ (c .if1 .taken))
@@ -19,7 +18,7 @@ starts-of-a : (c : tie.Else1) → let s = c .before .before .before .before .bef
 starts-of-a c = sym (c .before .starts-right .ensures) ∙ not-false _ (c .if1 .left)
 
 starts-right-requires-2 : tie.Need-starts-right-requires-2
-starts-right-requires-2 c κs = search needs
+starts-right-requires-2 c κs = tt
 
 returns-2 : tie.Need-returns-2
 returns-2 c = rw (starts-of-a (c .before .before), sym (c .before .starts-right2 .ensures) ∙ not-true _ (c .if2 .taken))

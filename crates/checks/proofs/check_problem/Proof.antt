@@ -6,7 +6,6 @@ use Rattle.layout.specs.Checks.{check1}
 use Rattle.checks.specs.Order.{matricesRefusal, recordsRefusal}
 use Rattle.checks.proofs.Order.{problem-order, bounded-problem, few-rows, records-read}
 use Rattle.layout.proofs.Tests.{passes}
-use borrow.Author.Needs.{needs}
 use Rattle.checks.proofs.check_problem.Statement.{statement}
 use Rattle.checks.proofs.check_problem.Tie as tie
 
@@ -36,7 +35,7 @@ passed3 : (c : tie.Else3) → let p = at3 c in recordsRefusal (p .n) (p .m) (p .
 passed3 c = sym (c .before .check-records .ensures) ∙ c .if3 .left
 
 bounded-requires : tie.Need-bounded-requires
-bounded-requires c κs = search needs
+bounded-requires c κs = tt
 
 returns : tie.Need-returns
 returns c =
@@ -44,7 +43,7 @@ returns c =
     sym (problem-order p .0 (sym (c .before .bounded .ensures) ∙ not-true _ (c .if1 .taken)))
 
 check-matrices-requires : tie.Need-check-matrices-requires
-check-matrices-requires c κs = search needs
+check-matrices-requires c κs = tt
 
 returns-2 : tie.Need-returns-2
 returns-2 c =

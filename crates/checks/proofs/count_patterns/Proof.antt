@@ -6,12 +6,11 @@ use Rattle.checks.specs.Order.{patternsRefusal}
 use Rattle.checks.proofs.Checked.{patterns-sound}
 use Rattle.checks.proofs.Counts.{sound-counts}
 use native.Mathlib.Omega.{arith}
-use borrow.Author.Needs.{needs}
 use Rattle.checks.proofs.count_patterns.Statement.{statement}
 use Rattle.checks.proofs.count_patterns.Tie as tie
 
 patterns-hold-requires : tie.Need-patterns-hold-requires
-patterns-hold-requires c κs = search needs
+patterns-hold-requires c κs = tt
 
 -- the patterns were accepted
 none-refused : (c : tie.Then1) → let a = c .before .before .before .before .args in patternsRefusal (a .cones .now) (a .count) (a .words .now) ≡ 0
@@ -38,10 +37,10 @@ returns : tie.Need-returns
 returns c = let (rows, overlaps) = counts (c .before .before) in (sym (none-refused (c .before .before)), λ _. (omega arith, overlaps))
 
 refuse-patterns-requires : tie.Need-refuse-patterns-requires
-refuse-patterns-requires c κs = search needs
+refuse-patterns-requires c κs = tt
 
 refused-as-requires : tie.Need-refused-as-requires
-refused-as-requires c κs = search needs
+refused-as-requires c κs = tt
 
 returns-2 : tie.Need-returns-2
 returns-2 c = let e = c .before .before .refuse-patterns .ensures in (c .refused-as .ensures ∙ e, λ z. absurd (c .before .if2 .taken (sym (c .refused-as .ensures) ∙ z)))

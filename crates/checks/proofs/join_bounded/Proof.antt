@@ -1,5 +1,4 @@
 use borrow.Author.Tests.{le-leb, lt-leb}
-use borrow.Author.Needs.{needs}
 use Rattle.checks.proofs.join_bounded.Statement.{statement}
 use Rattle.checks.proofs.join_bounded.Tie as tie
 
@@ -10,7 +9,7 @@ returns-2 : tie.Need-returns-2
 returns-2 c = simp (le-leb _ _ (c .before .if1 .left), lt-leb _ _ (c .if2 .taken))
 
 cones-bounded-requires : tie.Need-cones-bounded-requires
-cones-bounded-requires c κs = search needs
+cones-bounded-requires c κs = tt
 
 returns-3 : tie.Need-returns-3
 returns-3 c = simp (le-leb _ _ (c .before .before .if1 .left), le-leb _ _ (c .before .if2 .left)) (c .cones-bounded .ensures)

@@ -5,12 +5,11 @@ use Rattle.layout.specs.Lists.{all}
 use Rattle.layout.specs.Patterns.{patterns, readPatterns, endsRight}
 use Rattle.layout.specs.Checks.{patternsRead, treeRight}
 use Rattle.checks.proofs.Order.{read-ends}
-use borrow.Author.Needs.{needs}
 use Rattle.checks.proofs.refuse_patterns.Statement.{statement}
 use Rattle.checks.proofs.refuse_patterns.Tie as tie
 
 check-patterns-requires : tie.Need-check-patterns-requires
-check-patterns-requires c κs = search needs
+check-patterns-requires c κs = tt
 
 returns : tie.Need-returns
 returns c = rw (sym (c .before .check-patterns .ensures) ∙ not-true _ (c .if1 .taken))

@@ -11,7 +11,6 @@ use Prim.Native.Nat.{_+_, _-_, _≤_}
 use mathlib.Core.Path.{_≡_, refl, sym, _∙_}
 use mathlib.Core.Bool.{true}
 use native.Mathlib.Omega.{arith}
-use borrow.Author.Needs.{needs}
 use Rattle.clique_tree.proofs.snodes_right.Statement.{statement}
 use Rattle.clique_tree.proofs.snodes_right.Tie as tie
 
@@ -46,10 +45,10 @@ loop-holds c =
     (omega arith, refl, window-none (snodesOf (cliquesFrom (s .args .words .now) (s .args .first) (s .args .count))))
 
 snodes-once-within-requires : tie.Need-snodes-once-within-requires Inv-loop μ-loop
-snodes-once-within-requires c κs = search needs
+snodes-once-within-requires c κs = c .before .before .before .before .before .before .pre .0
 
 same-length : tie.Need-same-length Inv-loop μ-loop
-same-length c = search needs
+same-length c = omega arith
 
 returns-2 : tie.Need-returns-2 Inv-loop μ-loop
 returns-2 c =
@@ -60,10 +59,10 @@ returns-2 c =
     sym (sym (filled f .2) ∙ repeats-within _ us (sym (w .snodes-once-within .ensures) ∙ not-true _ (c .if2 .taken)))
 
 sub-if3 : tie.Need-sub-if3 Inv-loop μ-loop
-sub-if3 c = search needs
+sub-if3 c = omega arith
 
 same-length-2 : tie.Need-same-length-2 Inv-loop μ-loop
-same-length-2 c = search needs
+same-length-2 c = omega arith
 
 returns-3 : tie.Need-returns-3 Inv-loop μ-loop
 returns-3 c =
@@ -76,10 +75,10 @@ returns-3 c =
     ∙ windows-all (a .n) (l .loop .low + length (l .loop .marks)) us (filled (l .before) .1) (omega arith) (window-more (l .loop .low) (length (l .loop .marks)) us (l .loop .inv .2) once))
 
 add-low : tie.Need-add-low Inv-loop μ-loop
-add-low c = search needs
+add-low c = omega arith
 
 loop-less : tie.Need-loop-less Inv-loop μ-loop
-loop-less c = search needs
+loop-less c = omega arith
 
 loop-again : tie.Need-loop-again Inv-loop μ-loop
 loop-again c =

@@ -6,7 +6,6 @@ use mathlib.Core.Path.{_≡_, refl, sym, ap, subst, _∙_}
 use mathlib.Core.List.{List, []}
 use lib.ListN.{length, getD, take}
 use lib.Seq.{take-all}
-use borrow.Author.Needs.{needs}
 use Rattle.layout.proofs.Tests.{differ}
 use Rattle.utils.proofs.Windows.{take-more}
 use Rattle.vertex_set.proofs.Walks.{one-less, Climbed, climb-none, climb-more, climb-all}

@@ -4,7 +4,6 @@ use lib.ListN.{length, drop}
 use Prim.Native.Nat.{_≤_, _-_}
 use mathlib.Core.Path.{_≡_, refl, sym, _∙_}
 use native.Mathlib.Omega.{arith}
-use borrow.Author.Needs.{needs}
 use Rattle.vertex_set.proofs.is_distinct.Statement.{statement}
 use Rattle.vertex_set.proofs.is_distinct.Tie as tie
 

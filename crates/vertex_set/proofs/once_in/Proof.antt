@@ -1,7 +1,6 @@
 use mathlib.Core.Path.{sym, _∙_}
 use borrow.Author.Tests.{not-false}
 use native.Mathlib.Omega.{arith}
-use borrow.Author.Needs.{needs}
 use Rattle.vertex_set.proofs.once_in.Statement.{statement}
 use Rattle.vertex_set.proofs.once_in.Tie as tie
 

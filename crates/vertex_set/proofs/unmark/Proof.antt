@@ -16,7 +16,6 @@ use Rattle.vertex_set.specs.OnceIn.{onceIn}
 use Rattle.vertex_set.proofs.Walks.{one-more, one-less}
 use Rattle.vertex_set.proofs.Unmarked.{in-window, past-window, Left, left-none, left-out, left-in, left-new, left-old, once-skip, once-new, once-lost}
 use native.Mathlib.Omega.{arith}
-use borrow.Author.Needs.{needs}
 use Rattle.vertex_set.proofs.unmark.Statement.{statement}
 use Rattle.vertex_set.proofs.unmark.Tie as tie
 
