@@ -1,8 +1,9 @@
 use Prim.Native.Nat.{ℕ, _≤_}
+use native.Mathlib.Nat.{le-of-eq, le-trans}
 use mathlib.Core.Path.{_≡_, ap, sym, subst, _∙_}
 use mathlib.Core.List.{List, map}
 use lib.ListN.{length, replicate, length-replicate}
-use Rattle.layout.specs.Lists.{written}
+use Rattle.layout.specs.Lists.{written, Below}
 use Rattle.layout.specs.Triangle.{triangle}
 use Rattle.layout.specs.Blocks.{pairs}
 use Rattle.blocks.specs.Cliques.{verticesHere}
@@ -17,6 +18,18 @@ use Rattle.overlaps.proofs.tied_rows.Tie as tie
 
 few : (s : tie.Start) (at : ℕ) → length (verticesHere (s .args .words .now) (s .args .ordering .now) at) ≤ 256
 few s at = omega (arith, vertices-few (s .args .words .now) (s .args .ordering .now) at, s .pre .0 .0 .sortable .few)
+
+-- a clear table of n numbers
+cleared : (n : ℕ) (vs : List ℕ) → Below n vs
+    → Below (length (replicate {A = ℕ} n 0)) vs × (replicate {A = ℕ} n 0 ≡ replicate (length (replicate {A = ℕ} n 0)) 0)
+cleared n vs h = (subst (λ (m : ℕ). Below m vs) (sym (length-replicate {A = ℕ} n 0)) h, ap (λ (m : ℕ). replicate m 0) (sym (length-replicate {A = ℕ} n 0)))
+
+kept-long : (n : ℕ) (xs : List ℕ) → length xs ≡ length (replicate {A = ℕ} n 0) → n ≤ length xs
+kept-long n xs e = le-of-eq (sym (e ∙ length-replicate {A = ℕ} n 0))
+
+-- a clique's vertices are below 256
+low : (s : tie.Start) (at : ℕ) → Below 256 (verticesHere (s .args .words .now) (s .args .ordering .now) at)
+low s at k l = le-trans (vertices-below (s .args .words .now) (s .args .ordering .now) at k l) (s .pre .0 .0 .sortable .few)
 
 slice-aggregate-clique-vertices : tie.Need-slice-aggregate-clique-vertices
 slice-aggregate-clique-vertices c = search needs
@@ -40,10 +53,8 @@ note-places-requires c κs =
     let ws = s .args .words .now in
     let o = s .args .ordering .now in
     let at = s .args .parent in
-    rw (v .clique-vertices .ensures .1) (
-      (vertices-rise ws o at, λ k l. omega (arith, vertices-below ws o at k l, s .pre .0 .1 .sortable .few, length-replicate {A = ℕ} 256 0), few s at),
-      ap (λ (m : ℕ). replicate m 0) (sym (length-replicate {A = ℕ} 256 0)),
-    )
+    let clear = cleared 256 (verticesHere ws o at) (low s at) in
+    rw (v .clique-vertices .ensures .1) ((vertices-rise ws o at, clear .0, few s at), clear .1)
 
 -- the places of the parent's vertices
 noted : (n : tie.After-note-places) → let a = n .before .before .before .before .before .before .before .before .before .args in Places (verticesHere (a .words .now) (a .ordering .now) (a .parent)) (n .note-places .last .1 .0)
@@ -55,7 +66,7 @@ slice-aggregate-clique-vertices-2 c = search needs
 clique-vertices-requires-2 : tie.Need-clique-vertices-requires-2
 clique-vertices-requires-2 c κs =
     let v = c .before .before .before .before .before .before in
-    (c .before .before .before .before .before .before .before .before .before .before .before .pre .0 .0, omega (arith, v .clique-vertices .kept .1 .1 .1 .0, length-replicate {A = ℕ} 256 0))
+    (c .before .before .before .before .before .before .before .before .before .before .before .pre .0 .0, kept-long 256 (v .clique-vertices .last .1 .1 .1 .0) (v .clique-vertices .kept .1 .1 .1 .0))
 
 array-share-prefix-vertices-2 : tie.Need-array-share-prefix-vertices-2
 array-share-prefix-vertices-2 c = let s = c .before .before .before .before .before .before .before .before .before .before .before .before .before .before in omega (arith, c .before .before .clique-vertices2 .ensures .0, few s (s .args .at))
@@ -77,7 +88,7 @@ code-block-requires c κs =
     let places = n .note-places .last .1 .0 in
     let size : length places ≡ 256 = n .note-places .kept .1 .0 ∙ length-replicate {A = ℕ} 256 0 in
     rw (v .clique-vertices2 .ensures .1) (
-      (vertices-rise ws o (a .at), λ k l. omega (arith, vertices-below ws o (a .at) k l, s .pre .0 .0 .sortable .few), vertices-fit ws o (a .at) (a .base) 65536 (s .pre .1 .0 .0)),
+      (vertices-rise ws o (a .at), rw size (low s (a .at)), vertices-fit ws o (a .at) (a .base) 65536 (s .pre .1 .0 .0)),
       (
         s .pre .1 .0 .1,
         places-climb (verticesHere ws o (a .parent)) places (vertices-rise ws o (a .parent)) (noted n) (few s (a .parent)),
