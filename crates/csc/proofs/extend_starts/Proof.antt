@@ -1,3 +1,4 @@
+use native.Mathlib.Omega.{arith}
 use mathlib.Core.Path.{refl}
 use lib.ListN.{length, replicate, length-replicate}
 use borrow.Author.Needs.{needs}
@@ -12,16 +13,16 @@ copy-numbers-requires : tie.Need-copy-numbers-requires
 copy-numbers-requires c κs = search needs
 
 mul-fill-numbers : tie.Need-mul-fill-numbers
-mul-fill-numbers c = search needs
+mul-fill-numbers c = omega arith
 
 sub-fill-numbers : tie.Need-sub-fill-numbers
-sub-fill-numbers c = search needs
+sub-fill-numbers c = omega arith
 
 part-fill-numbers-start : tie.Need-part-fill-numbers-start
-part-fill-numbers-start c = search needs
+part-fill-numbers-start c = omega arith
 
 part-fill-numbers-end : tie.Need-part-fill-numbers-end
-part-fill-numbers-end c = search needs
+part-fill-numbers-end c = omega arith
 
 nnz-requires : tie.Need-nnz-requires
 nnz-requires c κs = search needs

@@ -10,16 +10,16 @@ copy-values-requires : tie.Need-copy-values-requires
 copy-values-requires c κs = search needs
 
 mul-fill-values : tie.Need-mul-fill-values
-mul-fill-values c = search needs
+mul-fill-values c = omega arith
 
 sub-fill-values : tie.Need-sub-fill-values
-sub-fill-values c = search needs
+sub-fill-values c = omega arith
 
 part-fill-values-start : tie.Need-part-fill-values-start
-part-fill-values-start c = search needs
+part-fill-values-start c = omega arith
 
 part-fill-values-end : tie.Need-part-fill-values-end
-part-fill-values-end c = search needs
+part-fill-values-end c = omega arith
 
 fill-values-requires : tie.Need-fill-values-requires
 fill-values-requires c κs = search needs

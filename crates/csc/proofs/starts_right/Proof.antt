@@ -22,13 +22,13 @@ begun : (c : tie.Else2) → eqb (getD (c .before .before .before .before .before
 begun c = eq-eqb _ _ (begin (c .before) ∙ c .if2 .left)
 
 add-if1 : tie.Need-add-if1
-add-if1 c = search needs
+add-if1 c = omega arith
 
 returns : tie.Need-returns
 returns c = let a = c .before .before .before .before .args in rw (ne-eqb (length (a .starts .now)) (suc (a .n)) (λ e. c .if1 .taken (e ∙ sym (add-one (a .n)))))
 
 shared-slice-read-if2 : tie.Need-shared-slice-read-if2
-shared-slice-read-if2 c = search needs
+shared-slice-read-if2 c = omega arith
 
 returns-2 : tie.Need-returns-2
 returns-2 c =
@@ -42,10 +42,10 @@ returns-3 : tie.Need-returns-3
 returns-3 c = rw (counted (c .before .before .before .before), begun (c .before .before), sym (c .before .never-falls .ensures) ∙ not-true _ (c .if3 .taken))
 
 mul-if4 : tie.Need-mul-if4
-mul-if4 c = search needs
+mul-if4 c = omega arith
 
 shared-slice-read-if4 : tie.Need-shared-slice-read-if4
-shared-slice-read-if4 c = search needs
+shared-slice-read-if4 c = omega arith
 
 cast-if4 : tie.Need-cast-if4
 cast-if4 c = omega (arith, c .shared-slice-known5 .given (c .before .before .before .before .before .before .before .before .before .args .n))

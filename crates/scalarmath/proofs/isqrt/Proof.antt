@@ -46,13 +46,13 @@ loop-holds : tie.Need-loop-holds Inv-loop μ-loop
 loop-holds c = (first c .0, first c .1, first c .2, refl)
 
 add-r : tie.Need-add-r Inv-loop μ-loop
-add-r c = search needs
+add-r c = omega arith
 
 div-q-2 : tie.Need-div-q-2 Inv-loop μ-loop
 div-q-2 c = next-positive c
 
 loop-less : tie.Need-loop-less Inv-loop μ-loop
-loop-less c = search needs
+loop-less c = omega arith
 
 loop-again : tie.Need-loop-again Inv-loop μ-loop
 loop-again c = (next-positive c, omega arith, next-reaches c, refl)

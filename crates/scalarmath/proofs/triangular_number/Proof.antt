@@ -9,7 +9,7 @@ square : (k : ℕ) → k ≤ 65535 → k * (k + 1) ≤ 65535 * 65536
 square k h = mul-le-mul {n₂ = 65535} {m₂ = 65536} h (omega arith)
 
 add-result : tie.Need-add-result
-add-result c = search needs
+add-result c = omega arith
 
 mul-result : tie.Need-mul-result
 mul-result c = omega (arith, square (c .args .k) (omega arith))

@@ -14,10 +14,10 @@ positive : (c : tie.After-isqrt) → 0 < c .isqrt .result
 positive c = reaches-positive (8 * c .before .args .index + 1) (c .isqrt .result) (omega arith) (c .isqrt .ensures .1)
 
 mul-isqrt : tie.Need-mul-isqrt
-mul-isqrt c = search needs
+mul-isqrt c = omega arith
 
 add-isqrt : tie.Need-add-isqrt
-add-isqrt c = search needs
+add-isqrt c = omega arith
 
 isqrt-requires : tie.Need-isqrt-requires
 isqrt-requires c κs = search needs

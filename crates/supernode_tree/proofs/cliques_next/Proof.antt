@@ -1,9 +1,9 @@
+use native.Mathlib.Omega.{arith}
 use mathlib.Core.Path.{_≡_, refl, sym, _∙_}
 use lib.ListN.{drop}
 use Rattle.layout.specs.Patterns.{readCliques}
 use Rattle.supernode_tree.specs.Reads.{Whole, rest}
 use Rattle.supernode_tree.proofs.Cliques.{first-whole, whole-next, rest-next, rest-none}
-use borrow.Author.Needs.{needs}
 use Rattle.supernode_tree.proofs.cliques_next.Statement.{statement}
 use Rattle.supernode_tree.proofs.cliques_next.Tie as tie
 
@@ -22,10 +22,10 @@ here-requires c κs =
     first-whole (l .before .before .args .words .now) (l .loop .at) (l .loop .left) (c .loop-test .taken) (l .loop .inv .0)
 
 sub-left : tie.Need-sub-left Inv-loop μ-loop
-sub-left c = search needs
+sub-left c = omega arith
 
 loop-less : tie.Need-loop-less Inv-loop μ-loop
-loop-less c = search needs
+loop-less c = omega arith
 
 loop-again : tie.Need-loop-again Inv-loop μ-loop
 loop-again c =

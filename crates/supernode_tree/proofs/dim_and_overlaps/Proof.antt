@@ -13,7 +13,6 @@ use Rattle.supernode_tree.proofs.Cliques.{first-whole, whole-next, from
 use Rattle.supernode_tree.specs.Sizes.{atMost, dimOf, overlapsOf}
 use Rattle.supernode_tree.proofs.Sizes.{triangle-small, all-cons, sum-cons, sum-none}
 use native.Mathlib.Omega.{arith}
-use borrow.Author.Needs.{needs}
 use Rattle.supernode_tree.proofs.dim_and_overlaps.Statement.{statement}
 use Rattle.supernode_tree.proofs.dim_and_overlaps.Tie as tie
 
@@ -90,10 +89,10 @@ add-overlaps : tie.Need-add-overlaps Inv-loop μ-loop
 add-overlaps c = omega (arith, separator-rows c)
 
 sub-left : tie.Need-sub-left Inv-loop μ-loop
-sub-left c = search needs
+sub-left c = omega arith
 
 loop-less : tie.Need-loop-less Inv-loop μ-loop
-loop-less c = search needs
+loop-less c = omega arith
 
 loop-again : tie.Need-loop-again Inv-loop μ-loop
 loop-again c =

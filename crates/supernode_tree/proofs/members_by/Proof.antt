@@ -8,7 +8,6 @@ use Rattle.supernode_tree.proofs.Many.{many-length}
 use Rattle.supernode_tree.proofs.Cliques.{first-whole, members-part}
 use Rattle.supernode_tree.proofs.Offsets.{after, whole-front, after-whole, after-more, after-clique}
 use native.Mathlib.Omega.{arith}
-use borrow.Author.Needs.{needs}
 use Rattle.supernode_tree.proofs.members_by.Statement.{statement}
 use Rattle.supernode_tree.proofs.members_by.Tie as tie
 
@@ -31,7 +30,7 @@ returns c =
     (ap members (sym (List·getD-eq-default cs noClique {n = s .args .c} (omega arith))), omega arith, omega arith)
 
 div-i : tie.Need-div-i
-div-i c = search needs
+div-i c = omega arith
 
 cast-cliques-next : tie.Need-cast-cliques-next
 cast-cliques-next c = omega (arith, div-le-self (c .before .before .before .args .c) (c .before .before .before .args .step))

@@ -5,7 +5,6 @@ use native.Mathlib.Nat.{zero-mul}
 use mathlib.Core.Path.{_≡_, refl, sym, ap, _∙_}
 use Rattle.supernode_tree.proofs.Offsets.{after, Written, written-more, written-all, more-steps, inside, whole-front, after-whole, after-more}
 use native.Mathlib.Omega.{arith}
-use borrow.Author.Needs.{needs}
 use Rattle.supernode_tree.proofs.offsets_every.Statement.{statement}
 use Rattle.supernode_tree.proofs.offsets_every.Tie as tie
 
@@ -47,13 +46,13 @@ cliques-next-requires c κs =
     whole-front (l .before .before .before .args .words .now) (l .loop .at) (l .before .before .before .args .step) (l .loop .left) (omega arith) (whole-left l)
 
 sub-left : tie.Need-sub-left Inv-loop μ-loop
-sub-left c = search needs
+sub-left c = omega arith
 
 add-i : tie.Need-add-i Inv-loop μ-loop
 add-i c = omega (arith, inside-out (c .before .before) (omega arith))
 
 loop-less : tie.Need-loop-less Inv-loop μ-loop
-loop-less c = search needs
+loop-less c = omega arith
 
 loop-again : tie.Need-loop-again Inv-loop μ-loop
 loop-again c =

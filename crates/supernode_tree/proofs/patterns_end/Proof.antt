@@ -1,3 +1,4 @@
+use native.Mathlib.Omega.{arith}
 use Rattle.supernode_tree.proofs.Many.{ended-ends, ended-short, ended-next, ended-none}
 use Rattle.supernode_tree.proofs.Words.{ends-at}
 use Rattle.supernode_tree.specs.Reads.{endRead, ended}
@@ -35,10 +36,10 @@ returns c =
     (sym (c .before .before .pattern-end .ensures)) (ap (endRead ws) (c .enum-told .given .1))) ∙ l .loop .inv) ∙ ended-ends (readPatterns (s .args .count) ws)
 
 sub-left : tie.Need-sub-left Inv-loop μ-loop
-sub-left c = search needs
+sub-left c = omega arith
 
 loop-less : tie.Need-loop-less Inv-loop μ-loop
-loop-less c = search needs
+loop-less c = omega arith
 
 loop-again : tie.Need-loop-again Inv-loop μ-loop
 loop-again c =

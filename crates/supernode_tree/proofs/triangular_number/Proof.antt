@@ -6,7 +6,7 @@ use Rattle.supernode_tree.proofs.triangular_number.Statement.{statement
 use Rattle.supernode_tree.proofs.triangular_number.Tie as tie
 
 add-result : tie.Need-add-result
-add-result c = search needs
+add-result c = omega arith
 
 mul-result : tie.Need-mul-result
 mul-result c = let h : c .args .k * (c .args .k + 1) ≤ 256 * 257 = mul-le-mul {n₂ = 256} {m₂ = 257} (omega arith) (omega arith) in omega arith

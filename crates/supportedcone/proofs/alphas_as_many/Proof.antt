@@ -46,16 +46,16 @@ loop-holds : tie.Need-loop-holds Inv-loop μ-loop
 loop-holds c = search needs
 
 mul-read-with-alpha : tie.Need-mul-read-with-alpha Inv-loop μ-loop
-mul-read-with-alpha c = search needs
+mul-read-with-alpha c = omega arith
 
 sub-read-with-alpha : tie.Need-sub-read-with-alpha Inv-loop μ-loop
-sub-read-with-alpha c = search needs
+sub-read-with-alpha c = omega arith
 
 part-read-with-alpha-start : tie.Need-part-read-with-alpha-start Inv-loop μ-loop
-part-read-with-alpha-start c = search needs
+part-read-with-alpha-start c = omega arith
 
 part-read-with-alpha-end : tie.Need-part-read-with-alpha-end Inv-loop μ-loop
-part-read-with-alpha-end c = search needs
+part-read-with-alpha-end c = omega arith
 
 read-with-alpha-requires : tie.Need-read-with-alpha-requires Inv-loop μ-loop
 read-with-alpha-requires c κs = search needs
@@ -87,10 +87,10 @@ add-next : tie.Need-add-next Inv-loop μ-loop
 add-next c = omega (arith, counted c)
 
 add-i : tie.Need-add-i Inv-loop μ-loop
-add-i c = search needs
+add-i c = omega arith
 
 loop-less : tie.Need-loop-less Inv-loop μ-loop
-loop-less c = search needs
+loop-less c = omega arith
 
 loop-again : tie.Need-loop-again Inv-loop μ-loop
 loop-again c =

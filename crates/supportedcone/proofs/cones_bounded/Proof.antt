@@ -78,10 +78,10 @@ returns-2 c =
     sym (l .loop .inv .1 ∙ all-fails sizesBounded (records ws) (l .loop .i) noCone (omega arith) (sym (tested (c .before)) ∙ not-true _ (c .if2 .taken)))
 
 add-i : tie.Need-add-i Inv-loop μ-loop
-add-i c = search needs
+add-i c = omega arith
 
 loop-less : tie.Need-loop-less Inv-loop μ-loop
-loop-less c = search needs
+loop-less c = omega arith
 
 loop-again : tie.Need-loop-again Inv-loop μ-loop
 loop-again c =

@@ -38,7 +38,7 @@ counted c =
     c .alpha-count .ensures ∙ ap alphaCount (told-is (k .before .cone .given .0 .0) (recordAt (s .args .cones .now) (s .args .i)) (j .if1 .alpha) (is-told k) .1)
 
 shared-slice-read-alpha : tie.Need-shared-slice-read-alpha
-shared-slice-read-alpha c = search needs
+shared-slice-read-alpha c = omega arith
 
 cone-at-requires : tie.Need-cone-at-requires
 cone-at-requires c κs = search needs
@@ -60,7 +60,7 @@ alpha-count-requires : tie.Need-alpha-count-requires
 alpha-count-requires c κs = search needs
 
 cast-if2 : tie.Need-cast-if2
-cast-if2 c = search needs
+cast-if2 c = omega arith
 
 returns-2 : tie.Need-returns-2
 returns-2 c =

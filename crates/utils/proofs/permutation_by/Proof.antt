@@ -73,10 +73,10 @@ returns-3 c =
     (window-more (l .loop .low) (length (l .loop .marks)) ws (l .loop .inv .2) (passes _ (sym (once m) ∙ not-false _ (c .before .if2 .left)))))
 
 add-low : tie.Need-add-low Inv-loop μ-loop
-add-low c = search needs
+add-low c = omega arith
 
 loop-less : tie.Need-loop-less Inv-loop μ-loop
-loop-less c = search needs
+loop-less c = omega arith
 
 loop-again : tie.Need-loop-again Inv-loop μ-loop
 loop-again c =

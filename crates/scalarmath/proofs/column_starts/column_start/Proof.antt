@@ -15,10 +15,10 @@ by-rule : (starts : List ℕ) → starts ≡ map triangle (below 256) → (j : �
 by-rule starts all j small = ap (λ (l : List ℕ). getD l j 0) all ∙ getD-map triangle (below 256) j 0 0 (omega (arith, length-below 256)) ∙ ap triangle (getD-below 256 j 0 (omega arith))
 
 mul-result : tie.Need-mul-result
-mul-result c = search needs
+mul-result c = omega arith
 
 array-read-result : tie.Need-array-read-result
-array-read-result c = search needs
+array-read-result c = omega arith
 
 returns : tie.Need-returns
 returns c = by-rule _ refl (c .args .j) (search needs)
