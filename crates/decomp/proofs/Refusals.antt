@@ -7,7 +7,7 @@ use lib.ListN.{length}
 use Rattle.layout.specs.Lists.{written}
 use Rattle.layout.specs.Problem.{Problem, Route}
 use Rattle.layout.specs.Blocks.{blockRowCount, overlapCount, coneCount}
-use Rattle.layout.specs.Checks.{layout, check8, check9, check10, firstFailing, refusal}
+use Rattle.layout.specs.Checks.{layout, check8, check10, firstFailing, refusal}
 use Rattle.layout.specs.Answers.{orElse, roomRefusal, routeOf, onRoute, problemRefusal, sizesRefusal, sizes}
 use Rattle.checks.proofs.Order.{problem-then-route, first-given}
 use Rattle.chordal_info.specs.Sizes.{Fitting, routeSizes}

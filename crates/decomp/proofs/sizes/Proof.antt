@@ -12,7 +12,6 @@ use Rattle.layout.specs.Problem.{Problem, problem}
 use Rattle.layout.specs.Checks.{Checked, columnRows, refusal}
 use Rattle.layout.specs.Answers.{problemRefusal, routeOf}
 use Rattle.layout.proofs.Tests.{and-iff}
-use Rattle.layout.proofs.Accepted.{accepted-checked}
 use Rattle.layout.proofs.Buffers.{output-kept}
 use Rattle.checks.proofs.Checked.{problem-checked}
 use Rattle.decomp.proofs.Answers.{no-route, few-alphas}
