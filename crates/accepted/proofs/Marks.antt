@@ -24,12 +24,6 @@ beq-differ true false e q = differ true refl q
 beq-differ false true e q = differ false q refl
 beq-differ false false e q = differ true refl e
 
--- no mark is set
-pub clear-all : (k v : ℕ) → getD (replicate k false) v false ≡ false
-clear-all zero v = refl
-clear-all (suc k) zero = refl
-clear-all (suc k) (suc v) = clear-all k v
-
 pub met-start : (n : ℕ) (marks : List Bool) → AllClear marks → Met true n marks []
 met-start n marks a = record { marked = λ v h. a v; later = λ v h. a v; once = tt; below = tt }
 

@@ -16,15 +16,6 @@ use Rattle.layout.proofs.Tests.{and-iff, leb-iff}
 use Rattle.layout.proofs.Sizes.{compact-sizes, standard-sizes}
 use Rattle.chordal_info.specs.Sizes.{rowsFit, outputLengths, routeSizes}
 
--- ---- a route's number
-
-pub route-standard : (r : ℕ) → r ≡ 0 → routeOf r ≡ standard
-route-standard r e = ap routeOf e
-
-pub route-compact : (r : ℕ) → (r ≡ 0 → ⊥) → routeOf r ≡ compact
-route-compact zero h = absurd (h refl)
-route-compact (suc r) h = refl
-
 -- ---- check 10 and the sizes of a problem
 
 pub rows-fit : (route : Route) (m : ℕ) (ps : List Part) → rowsFit route m (blockRowCount ps) (overlapCount ps) ≡ check10 route m ps

@@ -17,7 +17,7 @@ use Rattle.supernode_tree.specs.Reads.{Whole, cliquesFrom, cliqueOf, cliqueRead
 use Rattle.supernode_tree.specs.declared.Clique.{Clique as CliqueAt}
 use Rattle.supernode_tree.specs.declared.CliqueRead.the-variants.{Clique as Found}
 use Rattle.supernode_tree.proofs.Words.{length-part}
-use Rattle.supernode_tree.proofs.Cliques.{whole-next, from-next, from-none}
+use Rattle.supernode_tree.proofs.Cliques.{whole-next, from-next, from-none, snode-size}
 use Rattle.clique_tree.specs.Trees.{snodesOf, fills, snodesFill, snodesOk}
 
 -- a repeat in the front is a repeat
@@ -41,9 +41,6 @@ module _ (n : ℕ) (ws : List ℕ) (first count total at left : ℕ) (k : Counti
     first-is : cliquesFrom ws at left ≡ cliqueOf ws q ∷ cliquesFrom ws (q .next) (left - 1)
     first-is = from-next ws at left (Found q) e more q refl (k .stand)
 
-    many : length (cliqueOf ws q .snode) ≡ q .«snode_count»
-    many = length-part (q .snode) (q .«snode_count») ws (omega arith)
-
     cases : (fills n (cliqueOf ws q) ≡ false → all (fills n) (cliquesFrom ws first count) ≡ false)
         × (fills n (cliqueOf ws q) ≡ true → all (fills n) (cliquesFrom ws first count) ≡ all (fills n) (cliquesFrom ws (q .next) (left - 1)))
     cases = and-cases (fills n (cliqueOf ws q)) (all (fills n) (cliquesFrom ws (q .next) (left - 1))) _ (k .full ∙ ap (all (fills n)) first-is)
@@ -52,10 +49,10 @@ module _ (n : ℕ) (ws : List ℕ) (first count total at left : ℕ) (k : Counti
     stops z = sym (and-false _ _ (cases .0 z))
 
     some : (q .«snode_count» ≡ 0 → ⊥) → not (eqb (length (cliqueOf ws q .snode)) 0) ≡ true
-    some h = ap (λ (m : ℕ). not (eqb m 0)) many ∙ ap not (ne-eqb (q .«snode_count») 0 h)
+    some h = ap (λ (m : ℕ). not (eqb m 0)) (snode-size ws at q i) ∙ ap not (ne-eqb (q .«snode_count») 0 h)
 
     pub counting-empty : q .«snode_count» ≡ 0 → false ≡ snodesFill n (cliquesFrom ws first count)
-    counting-empty z = stops (and-false _ _ (ap (λ (m : ℕ). not (eqb m 0)) (many ∙ z)))
+    counting-empty z = stops (and-false _ _ (ap (λ (m : ℕ). not (eqb m 0)) ((snode-size ws at q i) ∙ z)))
 
     pub counting-above : all (λ x. ltb x n) (cliqueOf ws q .snode) ≡ false → false ≡ snodesFill n (cliquesFrom ws first count)
     counting-above z = stops (and-right (not (eqb (length (cliqueOf ws q .snode)) 0)) _ z)
@@ -68,7 +65,7 @@ module _ (n : ℕ) (ws : List ℕ) (first count total at left : ℕ) (k : Counti
     counting-goes h b = record {
       stand = sym (whole-next ws at left (Found q) e more q refl) ∙ k .stand;
       full = cases .1 (and-true _ _ (some h) ∙ b);
-      sum = omega (arith, k .sum, ap (λ (cs : List Clique). length (snodesOf cs)) first-is, length-append (cliqueOf ws q .snode) (snodesOf (cliquesFrom ws (q .next) (left - 1))), many);
+      sum = omega (arith, k .sum, ap (λ (cs : List Clique). length (snodesOf cs)) first-is, length-append (cliqueOf ws q .snode) (snodesOf (cliquesFrom ws (q .next) (left - 1))), (snode-size ws at q i));
       low = omega (arith, k .low);
     }
 

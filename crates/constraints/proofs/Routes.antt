@@ -9,13 +9,6 @@ use Rattle.layout.specs.Checks.{layout}
 use Rattle.layout.specs.Answers.{Augmented, augmented, routeOf, addedCount, slackCount}
 use Rattle.augment_standard.specs.Constraints.{Accepted}
 
-pub route-zero : {j : ℕ} → j ≡ 0 → routeOf j ≡ standard
-route-zero e = ap routeOf e
-
-pub route-other : (j : ℕ) → (j ≡ 0 → ⊥) → routeOf j ≡ compact
-route-other zero other = absurd (other refl)
-route-other (suc j) other = refl
-
 -- the columns that a route adds
 pub added-on : (ps : List Part) {route other : Route} → route ≡ other → addedCount other ps ≡ addedCount route ps
 added-on ps e = ap (λ (r : Route). addedCount r ps) (sym e)

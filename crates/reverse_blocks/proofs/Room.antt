@@ -38,12 +38,6 @@ begins a k n h = le-trans (le-add-right a k) h
 
 -- ---- a loop's count
 
-pub next-le : {i n : ℕ} → i < n → i + 1 ≤ n
-next-le h = omega arith
-
-pub left-less : {i n : ℕ} → i < n → n - (i + 1) < n - i
-left-less h = omega arith
-
 pub count-ends : {i n : ℕ} → i ≤ n → n ≤ i → i ≡ n
 count-ends h l = omega arith
 

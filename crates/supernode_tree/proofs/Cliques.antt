@@ -48,6 +48,10 @@ first-whole ws at k more w = some-whole readClique k (drop at ws) more w
 pub from-none : (ws : List ℕ) (at k : ℕ) → k ≤ 0 → cliquesFrom ws at k ≡ []
 from-none ws at k h = let e : k ≡ 0 = omega arith in ap (λ (n : ℕ). cliquesFrom ws at n) e
 
+-- members start before they end
+pub starts-before : {a n : ℕ} (b : ℕ) → n ≡ a + b → a ≤ n
+starts-before b e = omega arith
+
 -- the parts of a found clique as parts between offsets
 module _ (ws : List ℕ) (at : ℕ) (q : CliqueAt) (in-words : CliqueInside (length ws) at (Found q)) where
   pub snode-part : take (q .separator - q .snode) (drop (q .snode) ws) ≡ cliqueOf ws q .snode
@@ -59,11 +63,14 @@ module _ (ws : List ℕ) (at : ℕ) (q : CliqueAt) (in-words : CliqueInside (len
   pub members-part : take (q .next - q .snode) (drop (q .snode) ws) ≡ members (cliqueOf ws q)
   members-part = sym (part-part ws (q .snode) (q .separator) (q .next) (omega arith) (omega arith)) ∙ rw (snode-part, separator-part)
 
+  pub snode-size : length (cliqueOf ws q .snode) ≡ q .«snode_count»
+  snode-size = length-part (q .snode) (q .«snode_count») ws (omega arith)
+
   pub separator-size : length (cliqueOf ws q .separator) ≡ q .«separator_count»
   separator-size = length-part (q .separator) (q .«separator_count») ws (omega arith)
 
   pub block-size : blockSize (cliqueOf ws q) ≡ q .«snode_count» + q .«separator_count»
-  block-size = omega (arith, length-part (q .snode) (q .«snode_count») ws (omega arith), separator-size)
+  block-size = omega (arith, snode-size, separator-size)
 
 -- ---- the pattern at an offset by its head and its cliques
 

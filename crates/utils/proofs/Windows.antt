@@ -68,13 +68,14 @@ or-true : (a b : Bool) → b ≡ true → (a || b) ≡ true
 or-true true b e = refl
 or-true false b e = e
 
+-- no mark is set
+pub clear-all : (k v : ℕ) → getD (replicate k false) v false ≡ false
+clear-all zero v = refl
+clear-all (suc k) zero = refl
+clear-all (suc k) (suc v) = clear-all k v
+
 pub marked-none : (low n : ℕ) → Marked low (replicate n false) []
-marked-none low n v h = go n v
-  where
-    go : (n v : ℕ) → getD (replicate n false) v false ≡ false
-    go zero v = refl
-    go (suc n) zero = refl
-    go (suc n) (suc v) = go n v
+marked-none low n v h = clear-all n v
 
 -- a number outside of the window
 pub marked-out : (low : ℕ) (marks : List Bool) (l : List ℕ) (x : ℕ)

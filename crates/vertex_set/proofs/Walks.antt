@@ -16,13 +16,6 @@ use Rattle.layout.proofs.Members.{has-cons, has-append, has-getD, all-has}
 use Rattle.layout.proofs.Distinct.{distinct-append}
 use Rattle.vertex_set.specs.OnceIn.{onceIn}
 
--- one of n more is walked
-pub one-more : {i n : ℕ} → i < n → i + 1 ≤ n
-one-more h = omega arith
-
-pub one-less : {i n : ℕ} → i < n → n - (i + 1) < n - i
-one-less h = omega arith
-
 pub has-step : (x : ℕ) (b : List ℕ) (k : ℕ) → k < length b → (x ≡ getD b k 0 → ⊥) → has x (drop k b) ≡ has x (drop (k + 1) b)
 has-step x b k h n = rw (add-one, drop-cons b k 0, ne-eqb x (getD b k 0) n)
 

@@ -5,8 +5,8 @@ use mathlib.Core.Path.{_≡_, refl, sym, _∙_}
 use lib.ListN.{length}
 use borrow.Author.Tests.{eqb-true}
 use Rattle.layout.proofs.Tests.{differ}
+use Rattle.utils.proofs.Windows.{clear-all}
 use Rattle.accepted.specs.Accepted.{AllClear, PatternHolds}
-use Rattle.accepted.proofs.Marks.{clear-all}
 use Rattle.accepted.proofs.Patterns.{Going, Bounded, going-start, going-on, going-done, bounded-start, bounded-more, bounded-done, fits-all}
 use Rattle.accepted.proofs.patterns_hold.Statement.{statement}
 use Rattle.accepted.proofs.patterns_hold.Tie as tie

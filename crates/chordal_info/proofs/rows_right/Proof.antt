@@ -2,8 +2,9 @@ use mathlib.Core.Path.{sym, ap, _∙_}
 use borrow.Author.Tests.{le-leb}
 use Rattle.layout.specs.Problem.{Route}
 use Rattle.layout.specs.Answers.{routeOf}
+use Rattle.layout.proofs.Routes.{route-standard, route-compact}
 use Rattle.chordal_info.specs.Sizes.{rowsFit}
-use Rattle.chordal_info.proofs.Sizes.{route-standard, route-compact, rows-many}
+use Rattle.chordal_info.proofs.Sizes.{rows-many}
 use borrow.Author.Needs.{needs}
 use Rattle.chordal_info.proofs.rows_right.Statement.{statement}
 use Rattle.chordal_info.proofs.rows_right.Tie as tie

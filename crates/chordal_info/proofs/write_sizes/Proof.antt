@@ -7,8 +7,9 @@ use Rattle.layout.specs.Lists.{written}
 use Rattle.layout.specs.Problem.{Route}
 use Rattle.layout.specs.Answers.{routeOf}
 use Rattle.layout.proofs.Tests.{leb-iff}
+use Rattle.layout.proofs.Routes.{route-standard, route-compact}
 use Rattle.chordal_info.specs.Sizes.{rowsFit, outputLengths, routeSizes}
-use Rattle.chordal_info.proofs.Sizes.{route-standard, route-compact, rows-few, lengths-standard, lengths-compact, lengths-listed}
+use Rattle.chordal_info.proofs.Sizes.{rows-few, lengths-standard, lengths-compact, lengths-listed}
 use native.Mathlib.Omega.{arith}
 use borrow.Author.Needs.{needs}
 use Rattle.chordal_info.proofs.write_sizes.Statement.{statement}

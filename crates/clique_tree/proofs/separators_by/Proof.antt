@@ -8,7 +8,7 @@ use borrow.Author.Tests.{not-true, not-false}
 use Rattle.layout.specs.Lists.{all}
 use Rattle.layout.specs.Patterns.{Clique, noClique, members}
 use Rattle.supernode_tree.specs.Reads.{Whole, cliquesFrom, cliqueOf}
-use Rattle.supernode_tree.proofs.Cliques.{first-whole, whole-next, from-none, separator-part, clique-stops, clique-goes}
+use Rattle.supernode_tree.proofs.Cliques.{first-whole, whole-next, from-none, separator-part, clique-stops, clique-goes, starts-before}
 use Rattle.vertex_set.specs.OnceIn.{onceIn}
 use Rattle.clique_tree.specs.Trees.{separatorOk}
 use native.Mathlib.Omega.{arith}
@@ -45,9 +45,6 @@ looked c =
     c .separator-right .ensures
     ∙ ap (λ (ms : List ℕ). onceIn ms (take (q .next - q .separator) (drop (q .separator) ws))) (c .before .before .members-by .ensures .0)
     ∙ ap (onceIn (members (getD (cliquesFrom ws (s .args .first) (s .args .count)) (q .parent) noClique))) (separator-part ws (l .loop .at) q inside)
-
-starts-before : {a n : ℕ} (b : ℕ) → n ≡ a + b → a ≤ n
-starts-before b e = omega arith
 
 loop-holds : tie.Need-loop-holds Inv-loop μ-loop
 loop-holds c = (c .before .before .before .pre .0, refl, refl)

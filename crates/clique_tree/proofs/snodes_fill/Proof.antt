@@ -9,7 +9,7 @@ use mir.Val.{Fits}
 use borrow.Author.Tests.{not-true, not-false}
 use Rattle.layout.specs.Lists.{all}
 use Rattle.supernode_tree.specs.Reads.{cliqueOf}
-use Rattle.supernode_tree.proofs.Cliques.{first-whole, snode-part}
+use Rattle.supernode_tree.proofs.Cliques.{first-whole, snode-part, starts-before}
 use Rattle.clique_tree.proofs.Snodes.{Counting, counting-start, counting-empty, counting-above, counting-fits, counting-goes, counting-done}
 use Rattle.clique_tree.proofs.snodes_fill.Statement.{statement}
 use Rattle.clique_tree.proofs.snodes_fill.Tie as tie
@@ -21,9 +21,6 @@ abbrev μ-loop : tie.MeasureT-loop
 μ-loop words first count n total₀ at₀ left₀ total at left = left
 
 -- a snode stands within the words
-starts-before : {a n : ℕ} (b : ℕ) → n ≡ a + b → a ≤ n
-starts-before b e = omega arith
-
 ends : (c : tie.Else1 Inv-loop μ-loop) → let q = c .before .before .here .result in
     (q .snode ≤ q .separator) × (q .separator ≤ length (c .before .before .before .before .before .before .args .words .now))
 ends c = let i = c .before .before .here .ensures .1 in (starts-before _ (i .1), le-trans (starts-before _ (i .2)) (i .3))

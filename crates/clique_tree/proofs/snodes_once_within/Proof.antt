@@ -1,6 +1,6 @@
 use Rattle.clique_tree.specs.Trees.{snodesOf}
 use Rattle.layout.proofs.Tests.{passes, passed}
-use Rattle.supernode_tree.proofs.Cliques.{first-whole, whole-next, from-next, from-none, snode-part}
+use Rattle.supernode_tree.proofs.Cliques.{first-whole, whole-next, from-next, from-none, snode-part, starts-before}
 use Rattle.clique_tree.proofs.Snodes.{repeats-front}
 use Rattle.utils.proofs.Windows.{marked-none}
 use Rattle.utils.specs.Windows.{within, Marked}
@@ -66,9 +66,6 @@ stepped c =
     )
 
 -- a snode stands within the words
-starts-before : {a n : ℕ} (b : ℕ) → n ≡ a + b → a ≤ n
-starts-before b e = omega arith
-
 ends : (s : tie.Start Inv-loop μ-loop) (q : CliqueAt) (at : ℕ) → CliqueInside (length (s .args .words .now)) at (Found q) → (q .snode ≤ q .separator) × (q .separator ≤ length (s .args .words .now))
 ends s q at i = (starts-before _ (i .1), le-trans (starts-before _ (i .2)) (i .3))
 

@@ -1,6 +1,7 @@
 use mathlib.Core.Path.{_∙_}
 use Rattle.layout.specs.Answers.{joinedParts}
-use Rattle.constraints.proofs.Routes.{route-zero, route-other, added-on}
+use Rattle.layout.proofs.Routes.{route-standard, route-compact}
+use Rattle.constraints.proofs.Routes.{added-on}
 use Rattle.constraints.proofs.count_added.Statement.{statement}
 use Rattle.constraints.proofs.count_added.Tie as tie
 
@@ -11,13 +12,13 @@ returns : tie.Need-returns
 returns c =
     let a = c .before .before .before .before .args in
     let g = c .before .get-decomposed-dim-and-overlaps .ensures in
-    (g .0, g .0 ∙ added-on (joinedParts (a .cones .now) (a .count) (a .words .now)) (route-zero (c .if1 .taken)))
+    (g .0, g .0 ∙ added-on (joinedParts (a .cones .now) (a .count) (a .words .now)) (route-standard _ (c .if1 .taken)))
 
 returns-2 : tie.Need-returns-2
 returns-2 c =
     let a = c .before .before .before .before .args in
     let g = c .before .get-decomposed-dim-and-overlaps .ensures in
-    (g .0, g .1 .0 ∙ added-on (joinedParts (a .cones .now) (a .count) (a .words .now)) (route-other (a .route) (c .if1 .left)))
+    (g .0, g .1 .0 ∙ added-on (joinedParts (a .cones .now) (a .count) (a .words .now)) (route-compact (a .route) (c .if1 .left)))
 
 pub count-added-spec : {M : Type 1} → statement M
 count-added-spec = tie.close (tie.spec get-decomposed-dim-and-overlaps-requires returns returns-2)

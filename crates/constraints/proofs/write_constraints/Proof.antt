@@ -2,9 +2,10 @@ use mathlib.Core.Path.{_≡_, refl}
 use lib.ListN.{length}
 use Rattle.layout.specs.Problem.{Problem, Route, standard, compact}
 use Rattle.layout.specs.Answers.{routeOf}
+use Rattle.layout.proofs.Routes.{route-standard, route-compact}
 use Rattle.augment_standard.specs.Constraints.{constraints}
 use Rattle.augment_standard.proofs.Constraints.{renamed, sound}
-use Rattle.constraints.proofs.Routes.{route-zero, route-other, Asked, asked-on, cut-on, room-standard, room-compact}
+use Rattle.constraints.proofs.Routes.{Asked, asked-on, cut-on, room-standard, room-compact}
 use Rattle.constraints.proofs.write_constraints.Statement.{statement}
 use Rattle.constraints.proofs.write_constraints.Tie as tie
 
@@ -21,7 +22,7 @@ asked s e = asked-on (given s) _ _ _ _ _ _ _ _ e (s .pre)
 
 decomp-augment-standard-requires : tie.Need-decomp-augment-standard-requires
 decomp-augment-standard-requires c κs =
-    let h = asked (c .before .before .before .before .before .before .before .before .before .before .before .before .before .before .before .before .before .before) (route-zero (c .before .before .before .before .before .if1 .taken)) in
+    let h = asked (c .before .before .before .before .before .before .before .before .before .before .before .before .before .before .before .before .before .before) (route-standard _ (c .before .before .before .before .before .if1 .taken)) in
     let room = h .1 .1 in
     (h .0, (h .1 .0 .1, (room .0, room .1, room .2, room-standard _ _ (h .1 .0 .1) (room .3), room .4)))
 
@@ -45,7 +46,7 @@ returns c =
     let s = c .before .before .before .before .before .before .before .before .before .before .before .before .before .before .before .before .before .before .before .before .before .before .before .before .before .before .before .before .before in
     let a = s .args in
     let p = given s in
-    let e = route-zero (c .before .before .before .before .before .before .before .before .before .before .before .before .before .before .before .before .if1 .taken) in
+    let e = route-standard _ (c .before .before .before .before .before .before .before .before .before .before .before .before .before .before .before .before .if1 .taken) in
     let w = c .before .before .before .before .before .before .before .before .before .before .decomp-augment-standard .ensures in (
       renamed (a .a-starts-out .now) (cut-on p (λ x. x .A .starts) e) (w .0),
       (
@@ -63,14 +64,14 @@ returns c =
 decomp-augment-compact-requires : tie.Need-decomp-augment-compact-requires
 decomp-augment-compact-requires c κs =
     let s = c .before .before .before .before .before .before .before .before .before .before .before .before .before .before .before .before .before .before in
-    let h = asked s (route-other (s .args .route) (c .before .before .before .before .before .if1 .left)) in
+    let h = asked s (route-compact (s .args .route) (c .before .before .before .before .before .if1 .left)) in
     let room = h .1 .1 in
     (h .0, (h .1 .0, (room .0, room .1, room .2, room-compact _ (h .1 .0 .0) (room .3), room .4)))
 
 write-table-requires : tie.Need-write-table-requires
 write-table-requires c κs =
     let s = c .before .before .before .before .before .before .before .before .before .before .before .before .before .before .before .before .before .before .before .before .before .before .before .before .before .before .before .before .before .before in
-    let h = asked s (route-other (s .args .route) (c .before .before .before .before .before .before .before .before .before .before .before .before .before .before .before .before .before .if1 .left)) in
+    let h = asked s (route-compact (s .args .route) (c .before .before .before .before .before .before .before .before .before .before .before .before .before .before .before .before .before .if1 .left)) in
     (sound (h .0), (tt, h .1 .1 .5))
 
 same-length-6 : tie.Need-same-length-6
@@ -96,7 +97,7 @@ returns-2 c =
     let s = c .before .before .before .before .before .before .before .before .before .before .before .before .before .before .before .before .before .before .before .before .before .before .before .before .before .before .before .before .before .before .before .before .before in
     let a = s .args in
     let p = given s in
-    let e = route-other (a .route) (c .before .before .before .before .before .before .before .before .before .before .before .before .before .before .before .before .before .before .before .before .if1 .left) in
+    let e = route-compact (a .route) (c .before .before .before .before .before .before .before .before .before .before .before .before .before .before .before .before .before .before .before .before .if1 .left) in
     let w = c .before .before .before .before .before .before .before .before .before .before .before .before .before .before .decomp-augment-compact .ensures in (
       renamed (a .a-starts-out .now) (cut-on p (λ x. x .A .starts) e) (w .0),
       (

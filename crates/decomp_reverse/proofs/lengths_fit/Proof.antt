@@ -1,7 +1,7 @@
 use mathlib.Core.Path.{sym, ap, _∙_}
 use mathlib.Core.Bool.{Bool}
 use Rattle.layout.specs.Problem.{Route}
-use Rattle.chordal_info.proofs.Sizes.{route-standard, route-compact}
+use Rattle.layout.proofs.Routes.{route-standard, route-compact}
 use Rattle.decomp_reverse.specs.Fits.{lengthsFit}
 use borrow.Author.Needs.{needs}
 use Rattle.decomp_reverse.proofs.lengths_fit.Statement.{statement}

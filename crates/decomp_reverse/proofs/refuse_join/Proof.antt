@@ -4,10 +4,10 @@ use mathlib.Core.Bool.{Bool, cond}
 use mathlib.Core.List.{List, [], _∷_}
 use Rattle.layout.specs.Problem.{Route}
 use Rattle.layout.specs.Answers.{routeOf, joinedParts, mapRight}
+use Rattle.layout.proofs.Routes.{route-standard, route-compact}
 use Rattle.checks.specs.Order.{joinedRefusal}
 use Rattle.checks.proofs.Checked.{joined-sound}
 use Rattle.chordal_info.specs.Routes.{Counted}
-use Rattle.chordal_info.proofs.Sizes.{route-standard, route-compact}
 use Rattle.decomp_reverse.specs.Fits.{refusalBy}
 use Rattle.decomp_reverse.proofs.Order.{counted-few, refused-early, refused-counted, by-map}
 use Rattle.decomp_reverse.proofs.refuse_join.Statement.{statement}

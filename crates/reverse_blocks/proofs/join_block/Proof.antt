@@ -7,10 +7,11 @@ use Rattle.layout.specs.Triangle.{triangle}
 use Rattle.layout.specs.Blocks.{pairRow}
 use Rattle.layout.specs.Reverse.{addAt, addColumns}
 use Rattle.layout.proofs.Triangles.{triangle-suc, triangle-mono}
+use Rattle.layout.proofs.Walks.{one-more, one-less}
 use Rattle.blocks.proofs.Columns.{columnsBelow, columns-more, length-more}
 use Rattle.reverse_blocks.specs.Joins.{zAt, joinZ, Counts, Countable, columnRows}
 use Rattle.reverse_blocks.proofs.Laws.{walk-joined, counts-none, counts-joined, countable-left, by-same}
-use Rattle.reverse_blocks.proofs.Room.{same-le, both-kept, next-le, left-less, count-ends, fits-count, fits-next}
+use Rattle.reverse_blocks.proofs.Room.{same-le, both-kept, count-ends, fits-count, fits-next}
 use native.Mathlib.Omega.{arith}
 use Rattle.reverse_blocks.proofs.join_block.Statement.{statement}
 use Rattle.reverse_blocks.proofs.join_block.Tie as tie
@@ -111,7 +112,7 @@ add-j : tie.Need-add-j Inv-loop μ-loop
 add-j c = let i = inside (turn c) in fits-next 4 (i .loop-test .taken) (start (i .before) .good .1 .0)
 
 loop-less : tie.Need-loop-less Inv-loop μ-loop
-loop-less c = left-less (inside (turn c) .loop-test .taken)
+loop-less c = one-less (inside (turn c) .loop-test .taken)
 
 loop-again : tie.Need-loop-again Inv-loop μ-loop
 loop-again c =
@@ -125,7 +126,7 @@ loop-again c =
     let w = k .join-column in
     let next : List ℕ = columnsBelow (pairRow 0) vs (j + 1) in
     let more : done l ++ column l ≡ next = sym (columns-more (pairRow 0) vs j) in (
-      next-le (i .loop-test .taken),
+      one-more (i .loop-test .taken),
       column-next (a .first) t j (l .loop .inv .1),
       sum-as (a .first) t (j + 1) (length (done l)) (length next) (l .loop .inv .2) (length-more (pairRow 0) vs j),
       w .kept .1 .1 .1 .1 .1 .1 .0 ∙ l .loop .inv .3,

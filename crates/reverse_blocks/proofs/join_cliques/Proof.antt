@@ -15,10 +15,11 @@ use Rattle.blocks.specs.Columns.{ColumnsFit}
 use Rattle.blocks.proofs.Cliques.{vertices-rise, vertices-few, vertices-fit}
 use Rattle.blocks.proofs.Orders.{up-more, up-room}
 use Rattle.layout.proofs.Buffers.{take-none}
+use Rattle.layout.proofs.Walks.{one-more, one-less}
 use Rattle.reverse_blocks.specs.Joins.{zAt, joinZ, Counts, Countable, blockRowsOf}
 use Rattle.reverse_standard.specs.Routes.{inOrder}
 use Rattle.reverse_blocks.proofs.Laws.{walk-joined, counts-none, counts-joined, countable-left, length-order, standing-order, by-same}
-use Rattle.reverse_blocks.proofs.Room.{same-le, le-same, lt-same, both-kept, next-le, left-less, fits-next}
+use Rattle.reverse_blocks.proofs.Room.{same-le, le-same, lt-same, both-kept, fits-next}
 use native.Mathlib.Omega.{arith}
 use Rattle.reverse_blocks.proofs.join_cliques.Statement.{statement}
 use Rattle.reverse_blocks.proofs.join_cliques.Tie as tie
@@ -194,7 +195,7 @@ add-i : tie.Need-add-i Inv-loop μ-loop
 add-i c = let i = at-clique (clique (turn c)) in fits-next 8 (i .loop-test .taken) (start (i .before) .good .1 .1 .1 .0)
 
 loop-less : tie.Need-loop-less Inv-loop μ-loop
-loop-less c = left-less (at-clique (clique (turn c)) .loop-test .taken)
+loop-less c = one-less (at-clique (clique (turn c)) .loop-test .taken)
 
 loop-again : tie.Need-loop-again Inv-loop μ-loop
 loop-again c =
@@ -211,7 +212,7 @@ loop-again c =
     let next : List ℕ = join (rowsAt s) (take (n + 1) (order s)) in
     let as-next : done l ++ here l ≡ next = sym (up-more (rowsAt s) 0 (order s) n (inside i)) in
     let more : done l ++ B ≡ next = ap (λ (os : List ℕ). done l ++ os) (block-is v) ∙ as-next in (
-      next-le (i .loop-test .taken),
+      one-more (i .loop-test .taken),
       rows-next (a .first) t (triangle (length (found v))) (length (done l)) (length (here l)) (length next) (w .result) (l .loop .inv .1) (size v)
           (sym (ap length as-next) ∙ length-append (done l) (here l)) (w .ensures .0),
       v .clique-vertices .kept .1 .1 .1 .0 ∙ l .loop .inv .2,

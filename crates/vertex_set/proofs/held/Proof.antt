@@ -1,5 +1,5 @@
-use Rattle.layout.proofs.Walks.{all-step, all-fails, all-done}
-use Rattle.vertex_set.proofs.Walks.{one-more, one-less, has-step, has-here, has-nowhere}
+use Rattle.layout.proofs.Walks.{all-step, all-fails, all-done, one-more, one-less}
+use Rattle.vertex_set.proofs.Walks.{has-step, has-here, has-nowhere}
 use Rattle.layout.specs.Lists.{has, all}
 use lib.ListN.{length, drop}
 use Prim.Native.Nat.{_≤_, _-_}

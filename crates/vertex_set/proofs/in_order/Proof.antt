@@ -7,8 +7,9 @@ use mathlib.Core.List.{List, []}
 use lib.ListN.{length, getD, take}
 use lib.Seq.{take-all}
 use Rattle.layout.proofs.Tests.{differ}
+use Rattle.layout.proofs.Walks.{one-less}
 use Rattle.utils.proofs.Windows.{take-more}
-use Rattle.vertex_set.proofs.Walks.{one-less, Climbed, climb-none, climb-more, climb-all}
+use Rattle.vertex_set.proofs.Walks.{Climbed, climb-none, climb-more, climb-all}
 use Rattle.vertex_set.proofs.in_order.Statement.{statement}
 use Rattle.vertex_set.proofs.in_order.Tie as tie
 

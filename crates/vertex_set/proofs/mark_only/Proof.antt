@@ -8,7 +8,7 @@ use lib.Seq.{take-all}
 use Rattle.utils.specs.Windows.{Marked}
 use Rattle.utils.proofs.Windows.{marked-none, marked-out, marked-in, take-more}
 use native.Mathlib.Omega.{arith}
-use Rattle.vertex_set.proofs.Walks.{one-more, one-less}
+use Rattle.layout.proofs.Walks.{one-more, one-less}
 use Rattle.vertex_set.proofs.Unmarked.{in-window, past-window}
 use Rattle.vertex_set.proofs.mark_only.Statement.{statement}
 use Rattle.vertex_set.proofs.mark_only.Tie as tie

@@ -11,9 +11,9 @@ use Rattle.layout.specs.Lists.{has, keep}
 use Rattle.utils.specs.Windows.{within, Marked}
 use borrow.Author.Tests.{not-true, not-false}
 use Rattle.layout.proofs.Tests.{passed}
+use Rattle.layout.proofs.Walks.{one-more, one-less}
 use Rattle.utils.proofs.Windows.{within-before, within-after, within-in, take-more, split-more}
 use Rattle.vertex_set.specs.OnceIn.{onceIn}
-use Rattle.vertex_set.proofs.Walks.{one-more, one-less}
 use Rattle.vertex_set.proofs.Unmarked.{in-window, past-window, Left, left-none, left-out, left-in, left-new, left-old, once-skip, once-new, once-lost}
 use native.Mathlib.Omega.{arith}
 use Rattle.vertex_set.proofs.unmark.Statement.{statement}
