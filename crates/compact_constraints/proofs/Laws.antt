@@ -122,6 +122,11 @@ module _ {p : Problem} (h : Accepted compact p) where
 -- ---- the codes of so many rows, in tables just cleared
 
 module _ {p : Problem} (h : Accepted compact p) {rows : ℕ} (e : rows ≡ blockRowCount (layout p)) where
+  pub coded : {size : ℕ} {table : List ℕ} → rows ≤ size → table ≡ written (map cutCode (compactRows (layout p))) (replicate size 0)
+      → (take rows table ≡ map cutCode (compactRows (layout p))) × (rows ≤ length table)
+  coded {size} room w =
+      front (map cutCode (compactRows (layout p))) (replicate size 0) (e ∙ sym (codes-count (sound h))) (omega (arith, length-replicate {A = ℕ} size 0)) w
+
   -- what `write_entries` asks of them
   module _ (size flags k rowsRoom valuesRoom : ℕ) where
     abbrev Placeable : List ℕ → Type 0

@@ -1,8 +1,8 @@
-// The entries of the compact cut's A, and its b, over the augmented rows of a problem that the route accepts.
+// The constraints of the compact cut: A and b over the augmented rows of a problem that the route accepts.
 ghost use mathlib.Core.Path.{_≡_};
 ghost use mathlib.Core.List.{map};
-ghost use Prim.Native.Nat.{_+_, _*_, _≤_};
-ghost use lib.ListN.{length, take};
+ghost use Prim.Native.Nat.{_+_, _*_, _≤_, _<_};
+ghost use lib.ListN.{length};
 ghost use Rattle.layout.specs.Lists.{written};
 ghost use Rattle.layout.specs.Problem.{compact};
 ghost use Rattle.layout.specs.Blocks.{compactRows, blockRowCount, overlapCount};
@@ -11,31 +11,39 @@ ghost use Rattle.layout.specs.Compact.{compactA, compactB};
 ghost use Rattle.layout.specs.Answers.{joinedParts};
 ghost use Rattle.codes.specs.Codes.{cutCode, RowsInside};
 ghost use Rattle.sparsevector.specs.Values.{codeValue};
+ghost use Rattle.augment_standard.specs.Beside.{besideStarts};
 ghost use Rattle.augment_standard.specs.Constraints.{constraints, Accepted};
 use tables::Table;
 
-// Writes the codes of the `rows` augmented rows to the front of their table, and b from these.
-fn write_codes_and_b(
+// Writes the starts of A with the k overlaps' columns, the codes of the `rows` augmented rows to their table, and b from these.
+fn write_starts_and_b(
     m: u32,
+    a_starts: &[u32],
+    entries: u32,
     b: &[f64],
     cones: &[u32],
     count: u32,
     words: &[u32],
     rows: usize,
+    k: usize,
     table: &mut [u32],
+    a_starts_out: &mut [u32],
     b_out: &mut [f64],
 )
     requires { ⌜ Sound m (now cones) count (now words) ⌝ }
     requires { ⌜ (rows ≡ blockRowCount (joinedParts (now cones) count (now words))) × (rows ≤ 262144) × (rows ≤ length (now table)) × (rows ≤ length (now «b_out»)) ⌝ }
     requires { ⌜ RowsInside (length (now b)) (map cutCode (compactRows (joinedParts (now cones) count (now words)))) ⌝ }
-    ensures { λ _. ⌜ (take rows (now (table .exit)) ≡ map cutCode (compactRows (joinedParts (now (cones .entry)) count (now (words .entry))))) × (rows ≤ length (now (table .exit))) ⌝ }
+    requires { ⌜ (length (now «a_starts») + k ≤ length (now «a_starts_out»)) × (entries + 2 * k < 4294967296) ⌝ }
+    ensures { λ _. ⌜ now (table .exit) ≡ written (map cutCode (compactRows (joinedParts (now (cones .entry)) count (now (words .entry))))) (now (table .entry)) ⌝ }
+    ensures { λ _. ⌜ now («a_starts_out» .exit) ≡ written (besideStarts (now («a_starts» .entry)) entries k) (now («a_starts_out» .entry)) ⌝ }
     ensures { λ _. ⌜ now («b_out» .exit) ≡ written (map (codeValue (now (b .entry))) (map cutCode (compactRows (joinedParts (now (cones .entry)) count (now (words .entry)))))) (now («b_out» .entry)) ⌝ }
 {
+    augment_standard::write_starts(a_starts_out, a_starts, entries, k);
     tables::write_table(Table::CutRows, m, cones, count, words, &mut *table);
     sparsevector::move_values(b_out, &table[..rows], b);
 }
 
-// Writes the rows and the values of A with the k overlaps' columns, and b, for at most 2048 rows of either kind. Its tables take less time to clear than such a cut takes.
+// Writes A with the k overlaps' columns, and b, for at most 2048 rows of either kind. Its tables take less time to clear than such a cut takes.
 fn with_small_tables(
     n: u32,
     m: u32,
@@ -48,14 +56,16 @@ fn with_small_tables(
     words: &[u32],
     rows: usize,
     k: usize,
+    a_starts_out: &mut [u32],
     a_rows_out: &mut [u32],
     a_values_out: &mut [f64],
     b_out: &mut [f64],
 )
     requires { ⌜ Accepted compact (constraints n m (now «a_starts») (now «a_rows») (now «a_values») (now b) (now cones) count (now words)) ⌝ }
     requires { ⌜ (rows ≡ blockRowCount (joinedParts (now cones) count (now words))) × (k ≡ overlapCount (joinedParts (now cones) count (now words))) ⌝ }
-    requires { ⌜ (length (now «a_values») + 2 * k ≤ length (now «a_rows_out»)) × (length (now «a_values») + 2 * k ≤ length (now «a_values_out»)) × (rows ≤ length (now «b_out»)) ⌝ }
+    requires { ⌜ (length (now «a_starts») + k ≤ length (now «a_starts_out»)) × (length (now «a_values») + 2 * k ≤ length (now «a_rows_out»)) × (length (now «a_values») + 2 * k ≤ length (now «a_values_out»)) × (rows ≤ length (now «b_out»)) ⌝ }
     requires { ⌜ (rows ≤ 2048) × (m ≤ 2048) ⌝ }
+    ensures { λ _. ⌜ now («a_starts_out» .exit) ≡ written (compactA (constraints n m (now («a_starts» .entry)) (now («a_rows» .entry)) (now («a_values» .entry)) (now (b .entry)) (now (cones .entry)) count (now (words .entry))) .starts) (now («a_starts_out» .entry)) ⌝ }
     ensures { λ _. ⌜ now («a_rows_out» .exit) ≡ written (compactA (constraints n m (now («a_starts» .entry)) (now («a_rows» .entry)) (now («a_values» .entry)) (now (b .entry)) (now (cones .entry)) count (now (words .entry))) .rows) (now («a_rows_out» .entry)) ⌝ }
     ensures { λ _. ⌜ now («a_values_out» .exit) ≡ written (compactA (constraints n m (now («a_starts» .entry)) (now («a_rows» .entry)) (now («a_values» .entry)) (now (b .entry)) (now (cones .entry)) count (now (words .entry))) .values) (now («a_values_out» .entry)) ⌝ }
     ensures { λ _. ⌜ now («b_out» .exit) ≡ written (compactB (constraints n m (now («a_starts» .entry)) (now («a_rows» .entry)) (now («a_values» .entry)) (now (b .entry)) (now (cones .entry)) count (now (words .entry)))) (now («b_out» .entry)) ⌝ }
@@ -63,7 +73,20 @@ fn with_small_tables(
     let mut table = [0u32; 2048];
     let mut place = [0u32; 2048];
     let mut chunks = [false; 32];
-    write_codes_and_b(m, b, cones, count, words, rows, &mut table, b_out);
+    write_starts_and_b(
+        m,
+        a_starts,
+        a_values.len() as u32,
+        b,
+        cones,
+        count,
+        words,
+        rows,
+        k,
+        &mut table,
+        a_starts_out,
+        b_out,
+    );
     let end = (rows + 63) / 64;
     augment_compact::write_entries(
         a_rows_out,
@@ -93,13 +116,15 @@ fn with_large_tables(
     words: &[u32],
     rows: usize,
     k: usize,
+    a_starts_out: &mut [u32],
     a_rows_out: &mut [u32],
     a_values_out: &mut [f64],
     b_out: &mut [f64],
 )
     requires { ⌜ Accepted compact (constraints n m (now «a_starts») (now «a_rows») (now «a_values») (now b) (now cones) count (now words)) ⌝ }
     requires { ⌜ (rows ≡ blockRowCount (joinedParts (now cones) count (now words))) × (k ≡ overlapCount (joinedParts (now cones) count (now words))) ⌝ }
-    requires { ⌜ (length (now «a_values») + 2 * k ≤ length (now «a_rows_out»)) × (length (now «a_values») + 2 * k ≤ length (now «a_values_out»)) × (rows ≤ length (now «b_out»)) ⌝ }
+    requires { ⌜ (length (now «a_starts») + k ≤ length (now «a_starts_out»)) × (length (now «a_values») + 2 * k ≤ length (now «a_rows_out»)) × (length (now «a_values») + 2 * k ≤ length (now «a_values_out»)) × (rows ≤ length (now «b_out»)) ⌝ }
+    ensures { λ _. ⌜ now («a_starts_out» .exit) ≡ written (compactA (constraints n m (now («a_starts» .entry)) (now («a_rows» .entry)) (now («a_values» .entry)) (now (b .entry)) (now (cones .entry)) count (now (words .entry))) .starts) (now («a_starts_out» .entry)) ⌝ }
     ensures { λ _. ⌜ now («a_rows_out» .exit) ≡ written (compactA (constraints n m (now («a_starts» .entry)) (now («a_rows» .entry)) (now («a_values» .entry)) (now (b .entry)) (now (cones .entry)) count (now (words .entry))) .rows) (now («a_rows_out» .entry)) ⌝ }
     ensures { λ _. ⌜ now («a_values_out» .exit) ≡ written (compactA (constraints n m (now («a_starts» .entry)) (now («a_rows» .entry)) (now («a_values» .entry)) (now (b .entry)) (now (cones .entry)) count (now (words .entry))) .values) (now («a_values_out» .entry)) ⌝ }
     ensures { λ _. ⌜ now («b_out» .exit) ≡ written (compactB (constraints n m (now («a_starts» .entry)) (now («a_rows» .entry)) (now («a_values» .entry)) (now (b .entry)) (now (cones .entry)) count (now (words .entry)))) (now («b_out» .entry)) ⌝ }
@@ -107,7 +132,20 @@ fn with_large_tables(
     let mut table = [0u32; 262144];
     let mut place = [0u32; 65536];
     let mut chunks = [false; 4096];
-    write_codes_and_b(m, b, cones, count, words, rows, &mut table, b_out);
+    write_starts_and_b(
+        m,
+        a_starts,
+        a_values.len() as u32,
+        b,
+        cones,
+        count,
+        words,
+        rows,
+        k,
+        &mut table,
+        a_starts_out,
+        b_out,
+    );
     let end = (rows + 63) / 64;
     augment_compact::write_entries(
         a_rows_out,
@@ -123,7 +161,7 @@ fn with_large_tables(
     );
 }
 
-// Writes the rows and the values of A with the k overlaps' columns, and b, over `rows` augmented rows.
+// Writes A with the k overlaps' columns, and b, over `rows` augmented rows.
 pub fn write_compact_a(
     n: u32,
     m: u32,
@@ -136,13 +174,15 @@ pub fn write_compact_a(
     words: &[u32],
     rows: usize,
     k: usize,
+    a_starts_out: &mut [u32],
     a_rows_out: &mut [u32],
     a_values_out: &mut [f64],
     b_out: &mut [f64],
 )
     requires { ⌜ Accepted compact (constraints n m (now «a_starts») (now «a_rows») (now «a_values») (now b) (now cones) count (now words)) ⌝ }
     requires { ⌜ (rows ≡ blockRowCount (joinedParts (now cones) count (now words))) × (k ≡ overlapCount (joinedParts (now cones) count (now words))) ⌝ }
-    requires { ⌜ (length (now «a_values») + 2 * k ≤ length (now «a_rows_out»)) × (length (now «a_values») + 2 * k ≤ length (now «a_values_out»)) × (rows ≤ length (now «b_out»)) ⌝ }
+    requires { ⌜ (length (now «a_starts») + k ≤ length (now «a_starts_out»)) × (length (now «a_values») + 2 * k ≤ length (now «a_rows_out»)) × (length (now «a_values») + 2 * k ≤ length (now «a_values_out»)) × (rows ≤ length (now «b_out»)) ⌝ }
+    ensures { λ _. ⌜ now («a_starts_out» .exit) ≡ written (compactA (constraints n m (now («a_starts» .entry)) (now («a_rows» .entry)) (now («a_values» .entry)) (now (b .entry)) (now (cones .entry)) count (now (words .entry))) .starts) (now («a_starts_out» .entry)) ⌝ }
     ensures { λ _. ⌜ now («a_rows_out» .exit) ≡ written (compactA (constraints n m (now («a_starts» .entry)) (now («a_rows» .entry)) (now («a_values» .entry)) (now (b .entry)) (now (cones .entry)) count (now (words .entry))) .rows) (now («a_rows_out» .entry)) ⌝ }
     ensures { λ _. ⌜ now («a_values_out» .exit) ≡ written (compactA (constraints n m (now («a_starts» .entry)) (now («a_rows» .entry)) (now («a_values» .entry)) (now (b .entry)) (now (cones .entry)) count (now (words .entry))) .values) (now («a_values_out» .entry)) ⌝ }
     ensures { λ _. ⌜ now («b_out» .exit) ≡ written (compactB (constraints n m (now («a_starts» .entry)) (now («a_rows» .entry)) (now («a_values» .entry)) (now (b .entry)) (now (cones .entry)) count (now (words .entry)))) (now («b_out» .entry)) ⌝ }
@@ -160,6 +200,7 @@ pub fn write_compact_a(
             words,
             rows,
             k,
+            a_starts_out,
             a_rows_out,
             a_values_out,
             b_out,
@@ -179,6 +220,7 @@ pub fn write_compact_a(
             words,
             rows,
             k,
+            a_starts_out,
             a_rows_out,
             a_values_out,
             b_out,
@@ -197,6 +239,7 @@ pub fn write_compact_a(
         words,
         rows,
         k,
+        a_starts_out,
         a_rows_out,
         a_values_out,
         b_out,

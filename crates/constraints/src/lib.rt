@@ -62,7 +62,6 @@ pub fn decomp_augment_compact(
     ensures { λ _. ⌜ now («b_out» .exit) ≡ written (compactB (constraints n m (now («a_starts» .entry)) (now («a_rows» .entry)) (now («a_values» .entry)) (now (b .entry)) (now (cones .entry)) count (now (words .entry)))) (now («b_out» .entry)) ⌝ }
     ensures { λ _. ⌜ now («cones_out» .exit) ≡ written (compactCones (constraints n m (now («a_starts» .entry)) (now («a_rows» .entry)) (now («a_values» .entry)) (now (b .entry)) (now (cones .entry)) count (now (words .entry)))) (now («cones_out» .entry)) ⌝ }
 {
-    augment_standard::write_starts(a_starts_out, a_starts, a_values.len() as u32, k);
     compact_constraints::write_compact_a(
         n,
         m,
@@ -75,6 +74,7 @@ pub fn decomp_augment_compact(
         words,
         rows,
         k,
+        a_starts_out,
         a_rows_out,
         a_values_out,
         b_out,
