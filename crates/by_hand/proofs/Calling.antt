@@ -1,5 +1,6 @@
 -- A call in a walk by hand. Once the callee f has returned, the tokens ts are back, its result's machine value is written out, and what its `ensures`
--- says is known. x is what is bound at the call; the two `refl`s of each rule say what f asks at x and what it gives.
+-- says is known. x is what is bound at the call; the `refl`s of each rule say what f asks at x and what it gives.
+--     Asks, Requires   what it asks: the tokens and what its parameters own, and its `requires`
 --     Ends, says-ends  what is bound of its parameters' last values, and what is said of them
 --     calls-handing    it is handed what its parameters own, and what says their last values comes back
 --     Arg              an argument that is passed and stays: a value that owns facts alone (`plain-arg`), or a copy of a shared slice (`lent-arg`)
@@ -21,29 +22,23 @@ use contract.Monad.{fact}
 use contract.Lifetimes.{Lfts, Shares}
 use types.Kit.{Given, Item, ‵, raw, _⊛_, some, later, mean, ⋆, push, pop, ++⊢, ⊢++, Post, runs, lands, Seq, _$_, by, move, drop, use1, split, pick, regoal, await}
 use types.Run.{Opds}
-use denote.RattleType.{RattleType}
+use denote.RattleType.{RattleType, owns as row-owns}
 use denote.Laws.{Is, shows}
 use denote.Ref.{RefT}
 use denote.Slice.{ShrSlice}
 use denote.Steps.{facts, heard, only}
+use denote.Signature.{typesAt}
+use denote.Triple.Entry.{alive}
 use denote.Triple.Clauses.{Lasts, lasts}
 use denote.Triple.Call.{calls-at}
 use Rattle.by_hand.proofs.World.{World, Function, Callee, Cited}
 use Rattle.by_hand.proofs.Stars.{stars, items, tokens, stars-whole, tokens-whole, split-tokens, made, and-so, Shared, shared, shared-slice, doubled}
-use Rattle.by_hand.proofs.Values.{Datum, slice, Singles, singles}
+use Rattle.by_hand.proofs.Values.{Datum, usizes, slice, Singles, singles}
+use Rattle.by_hand.proofs.Outputs.{Output}
 use Rattle.by_hand.proofs.Places.{lfts, shares}
 
 module _ (w : World) where
   open World w using (𝓤, H, A, W, 𝓣)
-
-  -- what a callee asks: the tokens, what its parameters own, and Q, its `requires`
-  abbrev pub Asked : List (Item 𝓤) → List Fml → SProp 𝓤 → SProp 𝓤
-  Asked ts Fs Q = sep 𝓤 (sep 𝓤 (mean 𝓤 H A (tokens ts)) (sem 𝓤 H A (stars Fs))) Q
-
-  -- Q holds of nothing
-  asks : (ts : List (Item 𝓤)) (Fs : List Fml) (Q : SProp 𝓤) (Δ : List (Item 𝓤)) → ent 𝓤 (⋆ 𝓤 H A Δ) (sem 𝓤 H A (stars Fs)) → ent 𝓤 (emp 𝓤) Q → ent 𝓤 (⋆ 𝓤 H A (ts ++ Δ)) (Asked ts Fs Q)
-  asks ts Fs Q Δ makes q =
-      via 𝓤 (sep 𝓤 (mean 𝓤 H A (tokens ts)) (sem 𝓤 H A (stars Fs))) (via 𝓤 (sep 𝓤 (⋆ 𝓤 H A ts) (⋆ 𝓤 H A Δ)) (⊢++ 𝓤 H A ts Δ) (mono∗ 𝓤 (tokens-whole 𝓤 H A ts) makes)) (and-so 𝓤 q)
 
   module _ (f : Function) (x : Callee w f .Ghost) where
     abbrev pub Ends : Type 0
@@ -51,6 +46,22 @@ module _ (w : World) where
 
     abbrev pub says-ends : Ends → Fml
     says-ends us = lasts (f .ended) (x .0 .0) (x .0 .3) us
+
+    -- what it asks: the tokens are ts, its parameters own Fs, and its `requires`
+    abbrev pub Asks : List (Item 𝓤) → List Fml → Type 2
+    Asks ts Fs = (alive 𝓤 H A (f .ended .signature) (x .0 .0) (x .0 .1) ≡ mean 𝓤 H A (tokens ts)) × (row-owns (typesAt (f .ended .signature .params) (x .0 .0)) (x .0 .3) (x .0 .4) ≡ stars Fs)
+
+    abbrev pub Requires : SProp 𝓤
+    Requires = f .clauses 𝓤 H A (w .mem) (w .run) (x .0 .0) (x .0 .3) .requires (x .1)
+
+    asks : (ts : List (Item 𝓤)) (Fs : List Fml) → Asks ts Fs → ent 𝓤 (emp 𝓤) Requires → (Δ : List (Item 𝓤)) → ent 𝓤 (⋆ 𝓤 H A Δ) (sem 𝓤 H A (stars Fs)) → ent 𝓤 (⋆ 𝓤 H A (ts ++ Δ)) (Callee w f .pre x)
+    asks ts Fs asked q Δ makes =
+        let P : SProp 𝓤 = alive 𝓤 H A (f .ended .signature) (x .0 .0) (x .0 .1) in
+        let F : Fml = row-owns (typesAt (f .ended .signature .params) (x .0 .0)) (x .0 .3) (x .0 .4) in
+        via 𝓤 (sep 𝓤 P (sem 𝓤 H A F))
+        (via 𝓤 (sep 𝓤 (⋆ 𝓤 H A ts) (⋆ 𝓤 H A Δ)) (⊢++ 𝓤 H A ts Δ)
+        (mono∗ 𝓤 (subst (λ (Q : SProp 𝓤). ent 𝓤 (⋆ 𝓤 H A ts) Q) (sym (asked .0)) (tokens-whole 𝓤 H A ts)) (subst (λ (G : Fml). ent 𝓤 (⋆ 𝓤 H A Δ) (sem 𝓤 H A G)) (sym (asked .1)) makes)))
+        (and-so 𝓤 q)
 
     -- its `post`, where the tokens are ts, the result is of the type D, and φ is what its `ensures` says
     abbrev pub Gives : List (Item 𝓤) → (D : Datum) → (D .R .Denot → Ends → Type 0) → Val → SProp 𝓤
@@ -70,12 +81,12 @@ module _ (w : World) where
           move t (1 ∷ []) $ split t $ move t (1 ∷ []) $ facts t R (Is R) (shows 𝓤 H A R) r (u ∷ []) (λ is.
           regoal t (λ (v : Val). lands (𝓣 .C) (𝓣 .Λ) E d v rest q) (ap only (D .tells r (u ∷ []) is)) refl $ k r us e (subst (Is R r) (D .tells r (u ∷ []) is) is))))))
 
-      pub calls-handing : K → Cited w f → (ts : List (Item 𝓤)) (Fs : List Fml) {Q : SProp 𝓤} → Callee w f .pre x ≡ Asked ts Fs Q → ent 𝓤 (emp 𝓤) Q
+      pub calls-handing : K → Cited w f → (ts : List (Item 𝓤)) (Fs : List Fml) → Asks ts Fs → ent 𝓤 (emp 𝓤) Requires
           → (D : Datum) (φ : D .R .Denot → Ends → Type 0) → Callee w f .post x ≡ Gives ts D φ → Opds K W (raw (Callee w f .pre x) ∷ Γ) E xs (Callee w f .args x)
           → ((r : D .R .Denot) (us : Ends) → φ r us → Is (D .R) r (D .val r ∷ []) → Seq K W (ts ++ (‵ (says-ends us) ∷ Γ)) (lands (𝓣 .C) (𝓣 .Λ) E d (D .val r) rest q))
           → Seq K W ((ts ++ items Fs) ++ Γ) (runs (𝓣 .C) (𝓣 .Λ) E (seq (call (f .name) xs d) rest) q)
-      calls-handing t known ts Fs {Q} asked q D φ gives os k =
-          made Γ t (raw (Callee w f .pre x)) (ts ++ items Fs) (subst (λ (P : SProp 𝓤). ent 𝓤 (⋆ 𝓤 H A (ts ++ items Fs)) P) (sym asked) (asks ts Fs Q (items Fs) (stars-whole 𝓤 H A Fs) q)) $
+      calls-handing t known ts Fs asked q D φ gives os k =
+          made Γ t (raw (Callee w f .pre x)) (ts ++ items Fs) (asks ts Fs asked q (items Fs) (stars-whole 𝓤 H A Fs)) $
           calls-asked t known ts D φ gives os (λ r us e is. split-tokens (‵ (says-ends us) ∷ Γ) t ts $ k r us e is)
 
 -- ---- arguments that stay
@@ -92,6 +103,11 @@ plain-arg D x is = record { R = D .R; x = x; val = D .val x; slices = []; makes 
 
 abbrev pub lent-arg : Lifetime → Lft → (R : RattleType) → RefT (List (R .Denot)) → Arg
 lent-arg ℓ κ R x = record { R = ShrSlice ℓ κ R; x = x; val = slice x; slices = shared-slice ℓ κ R x (slice x ∷ []) ∷ []; makes = λ 𝓤 H A W. id⊢ 𝓤 (sem 𝓤 H A (ShrSlice ℓ κ R .own x (slice x ∷ []))) }
+
+-- the outputs' lengths
+abbrev pub length-args : List Output → List Arg
+length-args [] = []
+length-args (o ∷ os) = plain-arg usizes (length (o .ref .now)) (refl, o .fits) ∷ length-args os
 
 -- of a list of them: what they denote, their machine values, what they own, and the slices among them
 abbrev pub Denoted : List Arg → Type 0
@@ -146,11 +162,11 @@ module _ (w : World) where
         (via 𝓤 (sep 𝓤 P G) (monoL 𝓤 G (via 𝓤 (⋆ 𝓤 H A (ts ++ shared ss)) (++⊢ 𝓤 H A ts (shared ss)) asked)) (push 𝓤 H A (raw P) (shared ss ++ Γ))))
 
     module _ (Γ : List (Item 𝓤)) {K : Type 0} {E : Env 𝓤 H} {xs : List Operand} {q : Post 𝓤 H} {d : Place} {rest : Body} where
-      pub calls-lent : K → Cited w f → {Q : SProp 𝓤} → Callee w f .pre x ≡ Asked w ts (owns bs) Q → ent 𝓤 (emp 𝓤) Q
+      pub calls-lent : K → Cited w f → Asks w f x ts (owns bs) → ent 𝓤 (emp 𝓤) (Requires w f x)
           → (D : Datum) (φ : D .R .Denot → Type 0) → Callee w f .post x ≡ Gives w f x ts D (λ r us. φ r) → Opds K W (raw (Callee w f .pre x) ∷ (shared (lents bs) ++ Γ)) E xs (Callee w f .args x)
           → ((r : D .R .Denot) → φ r → Is (D .R) r (D .val r ∷ []) → Seq K W (ts ++ (shared (lents bs) ++ Γ)) (lands (𝓣 .C) (𝓣 .Λ) E d (D .val r) rest q))
           → Seq K W (ts ++ (shared (lents bs) ++ Γ)) (runs (𝓣 .C) (𝓣 .Λ) E (seq (call (f .name) xs d) rest) q)
-      calls-lent t known {Q} asked q D φ gives os k =
+      calls-lent t known asked q D φ gives os k =
           by t (via 𝓤 (⋆ 𝓤 H A (raw (Callee w f .pre x) ∷ (shared (lents bs) ++ Γ)))
-          (passes-out Γ (Callee w f .pre x) (subst (λ (P : SProp 𝓤). ent 𝓤 (⋆ 𝓤 H A (ts ++ shared (lents bs))) P) (sym asked) (asks w ts (owns bs) Q (shared (lents bs)) (all-made bs) q)))
+          (passes-out Γ (Callee w f .pre x) (asks w f x ts (owns bs) asked q (shared (lents bs)) (all-made bs)))
           (calls-asked w f x t known ts D (λ r us. φ r) gives os (λ r us e is. move t (1 ∷ []) $ drop t $ split-tokens (shared (lents bs) ++ Γ) t ts $ k r e is) .prf))

@@ -2,7 +2,7 @@
 --     stars Fs         formulas under ∗, with `true` at the end, as what a list of parameters owns
 --     tokens is        items likewise, as the tokens of a list of lifetimes
 --     padded k F       F after k times `true`, as what is said of last values after k parameters that have none
---     joins-said       what is said of last values by several callees, each after some that have none, said as one
+--     parts-said       what is said of last values by several callees, each after some that have none, in parts.        joins-said     parts said as one
 --     and-so           what holds of nothing holds beside anything
 --     Shared           what is owned and can be had twice, as of a `&[R]` (`shared-slice`).        shared ss      as items
 use Prim.Native.Nat.{ℕ, zero, suc}
@@ -63,30 +63,22 @@ module _ {M : Type 1} (𝓤 : URA M) (H : Heap 𝓤) (A : Atoms 𝓤) where
   unpad zero F = id⊢ 𝓤 (sem 𝓤 H A F)
   unpad (suc k) F = via 𝓤 (sem 𝓤 H A (padded k F)) (snd∗ 𝓤 (emp 𝓤) (sem 𝓤 H A (padded k F))) (unpad k F)
 
--- parts, each a number of times nothing and some formulas: how each is said, and all their formulas
-abbrev pub said : List (ℕ × List Fml) → List Fml
-said [] = []
-said (l ∷ ls) = padded (l .0) (stars (l .1)) ∷ said ls
+-- what several callees say, each a number of times nothing and some formulas; and the items of all, before others
+abbrev pub said : {M : Type 1} {𝓤 : URA M} → List (ℕ × List Fml) → List (Item 𝓤) → List (Item 𝓤)
+said [] Γ = Γ
+said (l ∷ ls) Γ = ‵ (padded (l .0) (stars (l .1))) ∷ said ls Γ
 
-abbrev pub together : List (ℕ × List Fml) → List Fml
-together [] = []
-together (l ∷ ls) = l .1 ++ together ls
+abbrev pub in-parts : {M : Type 1} {𝓤 : URA M} → List (ℕ × List Fml) → List (Item 𝓤) → List (Item 𝓤)
+in-parts [] Γ = Γ
+in-parts (l ∷ ls) Γ = items (l .1) ++ in-parts ls Γ
 
-module _ {M : Type 1} (𝓤 : URA M) (H : Heap 𝓤) (A : Atoms 𝓤) where
-  stars-after : (Fs Gs : List Fml) → ent 𝓤 (sep 𝓤 (sem 𝓤 H A (stars Fs)) (sem 𝓤 H A (stars Gs))) (sem 𝓤 H A (stars (Fs ++ Gs)))
-  stars-after [] Gs = snd∗ 𝓤 (emp 𝓤) (sem 𝓤 H A (stars Gs))
-  stars-after (F ∷ Fs) Gs =
-      let P : SProp 𝓤 = sem 𝓤 H A F in
-      let Q : SProp 𝓤 = sem 𝓤 H A (stars Fs) in
-      let R : SProp 𝓤 = sem 𝓤 H A (stars Gs) in
-      via 𝓤 (sep 𝓤 P (sep 𝓤 Q R)) (assoc∗ 𝓤 P Q R) (monoR 𝓤 P (stars-after Fs Gs))
-
-  all-said : (ls : List (ℕ × List Fml)) → ent 𝓤 (⋆ 𝓤 H A (items (said ls))) (sem 𝓤 H A (stars (together ls)))
-  all-said [] = id⊢ 𝓤 (emp 𝓤)
-  all-said (l ∷ ls) =
-      let F : Fml = padded (l .0) (stars (l .1)) in
-      via 𝓤 (sep 𝓤 (sem 𝓤 H A F) (⋆ 𝓤 H A (items (said ls)))) (pop 𝓤 H A (‵ F) (items (said ls)))
-      (via 𝓤 (sep 𝓤 (sem 𝓤 H A (stars (l .1))) (sem 𝓤 H A (stars (together ls)))) (mono∗ 𝓤 (unpad 𝓤 H A (l .0) (stars (l .1))) (all-said ls)) (stars-after (l .1) (together ls)))
+module _ {M : Type 1} (𝓤 : URA M) (H : Heap 𝓤) (A : Atoms 𝓤) (Γ : List (Item 𝓤)) where
+  parted : (ls : List (ℕ × List Fml)) → ent 𝓤 (⋆ 𝓤 H A (said ls Γ)) (⋆ 𝓤 H A (in-parts ls Γ))
+  parted [] = id⊢ 𝓤 (⋆ 𝓤 H A Γ)
+  parted (l ∷ ls) =
+      let F : Fml = stars (l .1) in
+      via 𝓤 (sep 𝓤 (sem 𝓤 H A (padded (l .0) F)) (⋆ 𝓤 H A (said ls Γ))) (pop 𝓤 H A (‵ (padded (l .0) F)) (said ls Γ))
+      (via 𝓤 (sep 𝓤 (⋆ 𝓤 H A (items (l .1))) (⋆ 𝓤 H A (in-parts ls Γ))) (mono∗ 𝓤 (via 𝓤 (sem 𝓤 H A F) (unpad 𝓤 H A (l .0) F) (stars-apart 𝓤 H A (l .1))) (parted ls)) (++⊢ 𝓤 H A (items (l .1)) (in-parts ls Γ)))
 
 -- one item for a stretch of them, and back
 module _ {M : Type 1} {𝓤 : URA M} {H : Heap 𝓤} {A : Atoms 𝓤} {K : Type 0} {W : Given 𝓤 H A} {G : Goal 𝓤 H} (Γ : List (Item 𝓤)) where
@@ -104,10 +96,11 @@ module _ {M : Type 1} {𝓤 : URA M} {H : Heap 𝓤} {A : Atoms 𝓤} {K : Type 
   pub join-stars : K → (Fs : List Fml) → Step K W (‵ (stars Fs) ∷ Γ) G (items Fs ++ Γ) G
   join-stars t Fs = made t (‵ (stars Fs)) (items Fs) (stars-whole 𝓤 H A Fs)
 
-  pub joins-said : K → (ls : List (ℕ × List Fml)) (k : ℕ) → Step K W (‵ (padded k (stars (together ls))) ∷ Γ) G (items (said ls) ++ Γ) G
-  joins-said t ls k =
-      let F : Fml = stars (together ls) in
-      made t (‵ (padded k F)) (items (said ls)) (via 𝓤 (sem 𝓤 H A F) (all-said 𝓤 H A ls) (pad 𝓤 H A k F))
+  pub parts-said : K → (ls : List (ℕ × List Fml)) → Step K W (in-parts ls Γ) G (said ls Γ) G
+  parts-said t ls = step (λ s. by t (via 𝓤 (⋆ 𝓤 H A (in-parts ls Γ)) (parted 𝓤 H A Γ ls) (s .prf)))
+
+  pub joins-said : K → (k : ℕ) (Fs : List Fml) → Step K W (‵ (padded k (stars Fs)) ∷ Γ) G (items Fs ++ Γ) G
+  joins-said t k Fs = made t (‵ (padded k (stars Fs))) (items Fs) (via 𝓤 (sem 𝓤 H A (stars Fs)) (stars-whole 𝓤 H A Fs) (pad 𝓤 H A k (stars Fs)))
 
   pub split-tokens : K → (is : List (Item 𝓤)) → Step K W (is ++ Γ) G (tokens is ∷ Γ) G
   split-tokens t is = opened t (tokens is) is (tokens-apart 𝓤 H A is)

@@ -1,14 +1,17 @@
 // The cut on the compact route where the cone map is a slice of entries.
 ghost use mathlib.Core.Path.{_≡_};
-ghost use mathlib.Core.List.{[], _∷_, map};
+ghost use mathlib.Core.List.{[], _∷_, _++_, map};
 ghost use Prim.Native.Nat.{_*_};
-ghost use lib.ListN.{length};
-ghost use Rattle.layout.specs.Problem.{problem, compact};
+ghost use lib.ListN.{length, replicate};
+ghost use Rattle.layout.specs.Problem.{problem, compact, zero64};
+ghost use Rattle.layout.specs.Blocks.{overlapCount};
 ghost use Rattle.layout.specs.Checks.{layout};
-ghost use Rattle.layout.specs.Compact.{coneMap};
-ghost use Rattle.layout.specs.Answers.{output, augmented, cutRefusal};
+ghost use Rattle.layout.specs.Compact.{extendedP, compactA, compactB, compactCones, coneMap};
+ghost use Rattle.layout.specs.Answers.{output, joinedParts, augmented, cutRefusal};
+ghost use Rattle.csc.specs.Matrix.{matrix};
+ghost use Rattle.augment_standard.specs.Constraints.{constraints};
 ghost use Rattle.cone_map.specs.Entries.{structOf};
-ghost use Rattle.decomp_augment_entries.specs.Rooms.{wordsOf};
+ghost use Rattle.decomp_augment_entries.specs.Rooms.{wordsOf, ConstraintsFit, ObjectiveFits};
 use cone_map::ConeMapEntry;
 
 // The words of so many entries, or of the most that a problem has: entries of 1,024 cones and of 262,144 blocks.
@@ -21,8 +24,8 @@ fn words_of(entries: usize) -> usize
     entries * 3
 }
 
-// The cut but its map, which has room for so many entries.
-fn cut_but_map(
+// Checks 1 to 11 in order, with room for so much in each output: the number of the first that fails, or 0.
+fn refuse_cut_compact(
     n: u32,
     m: u32,
     p_starts: &[u32],
@@ -37,34 +40,34 @@ fn cut_but_map(
     alphas: &[f64],
     count: u32,
     words: &[u32],
+    p_starts_room: usize,
+    p_rows_room: usize,
+    p_values_room: usize,
+    q_room: usize,
+    a_starts_room: usize,
+    a_rows_room: usize,
+    a_values_room: usize,
+    b_room: usize,
+    cones_room: usize,
+    alphas_room: usize,
     map_room: usize,
-    p_starts_out: &mut [u32],
-    p_rows_out: &mut [u32],
-    p_values_out: &mut [f64],
-    q_out: &mut [f64],
-    a_starts_out: &mut [u32],
-    a_rows_out: &mut [u32],
-    a_values_out: &mut [f64],
-    b_out: &mut [f64],
-    cones_out: &mut [u32],
-    alphas_out: &mut [f64],
 ) -> u32
-    ensures { λ r. ⌜ (r ≡ cutRefusal compact (problem n m (now («p_starts» .entry)) (now («p_rows» .entry)) (now («p_values» .entry)) (now (q .entry)) (now («a_starts» .entry)) (now («a_rows» .entry)) (now («a_values» .entry)) (now (b .entry)) (now (cones .entry)) (now (alphas .entry)) count (now (words .entry))) (length (now («p_starts_out» .entry)) ∷ length (now («p_rows_out» .entry)) ∷ length (now («p_values_out» .entry)) ∷ length (now («q_out» .entry)) ∷ length (now («a_starts_out» .entry)) ∷ length (now («a_rows_out» .entry)) ∷ length (now («a_values_out» .entry)) ∷ length (now («b_out» .entry)) ∷ length (now («cones_out» .entry)) ∷ length (now («alphas_out» .entry)) ∷ «map_room» * 3 ∷ [])) × (now («p_starts_out» .exit) ≡ output r (augmented compact (problem n m (now («p_starts» .entry)) (now («p_rows» .entry)) (now («p_values» .entry)) (now (q .entry)) (now («a_starts» .entry)) (now («a_rows» .entry)) (now («a_values» .entry)) (now (b .entry)) (now (cones .entry)) (now (alphas .entry)) count (now (words .entry))) .P .starts) (now («p_starts_out» .entry))) × (now («p_rows_out» .exit) ≡ output r (augmented compact (problem n m (now («p_starts» .entry)) (now («p_rows» .entry)) (now («p_values» .entry)) (now (q .entry)) (now («a_starts» .entry)) (now («a_rows» .entry)) (now («a_values» .entry)) (now (b .entry)) (now (cones .entry)) (now (alphas .entry)) count (now (words .entry))) .P .rows) (now («p_rows_out» .entry))) × (now («p_values_out» .exit) ≡ output r (augmented compact (problem n m (now («p_starts» .entry)) (now («p_rows» .entry)) (now («p_values» .entry)) (now (q .entry)) (now («a_starts» .entry)) (now («a_rows» .entry)) (now («a_values» .entry)) (now (b .entry)) (now (cones .entry)) (now (alphas .entry)) count (now (words .entry))) .P .values) (now («p_values_out» .entry))) × (now («q_out» .exit) ≡ output r (augmented compact (problem n m (now («p_starts» .entry)) (now («p_rows» .entry)) (now («p_values» .entry)) (now (q .entry)) (now («a_starts» .entry)) (now («a_rows» .entry)) (now («a_values» .entry)) (now (b .entry)) (now (cones .entry)) (now (alphas .entry)) count (now (words .entry))) .q) (now («q_out» .entry))) × (now («a_starts_out» .exit) ≡ output r (augmented compact (problem n m (now («p_starts» .entry)) (now («p_rows» .entry)) (now («p_values» .entry)) (now (q .entry)) (now («a_starts» .entry)) (now («a_rows» .entry)) (now («a_values» .entry)) (now (b .entry)) (now (cones .entry)) (now (alphas .entry)) count (now (words .entry))) .A .starts) (now («a_starts_out» .entry))) × (now («a_rows_out» .exit) ≡ output r (augmented compact (problem n m (now («p_starts» .entry)) (now («p_rows» .entry)) (now («p_values» .entry)) (now (q .entry)) (now («a_starts» .entry)) (now («a_rows» .entry)) (now («a_values» .entry)) (now (b .entry)) (now (cones .entry)) (now (alphas .entry)) count (now (words .entry))) .A .rows) (now («a_rows_out» .entry))) × (now («a_values_out» .exit) ≡ output r (augmented compact (problem n m (now («p_starts» .entry)) (now («p_rows» .entry)) (now («p_values» .entry)) (now (q .entry)) (now («a_starts» .entry)) (now («a_rows» .entry)) (now («a_values» .entry)) (now (b .entry)) (now (cones .entry)) (now (alphas .entry)) count (now (words .entry))) .A .values) (now («a_values_out» .entry))) × (now («b_out» .exit) ≡ output r (augmented compact (problem n m (now («p_starts» .entry)) (now («p_rows» .entry)) (now («p_values» .entry)) (now (q .entry)) (now («a_starts» .entry)) (now («a_rows» .entry)) (now («a_values» .entry)) (now (b .entry)) (now (cones .entry)) (now (alphas .entry)) count (now (words .entry))) .b) (now («b_out» .entry))) × (now («cones_out» .exit) ≡ output r (augmented compact (problem n m (now («p_starts» .entry)) (now («p_rows» .entry)) (now («p_values» .entry)) (now (q .entry)) (now («a_starts» .entry)) (now («a_rows» .entry)) (now («a_values» .entry)) (now (b .entry)) (now (cones .entry)) (now (alphas .entry)) count (now (words .entry))) .cones) (now («cones_out» .entry))) × (now («alphas_out» .exit) ≡ output r (augmented compact (problem n m (now («p_starts» .entry)) (now («p_rows» .entry)) (now («p_values» .entry)) (now (q .entry)) (now («a_starts» .entry)) (now («a_rows» .entry)) (now («a_values» .entry)) (now (b .entry)) (now (cones .entry)) (now (alphas .entry)) count (now (words .entry))) .alphas) (now («alphas_out» .entry))) ⌝ }
+    ensures { λ r. ⌜ r ≡ cutRefusal compact (problem n m (now («p_starts» .entry)) (now («p_rows» .entry)) (now («p_values» .entry)) (now (q .entry)) (now («a_starts» .entry)) (now («a_rows» .entry)) (now («a_values» .entry)) (now (b .entry)) (now (cones .entry)) (now (alphas .entry)) count (now (words .entry))) («p_starts_room» ∷ «p_rows_room» ∷ «p_values_room» ∷ «q_room» ∷ «a_starts_room» ∷ «a_rows_room» ∷ «a_values_room» ∷ «b_room» ∷ «cones_room» ∷ «alphas_room» ∷ «map_room» * 3 ∷ []) ⌝ }
 {
     let rooms = [
-        p_starts_out.len(),
-        p_rows_out.len(),
-        p_values_out.len(),
-        q_out.len(),
-        a_starts_out.len(),
-        a_rows_out.len(),
-        a_values_out.len(),
-        b_out.len(),
-        cones_out.len(),
-        alphas_out.len(),
+        p_starts_room,
+        p_rows_room,
+        p_values_room,
+        q_room,
+        a_starts_room,
+        a_rows_room,
+        a_values_room,
+        b_room,
+        cones_room,
+        alphas_room,
         words_of(map_room),
     ];
-    let refused = decomp::refuse_cut(
+    decomp::refuse_cut(
         1,
         n,
         m,
@@ -81,25 +84,34 @@ fn cut_but_map(
         count,
         words,
         &rooms,
-    );
+    )
+}
+
+// Writes A, b and the cones of a problem's cut, of a refused one nothing. The columns that are added.
+fn cut_constraints(
+    refused: u32,
+    n: u32,
+    m: u32,
+    a_starts: &[u32],
+    a_rows: &[u32],
+    a_values: &[f64],
+    b: &[f64],
+    cones: &[u32],
+    count: u32,
+    words: &[u32],
+    a_starts_out: &mut [u32],
+    a_rows_out: &mut [u32],
+    a_values_out: &mut [f64],
+    b_out: &mut [f64],
+    cones_out: &mut [u32],
+) -> usize
+    requires { ⌜ (refused ≡ 0 → ConstraintsFit (constraints n m (now «a_starts») (now «a_rows») (now «a_values») (now b) (now cones) count (now words)) (length (now «a_starts_out»)) (length (now «a_rows_out»)) (length (now «a_values_out»)) (length (now «b_out»)) (length (now «cones_out»))) ⌝ }
+    ensures { λ r. ⌜ (refused ≡ 0 → r ≡ overlapCount (joinedParts (now (cones .entry)) count (now (words .entry)))) × (now («a_starts_out» .exit) ≡ output refused (compactA (constraints n m (now («a_starts» .entry)) (now («a_rows» .entry)) (now («a_values» .entry)) (now (b .entry)) (now (cones .entry)) count (now (words .entry))) .starts) (now («a_starts_out» .entry))) × (now («a_rows_out» .exit) ≡ output refused (compactA (constraints n m (now («a_starts» .entry)) (now («a_rows» .entry)) (now («a_values» .entry)) (now (b .entry)) (now (cones .entry)) count (now (words .entry))) .rows) (now («a_rows_out» .entry))) × (now («a_values_out» .exit) ≡ output refused (compactA (constraints n m (now («a_starts» .entry)) (now («a_rows» .entry)) (now («a_values» .entry)) (now (b .entry)) (now (cones .entry)) count (now (words .entry))) .values) (now («a_values_out» .entry))) × (now («b_out» .exit) ≡ output refused (compactB (constraints n m (now («a_starts» .entry)) (now («a_rows» .entry)) (now («a_values» .entry)) (now (b .entry)) (now (cones .entry)) count (now (words .entry)))) (now («b_out» .entry))) × (now («cones_out» .exit) ≡ output refused (compactCones (constraints n m (now («a_starts» .entry)) (now («a_rows» .entry)) (now («a_values» .entry)) (now (b .entry)) (now (cones .entry)) count (now (words .entry)))) (now («cones_out» .entry))) ⌝ }
+{
     if refused != 0 {
-        return refused;
+        return 0;
     }
     let d = constraints::count_added(1, m, cones, count, words);
-    augment::write_objective(
-        n,
-        p_starts,
-        p_rows,
-        p_values,
-        q,
-        alphas,
-        d.columns,
-        p_starts_out,
-        p_rows_out,
-        p_values_out,
-        q_out,
-        alphas_out,
-    );
     constraints::decomp_augment_compact(
         n,
         m,
@@ -118,7 +130,45 @@ fn cut_but_map(
         b_out,
         cones_out,
     );
-    0
+    d.columns
+}
+
+// Writes P, q and the exponents of a problem's cut, of a refused one nothing.
+fn cut_objective(
+    refused: u32,
+    columns: usize,
+    n: u32,
+    p_starts: &[u32],
+    p_rows: &[u32],
+    p_values: &[f64],
+    q: &[f64],
+    alphas: &[f64],
+    p_starts_out: &mut [u32],
+    p_rows_out: &mut [u32],
+    p_values_out: &mut [f64],
+    q_out: &mut [f64],
+    alphas_out: &mut [f64],
+)
+    requires { ⌜ (refused ≡ 0 → ObjectiveFits n (matrix (now «p_starts») (now «p_rows») (now «p_values»)) (now q) (now alphas) columns (length (now «p_starts_out»)) (length (now «p_rows_out»)) (length (now «p_values_out»)) (length (now «q_out»)) (length (now «alphas_out»))) ⌝ }
+    ensures { λ _. ⌜ (now («p_starts_out» .exit) ≡ output refused (extendedP columns (matrix (now («p_starts» .entry)) (now («p_rows» .entry)) (now («p_values» .entry))) .starts) (now («p_starts_out» .entry))) × (now («p_rows_out» .exit) ≡ output refused (now («p_rows» .entry)) (now («p_rows_out» .entry))) × (now («p_values_out» .exit) ≡ output refused (now («p_values» .entry)) (now («p_values_out» .entry))) × (now («q_out» .exit) ≡ output refused (now (q .entry) ++ replicate columns zero64) (now («q_out» .entry))) × (now («alphas_out» .exit) ≡ output refused (now (alphas .entry)) (now («alphas_out» .entry))) ⌝ }
+{
+    if refused != 0 {
+        return;
+    }
+    augment::write_objective(
+        n,
+        p_starts,
+        p_rows,
+        p_values,
+        q,
+        alphas,
+        columns,
+        p_starts_out,
+        p_rows_out,
+        p_values_out,
+        q_out,
+        alphas_out,
+    );
 }
 
 // An accepted problem's cut at the front of the outputs.
@@ -162,7 +212,7 @@ pub fn cut_compact_entries(
     ensures { λ r. ⌜ now («alphas_out» .exit) ≡ output r (augmented compact (problem n m (now («p_starts» .entry)) (now («p_rows» .entry)) (now («p_values» .entry)) (now (q .entry)) (now («a_starts» .entry)) (now («a_rows» .entry)) (now («a_values» .entry)) (now (b .entry)) (now (cones .entry)) (now (alphas .entry)) count (now (words .entry))) .alphas) (now («alphas_out» .entry)) ⌝ }
     ensures { λ r. ⌜ now («map_out» .exit) ≡ output r (map structOf (coneMap (layout (problem n m (now («p_starts» .entry)) (now («p_rows» .entry)) (now («p_values» .entry)) (now (q .entry)) (now («a_starts» .entry)) (now («a_rows» .entry)) (now («a_values» .entry)) (now (b .entry)) (now (cones .entry)) (now (alphas .entry)) count (now (words .entry)))))) (now («map_out» .entry)) ⌝ }
 {
-    let refused = cut_but_map(
+    let refused = refuse_cut_compact(
         n,
         m,
         p_starts,
@@ -177,16 +227,48 @@ pub fn cut_compact_entries(
         alphas,
         count,
         words,
+        p_starts_out.len(),
+        p_rows_out.len(),
+        p_values_out.len(),
+        q_out.len(),
+        a_starts_out.len(),
+        a_rows_out.len(),
+        a_values_out.len(),
+        b_out.len(),
+        cones_out.len(),
+        alphas_out.len(),
         map_out.len(),
-        p_starts_out,
-        p_rows_out,
-        p_values_out,
-        q_out,
+    );
+    let columns = cut_constraints(
+        refused,
+        n,
+        m,
+        a_starts,
+        a_rows,
+        a_values,
+        b,
+        cones,
+        count,
+        words,
         a_starts_out,
         a_rows_out,
         a_values_out,
         b_out,
         cones_out,
+    );
+    cut_objective(
+        refused,
+        columns,
+        n,
+        p_starts,
+        p_rows,
+        p_values,
+        q,
+        alphas,
+        p_starts_out,
+        p_rows_out,
+        p_values_out,
+        q_out,
         alphas_out,
     );
     cone_maps::write_map(refused, m, cones, count, words, map_out);

@@ -98,7 +98,7 @@ module _ (h : Here this) (given : Checked h) where
   exits : ent 𝓤 (⋆ 𝓤 H A Done) (Returned h (vbool answer))
   exits =
       -- [the entries' token; the entries; the tokens; the slices]
-      qed W Done ∵ move ! (2 ∷ 3 ∷ 0 ∷ []) $ ends-in h ! bools answer refl answer (units 6 tt) (units 6 tt) (stars (params-own p (Entries ∷ []))) refl
+      qed W Done ∵ move ! (2 ∷ 3 ∷ 0 ∷ []) $ ends-in h ! bools answer refl answer (units 6 tt) (units 6 tt) (stars (params-own p (Entries ∷ []))) (refl, refl)
       (fact-of 𝓤 (λ e. ap (sameMap (map meant ys)) (accepted (p .refused) (coneMap (joinedParts (p .cones .now) (p .count) (p .words .now))) e))) $
       move ! (1 ∷ 2 ∷ 0 ∷ []) $ gather p [] ! (Entries ∷ []) $ done !
 
@@ -133,7 +133,7 @@ module _ (h : Here this) (given : Checked h) where
           elem-back ! T.the-row s′ ys k blank (entries .val (el k) ∷ []) b o small $ move ! (1 ∷ 2 ∷ 3 ∷ 4 ∷ []) $
           -- [the tokens; the slices; the row; the open borrow; entries; _0; …]
           let args = method-args p c (s .3) (plain-arg entries (el k) g ∷ []) in
-          steps-on (h .w) p compare (to-method p args, tt) args _ 7 k (h .cited .1 .0) refl (fact-of 𝓤 (s .2)) (Compared c (el k)) refl (loads ! 6 tt refl) refl (λ u. refl) (omega (arith, room .0)) (λ d told is.
+          steps-on (h .w) p compare (to-method p args, tt) args _ 7 k (h .cited .1 .0) (refl, refl) (fact-of 𝓤 (s .2)) (Compared c (el k)) refl (loads ! 6 tt refl) refl (λ u. refl) (omega (arith, room .0)) (λ d told is.
           forget ! 25 refl $ forget ! 27 refl $ forget ! 29 refl $ forget ! 31 refl $
           by ! (again (d, agree-next (p .cones .now) (p .words .now) ys k c d blank answer small (told .0) (s .1), told .1, is))))
 
@@ -142,7 +142,7 @@ module _ (h : Here this) (given : Checked h) where
           let (c, so-far, right, known) = s in
           sets ! (of-opd ! (len ! 19 refl refl)) 25 refl (tt, record { fits = room .0 }) $ stops ! (equals ! (ap vbool (le-ltb (length ys) (length ys) (omega arith))) (bin ! (value ! 23 refl) (value ! 25 refl) tt)) 27 refl refl tt $ left _ $
           had ! places c known $
-          calls-handing (h .w) all-agreed ((tt, tt, tt, (c, tt), (mach c ∷ [], tt)), tt) ! (h .cited .1 .1 .0) [] (own-of places c ∷ []) refl (id⊢ 𝓤 _) bools (λ t us. t ≡ (c .same && not (c .here))) refl (loads ! 8 tt refl) (λ t us told is.
+          calls-handing (h .w) all-agreed ((tt, tt, tt, (c, tt), (mach c ∷ [], tt)), tt) ! (h .cited .1 .1 .0) [] (own-of places c ∷ []) (refl, refl) (id⊢ 𝓤 _) bools (λ t us. t ≡ (c .same && not (c .here))) refl (loads ! 8 tt refl) (λ t us told is.
           drop ! $ lands-in ! bools t is 7 refl refl $
           becomes ! 7 refl (ap vbool (told ∙ agree-end (p .cones .now) (p .words .now) ys (length ys) c answer (omega arith) so-far)) $
           move ! (4 ∷ 5 ∷ []) $ shuts-slice ! tt T.the-row s′ ys b o $ move ! (0 ∷ 5 ∷ []) $
@@ -161,4 +161,4 @@ module _ (h : Here this) (given : Checked h) where
 
 pub same-map-spec : {M : Type 1} → stated.statement M
 unfolding code.routine
-same-map-spec 𝓤 H 𝓜 𝓖 𝓡 = stands this key.name code.env (code.calls-cone-map·MapPlace·start, (code.calls-cone-map·MapPlace·compare, (code.calls-cone-map·MapPlace·all-agreed, tt))) (λ h. walks-given h refl (λ bs t. t) (Checked h) refl (λ given bs. compares-all h given bs (Returned h) (exits h given))) 𝓤 H 𝓜 𝓖 𝓡 (code.unfolded 𝓤 H 𝓜 𝓡)
+same-map-spec 𝓤 H 𝓜 𝓖 𝓡 = stands this key.name code.env (code.calls-cone-map·MapPlace·start, (code.calls-cone-map·MapPlace·compare, (code.calls-cone-map·MapPlace·all-agreed, tt))) (λ h. walks-given h (λ bs t. t) (Checked h) refl (λ given bs. compares-all h given bs (Returned h) (exits h given))) 𝓤 H 𝓜 𝓖 𝓡 (code.unfolded 𝓤 H 𝓜 𝓡)

@@ -100,7 +100,7 @@ module _ (h : Here this) (given : Fit h) where
   exits : ent 𝓤 (⋆ 𝓤 H A Done) (Returned h vunit)
   exits =
       -- [obs; the borrow; the entries' token; the tokens; the slices]
-      qed W Done ∵ move ! (3 ∷ 4 ∷ 2 ∷ []) $ ends-in h ! nothings tt refl tt (units 5 (zs n, tt)) (units 5 (len n, tt)) (stars (params-own p (Entries (zs n) ∷ []))) refl
+      qed W Done ∵ move ! (3 ∷ 4 ∷ 2 ∷ []) $ ends-in h ! nothings tt refl tt (units 5 (zs n, tt)) (units 5 (len n, tt)) (stars (params-own p (Entries (zs n) ∷ []))) (refl, refl)
       (fact-of 𝓤 (fill-all (p .refused) (coneMap (joinedParts (p .cones .now) (p .count) (p .words .now))) ys)) $
       fjoin ! $ pureI ! (at-slice T.the-row (holding p (zs n)) (entries-val p ∷ [])) (tt, (tt, tt)) (ap (λ (j : ℕ). sliceVal (b, o) j ∷ []) (sym (len n)), subst (Room T.the-row) (sym (len n)) room) $ fjoin ! $
       move ! (1 ∷ 2 ∷ 0 ∷ []) $ gather p [] ! (Entries (zs n) ∷ []) $ done !
@@ -144,7 +144,7 @@ module _ (h : Here this) (given : Fit h) where
         assigns ! (of-opd ! (load ! (from ! (fld ! refl (stop !))) (look-in ! 24 (sub ! 2 refl (whole !))))) (from ! (hop ! (look ! 32 refl) (stop !))) (store-raw ! 0 refl (of-type 𝓤 H A W entries e stored refl)) $
         move ! (1 ∷ []) $ drop ! $ had ! entries e stored $ move ! (1 ∷ 0 ∷ []) $ elem-put ! T.the-row fullShare (zs k) k e (entries .val e ∷ []) b o (in-row k small) $ move ! (1 ∷ 2 ∷ 3 ∷ 4 ∷ []) $
         -- [the tokens; the slices; the row; the open borrow; obs; auth; _0; …]
-        steps-on (h .w) p next (to-method p args, tt) args _ 8 k (h .cited .1 .0) refl (fact-of 𝓤 right) (After c) refl (loads ! 7 tt refl) refl (λ u. refl) (omega (arith, fits, room .0, room .1)) (λ d told is.
+        steps-on (h .w) p next (to-method p args, tt) args _ 8 k (h .cited .1 .0) (refl, refl) (fact-of 𝓤 right) (After c) refl (loads ! 7 tt refl) refl (λ u. refl) (omega (arith, fits, room .0, room .1)) (λ d told is.
         forget ! 26 refl $ forget ! 28 refl $ forget ! 30 refl $
         rewrite ! 4 (λ (l : List ConeMapEntry). ‵ (row T.the-row fullShare l b o)) (fill-more es ys fits k e small (entry-before (p .cones .now) (p .words .now) c es k before small)) refl $
         by ! (again (d, next-before (p .cones .now) (p .words .now) c es k before d small (told .0), told .1, is))))
@@ -164,4 +164,4 @@ module _ (h : Here this) (given : Fit h) where
 
 pub write-map-spec : {M : Type 1} → stated.statement M
 unfolding code.routine
-write-map-spec 𝓤 H 𝓜 𝓖 𝓡 = stands this key.name code.env (code.calls-cone-map·MapPlace·start, (code.calls-cone-map·MapPlace·next, tt)) (λ h. walks-given h refl (λ bs t. t) (Fit h) refl (λ given bs. writes-all h given bs (Returned h) (exits h given))) 𝓤 H 𝓜 𝓖 𝓡 (code.unfolded 𝓤 H 𝓜 𝓡)
+write-map-spec 𝓤 H 𝓜 𝓖 𝓡 = stands this key.name code.env (code.calls-cone-map·MapPlace·start, (code.calls-cone-map·MapPlace·next, tt)) (λ h. walks-given h (λ bs t. t) (Fit h) refl (λ given bs. writes-all h given bs (Returned h) (exits h given))) 𝓤 H 𝓜 𝓖 𝓡 (code.unfolded 𝓤 H 𝓜 𝓡)

@@ -1,45 +1,52 @@
--- `decomp_augment_entries::cut_compact_entries` meets its contract: a walk of its MIR, by hand. The covered `cut_but_map` is handed all parameters but
--- the map, which `write_map` writes after it; cones and words are passed to both.
+-- `decomp_augment_entries::cut_compact_entries` meets its contract: a walk of its MIR, by hand. The covered `refuse_cut_compact` is passed the inputs and how long
+-- the outputs are; `cut_constraints`, `cut_objective` and `write_map` are handed what they write. Cones and words are passed to the first and the last of them.
 -- Assumes nothing.
 use mathlib.Core.Path.{_≡_, refl, sym, _∙_}
 use Prim.Native.Nat.{ℕ, _*_, _<_, _^_}
 use mathlib.Core.List.{List, [], _∷_, _++_, map}
-use lib.ListN.{length, take, drop, getD}
+use lib.ListN.{length, take, drop, replicate}
 use mir.Syntax.{named, w32}
 use mir.Val.{vint}
 use base.Logic.{ent, id⊢}
-use base.Fml.{Fml, ftrue}
+use base.Fml.{Fml}
 use types.Kit.{Item, ‵, ⋆, _$_, _∵_, !, qed, by, move, done}
 use types.Run.{look, of-opd, returns}
 use denote.Ref.{RefT}
 use denote.Signature.{plain}
 use denote.Builtin.{u32, f64}
-use denote.Triple.Clauses.{Lasts}
-use Rattle.layout.specs.Problem.{Problem, problem, compact}
+use Rattle.layout.specs.Problem.{Problem, problem, compact, zero64}
+use Rattle.layout.specs.Blocks.{overlapCount}
 use Rattle.layout.specs.Checks.{layout}
-use Rattle.layout.specs.Compact.{coneMap}
-use Rattle.layout.specs.Answers.{Augmented, augmented, output, cutRefusal}
+use Rattle.layout.specs.Compact.{extendedP, compactA, compactB, compactCones, coneMap}
+use Rattle.layout.specs.Answers.{output, cutRefusal}
 use Rattle.by_hand.proofs.World.{World, Function, Callee}
-use Rattle.by_hand.proofs.Stars.{stars, shared-slice, had-twice, padded, together, joins-said, fact-of, and-fact}
+use Rattle.by_hand.proofs.Stars.{stars, shared-slice, had-twice, padded, parts-said, joins-said, fact-of, and-fact}
 use Rattle.by_hand.proofs.Values.{u32s, usizes, nothings, u32-of, usize-of, number, size, slice}
 use Rattle.by_hand.proofs.Places.{span, lft}
-use Rattle.by_hand.proofs.Outputs.{Output, Lists, alongside, lefts, lengths, units, after}
-use Rattle.by_hand.proofs.Params.{Param, handed-number, handed-shared, handed-lent, front, back, before}
-use Rattle.by_hand.proofs.Locals.{value, len, sets, lands-in, free-all}
+use Rattle.by_hand.proofs.Outputs.{Output, Lists, lefts, lengths, units, after}
+use Rattle.by_hand.proofs.Params.{Param, handed-number, handed-shared, handed-lent}
+use Rattle.by_hand.proofs.Locals.{value, sets, lands-in, lands-over, free-all}
 use Rattle.by_hand.proofs.Operands.{loads}
-use Rattle.by_hand.proofs.Lending.{lends}
-use Rattle.by_hand.proofs.Calling.{Ends, says-ends, calls-handing}
-use Rattle.by_hand.proofs.Walking.{Walked, Here, args, Owned, toks, outs, arg, known-of, En, Whole, Returned, ends-in, taken-apart, to-call, walks, stands}
+use Rattle.by_hand.proofs.Lending.{lends, measures}
+use Rattle.by_hand.proofs.Calling.{Ends, says-ends, calls-handing, Arg, plain-arg, lent-arg, length-args, denoted, vals, calls-lent}
+use Rattle.by_hand.proofs.Walking.{Walked, Here, toks, outs, arg, known-of, args-at, vals-at, owned-at, En, Whole, Returned, ends-in, taken-apart, to-call, walks, stands}
 use Rattle.cone_map.specs.declared.ConeMapEntry.{ConeMapEntry}
 use Rattle.cone_map.specs.Entries.{structOf}
 use Rattle.cone_map.proofs.ConeMapEntry as E
-use Rattle.decomp_augment_entries.proofs.Rooms.{map-fits}
+use Rattle.decomp_augment.proofs.Rooms.{only, starts-A, rows-A, values-A, same-b, same-cones, starts-P, costs-q}
+use Rattle.decomp_augment_entries.proofs.Rooms.{same-output, constraints-fit, objective-fits, map-fits}
 use Rattle.cone_maps.proofs.write_map as write-of
 use Rattle.cone_maps.proofs.write_map.Symbol as write-def
 use Rattle.cone_maps.proofs.write_map.Met as write-thm
-use Rattle.decomp_augment_entries.proofs.cut_but_map as but-map-of
-use Rattle.decomp_augment_entries.proofs.cut_but_map.Symbol as but-map-def
-use Rattle.decomp_augment_entries.proofs.cut_but_map.Met as but-map-thm
+use Rattle.decomp_augment_entries.proofs.refuse_cut_compact as refuse-of
+use Rattle.decomp_augment_entries.proofs.refuse_cut_compact.Symbol as refuse-def
+use Rattle.decomp_augment_entries.proofs.refuse_cut_compact.Met as refuse-thm
+use Rattle.decomp_augment_entries.proofs.cut_constraints as constraints-of
+use Rattle.decomp_augment_entries.proofs.cut_constraints.Symbol as constraints-def
+use Rattle.decomp_augment_entries.proofs.cut_constraints.Met as constraints-thm
+use Rattle.decomp_augment_entries.proofs.cut_objective as objective-of
+use Rattle.decomp_augment_entries.proofs.cut_objective.Symbol as objective-def
+use Rattle.decomp_augment_entries.proofs.cut_objective.Met as objective-thm
 use Rattle.decomp_augment_entries.proofs.cut_compact_entries.Key as key
 use Rattle.decomp_augment_entries.proofs.cut_compact_entries as cuts
 use Rattle.decomp_augment_entries.proofs.cut_compact_entries.Statement as stated
@@ -52,14 +59,20 @@ ins = handed-number ∷ handed-number ∷ handed-shared 0 tt u32 ∷ handed-shar
 abbrev outputs : List (Param 22)
 outputs = handed-lent 11 tt u32 ∷ handed-lent 12 tt u32 ∷ handed-lent 13 tt f64 ∷ handed-lent 14 tt f64 ∷ handed-lent 15 tt u32 ∷ handed-lent 16 tt u32 ∷ handed-lent 17 tt f64 ∷ handed-lent 18 tt f64 ∷ handed-lent 19 tt u32 ∷ handed-lent 20 tt f64 ∷ handed-lent 21 tt E.the-row ∷ []
 
-abbrev cut-but-map : Function
-cut-but-map = record { name = but-map-def.name; routine = but-map-def.routine; ended = but-map-of.ended; clauses = but-map-of.clauses; met = but-map-thm.met }
+abbrev refuse-cut-compact : Function
+refuse-cut-compact = record { name = refuse-def.name; routine = refuse-def.routine; ended = refuse-of.ended; clauses = refuse-of.clauses; met = refuse-thm.met }
+
+abbrev cut-constraints : Function
+cut-constraints = record { name = constraints-def.name; routine = constraints-def.routine; ended = constraints-of.ended; clauses = constraints-of.clauses; met = constraints-thm.met }
+
+abbrev cut-objective : Function
+cut-objective = record { name = objective-def.name; routine = objective-def.routine; ended = objective-of.ended; clauses = objective-of.clauses; met = objective-thm.met }
 
 abbrev write-map : Function
 write-map = record { name = write-def.name; routine = write-def.routine; ended = write-of.ended; clauses = write-of.clauses; met = write-thm.met }
 
 abbrev this : Walked
-this = record { n = 22; params = ins ++ outputs; result = plain (λ _. u32); clauses = cuts.clauses; code = code.function; callees = cut-but-map ∷ write-map ∷ [] }
+this = record { n = 22; params = ins ++ outputs; result = plain (λ _. u32); clauses = cuts.clauses; code = code.function; callees = refuse-cut-compact ∷ cut-constraints ∷ cut-objective ∷ write-map ∷ [] }
 
 module _ (h : Here this) where
   abbrev given : Problem
@@ -67,108 +80,142 @@ module _ (h : Here this) where
       let (n, (m, (pst, (pro, (pva, (qva, (ast, (aro, (ava, (bva, (cones, (alp, (count, (words, _)))))))))))))) = h .a in
       problem n m (pst .now) (pro .now) (pva .now) (qva .now) (ast .now) (aro .now) (ava .now) (bva .now) (cones .now) (alp .now) count (words .now)
 
-  abbrev answer : Augmented
-  answer = augmented compact given
-
   abbrev map-out : RefT (List ConeMapEntry)
   map-out = arg h 24
 
-  map-len : length (map-out .now) < 2 ^ 64
-  map-len = known-of h 24 .0 .1 .0
-
-  -- the outputs but the map
-  abbrev core-outs : List Output
-  core-outs = take 10 (outs h)
-
   abbrev rooms : List ℕ
-  rooms = lengths core-outs ++ (length (map-out .now) * 3 ∷ [])
+  rooms = lengths (take 10 (outs h)) ++ (length (map-out .now) * 3 ∷ [])
 
-  -- the lifetimes of cones, words and the map, and the others that `cut_but_map` takes
-  abbrev map-lifetimes : List ℕ
-  map-lifetimes = 8 ∷ 10 ∷ 21 ∷ []
+  -- ---- the call of `refuse_cut_compact`
 
-  abbrev other-lifetimes : List ℕ
-  other-lifetimes = span 0 8 ++ (9 ∷ span 11 10)
-
-  -- ---- the call of `cut_but_map`
-
-  abbrev core-owned : List Fml
-  core-owned = take 14 (Owned h) ++ (usize-of (length (map-out .now)) ∷ take 10 (drop 14 (Owned h)))
-
-  abbrev to-core : Callee (h .w) cut-but-map .Ghost
-  to-core = (to-call h (span 0 21) (before (h .κs) ins (front (h .κs) 14 (this .params) (h .a)) (length (map-out .now), front (h .κs) 10 outputs (back (h .κs) 14 (this .params) (h .a)))) (take 14 (args h) ++ (usizes .val (length (map-out .now)) ∷ take 10 (drop 14 (args h)))), tt)
-
-  -- what it ensures: its answer r and the outputs' last values
-  abbrev Cut : ℕ → Lists core-outs → Type 0
-  Cut r ws =
-      let (w₀, (w₁, (w₂, (w₃, (w₄, (w₅, (w₆, (w₇, (w₈, (w₉, _)))))))))) = ws in
-      let (o₀, (o₁, (o₂, (o₃, (o₄, (o₅, (o₆, (o₇, (o₈, (o₉, _)))))))))) = back (h .κs) 14 (this .params) (h .a) in
-      (r ≡ cutRefusal compact given rooms)
-      × (w₀ ≡ output r (answer .P .starts) (o₀ .now)) × (w₁ ≡ output r (answer .P .rows) (o₁ .now)) × (w₂ ≡ output r (answer .P .values) (o₂ .now)) × (w₃ ≡ output r (answer .q) (o₃ .now))
-      × (w₄ ≡ output r (answer .A .starts) (o₄ .now)) × (w₅ ≡ output r (answer .A .rows) (o₅ .now)) × (w₆ ≡ output r (answer .A .values) (o₆ .now)) × (w₇ ≡ output r (answer .b) (o₇ .now))
-      × (w₈ ≡ output r (answer .cones) (o₈ .now)) × (w₉ ≡ output r (answer .alphas) (o₉ .now))
-
-  abbrev CoreEnds : Type 0
-  CoreEnds = Ends (h .w) cut-but-map to-core
-
-  -- ---- the call of `write_map`, with the answer
-
-  abbrev map-owned : ℕ → List Fml
-  map-owned r = u32-of r ∷ u32-of (arg h 1) ∷ getD (Owned h) 10 ftrue ∷ u32-of (arg h 12) ∷ getD (Owned h) 13 ftrue ∷ getD (Owned h) 24 ftrue ∷ []
-
-  abbrev to-write : ℕ → Callee (h .w) write-map .Ghost
-  to-write r = (to-call h map-lifetimes (r, (arg h 1, (arg h 10, (arg h 12, (arg h 13, (map-out, tt)))))) (u32s .val r ∷ u32s .val (arg h 1) ∷ slice (arg h 10) ∷ u32s .val (arg h 12) ∷ slice (arg h 13) ∷ slice map-out ∷ []), tt)
-
-  abbrev MapEnds : ℕ → Type 0
-  MapEnds r = Ends (h .w) write-map (to-write r)
-
-  abbrev Written : (r : ℕ) → Lists (drop 10 (outs h)) → Type 0
-  Written r ws = ws .0 ≡ output r (map structOf (coneMap (layout given))) (map-out .now)
-
-  -- ---- the return
+  abbrev refuse-args : List Arg
+  refuse-args =
+      plain-arg u32s (arg h 0) (known-of h 0) ∷ plain-arg u32s (arg h 1) (known-of h 1) ∷ lent-arg (named 0) (lft 22 (h .κs) 0) u32 (arg h 2) ∷ lent-arg (named 1) (lft 22 (h .κs) 1) u32 (arg h 3) ∷ lent-arg (named 2) (lft 22 (h .κs) 2) f64 (arg h 4) ∷ lent-arg (named 3) (lft 22 (h .κs) 3) f64 (arg h 5) ∷ lent-arg (named 4) (lft 22 (h .κs) 4) u32 (arg h 6) ∷ lent-arg (named 5) (lft 22 (h .κs) 5) u32 (arg h 7) ∷ lent-arg (named 6) (lft 22 (h .κs) 6) f64 (arg h 8) ∷ lent-arg (named 7) (lft 22 (h .κs) 7) f64 (arg h 9) ∷ lent-arg (named 8) (lft 22 (h .κs) 8) u32 (arg h 10) ∷ lent-arg (named 9) (lft 22 (h .κs) 9) f64 (arg h 11) ∷ plain-arg u32s (arg h 12) (known-of h 12) ∷ lent-arg (named 10) (lft 22 (h .κs) 10) u32 (arg h 13)
+      ∷ length-args (outs h)
 
   open World (h .w) using (𝓤, H, A, W)
 
-  -- what is left then: both callees' tokens, and what they say of the last values
-  abbrev Done : CoreEnds → (r : ℕ) → MapEnds r → List (Item 𝓤)
-  Done us r vs = toks h map-lifetimes ++ (‵ (says-ends (h .w) write-map (to-write r) vs) ∷ (toks h other-lifetimes ++ (‵ (says-ends (h .w) cut-but-map to-core us) ∷ [])))
+  -- the problem's number
+  module _ (r : ℕ) where
+    -- ---- the call of `cut_constraints`: the outputs that it writes, the lifetimes and the arguments that it takes
 
-  -- what is said of the outputs' last values, by both
-  abbrev all-left : CoreEnds → (r : ℕ) → MapEnds r → List (ℕ × List Fml)
-  all-left us r vs = (15, lefts core-outs (after 15 us)) ∷ (5, lefts (drop 10 (outs h)) (after 5 vs)) ∷ []
+    abbrev a-outs : List Output
+    a-outs = take 5 (drop 4 (outs h))
 
-  abbrev all-ends : CoreEnds → (r : ℕ) → MapEnds r → Lasts cuts.ended (h .κs) (h .a)
-  all-ends us r vs = units 14 (alongside core-outs (drop 10 (outs h)) (after 15 us) (after 5 vs))
+    abbrev a-lifetimes : List ℕ
+    a-lifetimes = span 4 5 ++ (10 ∷ span 15 5)
 
-  exits : (us : CoreEnds) (r : ℕ) (vs : MapEnds r) → r < 2 ^ 32 → Cut r (after 15 us) → Written r (after 5 vs) → ent 𝓤 (⋆ 𝓤 H A (Done us r vs)) (Returned h (vint w32 r))
-  exits us r vs fits told written-map =
-      qed W (Done us r vs) ∵ move ! (span 4 8 ++ (0 ∷ 12 ∷ 1 ∷ (span 13 10 ++ (2 ∷ [])))) $
-      ends-in h ! u32s r (refl, fits) r (all-ends us r vs) (units 25 tt) (padded 14 (stars (together (all-left us r vs)))) refl
-      (and-fact 𝓤 (told .0) (and-fact 𝓤 (told .1) (and-fact 𝓤 (told .2) (and-fact 𝓤 (told .3) (and-fact 𝓤 (told .4) (and-fact 𝓤 (told .5)
-      (and-fact 𝓤 (told .6) (and-fact 𝓤 (told .7) (and-fact 𝓤 (told .8) (and-fact 𝓤 (told .9) (and-fact 𝓤 (told .10) (fact-of 𝓤 written-map)))))))))))) $
-      move ! (1 ∷ 0 ∷ []) $ joins-said [] ! (all-left us r vs) 14 $ done !
+    abbrev a-args : List ℕ
+    a-args = 0 ∷ 1 ∷ (span 6 5 ++ (12 ∷ 13 ∷ span 18 5))
+
+    abbrev to-constraints : Callee (h .w) cut-constraints .Ghost
+    to-constraints = (to-call h a-lifetimes (r, args-at h a-args) (u32s .val r ∷ vals-at h a-args), tt)
+
+    abbrev a-owned : List Fml
+    a-owned = u32-of r ∷ owned-at h a-args
+
+    -- what it ensures: the columns that it added, k, and the outputs' last values
+    abbrev Constrained : ℕ → Lists a-outs → Type 0
+    Constrained k ws =
+        let (w₀, (w₁, (w₂, (w₃, (w₄, _))))) = ws in
+        (r ≡ 0 → k ≡ overlapCount (layout given))
+        × (w₀ ≡ output r (compactA (only given) .starts) (arg h 18 .now)) × (w₁ ≡ output r (compactA (only given) .rows) (arg h 19 .now)) × (w₂ ≡ output r (compactA (only given) .values) (arg h 20 .now))
+        × (w₃ ≡ output r (compactB (only given)) (arg h 21 .now)) × (w₄ ≡ output r (compactCones (only given)) (arg h 22 .now))
+
+    -- ---- the call of `cut_objective`, with k columns
+
+    abbrev p-outs : List Output
+    p-outs = take 4 (outs h) ++ take 1 (drop 9 (outs h))
+
+    abbrev p-lifetimes : List ℕ
+    p-lifetimes = span 0 4 ++ (9 ∷ (span 11 4 ++ (20 ∷ [])))
+
+    abbrev p-args : List ℕ
+    p-args = 0 ∷ (span 2 4 ++ (11 ∷ (span 14 4 ++ (23 ∷ []))))
+
+    abbrev to-objective : ℕ → Callee (h .w) cut-objective .Ghost
+    to-objective k = (to-call h p-lifetimes (r, (k, args-at h p-args)) (u32s .val r ∷ usizes .val k ∷ vals-at h p-args), tt)
+
+    abbrev p-owned : ℕ → List Fml
+    p-owned k = u32-of r ∷ usize-of k ∷ owned-at h p-args
+
+    abbrev Extended : ℕ → Lists p-outs → Type 0
+    Extended k ws =
+        let (w₀, (w₁, (w₂, (w₃, (w₄, _))))) = ws in
+        (w₀ ≡ output r (extendedP k (given .P) .starts) (arg h 14 .now)) × (w₁ ≡ output r (given .P .rows) (arg h 15 .now)) × (w₂ ≡ output r (given .P .values) (arg h 16 .now))
+        × (w₃ ≡ output r (given .q ++ replicate k zero64) (arg h 17 .now)) × (w₄ ≡ output r (given .alphas) (arg h 23 .now))
+
+    -- ---- the call of `write_map`
+
+    abbrev map-lifetimes : List ℕ
+    map-lifetimes = 8 ∷ 10 ∷ 21 ∷ []
+
+    abbrev map-args : List ℕ
+    map-args = 1 ∷ 10 ∷ 12 ∷ 13 ∷ 24 ∷ []
+
+    abbrev to-write : Callee (h .w) write-map .Ghost
+    to-write = (to-call h map-lifetimes (r, args-at h map-args) (u32s .val r ∷ vals-at h map-args), tt)
+
+    abbrev map-owned : List Fml
+    map-owned = u32-of r ∷ owned-at h map-args
+
+    abbrev Written : Lists (drop 10 (outs h)) → Type 0
+    Written ws = ws .0 ≡ output r (map structOf (coneMap (layout given))) (map-out .now)
+
+    -- ---- the return
+
+    module _ (us : Ends (h .w) cut-constraints to-constraints) (k : ℕ) (vs : Ends (h .w) cut-objective (to-objective k)) (ws : Ends (h .w) write-map to-write) where
+      -- what is left then: the callees' tokens, and what they say of the last values
+      abbrev Done : List (Item 𝓤)
+      Done =
+          toks h map-lifetimes ++ (‵ (says-ends (h .w) write-map to-write ws) ∷ (toks h p-lifetimes ++ (‵ (says-ends (h .w) cut-objective (to-objective k) vs)
+          ∷ (toks h (span 4 4 ++ span 15 5) ++ (‵ (says-ends (h .w) cut-constraints to-constraints us) ∷ [])))))
+
+      abbrev ends : Lists (outs h)
+      ends =
+          let (a₀, (a₁, (a₂, (a₃, (a₄, _))))) = after 10 us in
+          let (p₀, (p₁, (p₂, (p₃, (p₄, _))))) = after 8 vs in
+          (p₀, (p₁, (p₂, (p₃, (a₀, (a₁, (a₂, (a₃, (a₄, (p₄, after 5 ws))))))))))
+
+      exits : r < 2 ^ 32 → r ≡ cutRefusal compact given rooms → Constrained k (after 10 us) → Extended k (after 8 vs) → Written (after 5 ws) → ent 𝓤 (⋆ 𝓤 H A Done) (Returned h (vint w32 r))
+      exits fits e c x m =
+          qed W Done ∵ move ! (span 4 4 ++ (span 15 4 ++ (0 ∷ 8 ∷ 1 ∷ (span 9 4 ++ (span 19 5 ++ (13 ∷ 2 ∷ [])))))) $
+          ends-in h ! u32s r (refl, fits) r (units 14 ends) (units 25 tt) (padded 14 (stars (lefts (outs h) ends))) (refl, refl)
+          (and-fact 𝓤 e (and-fact 𝓤 (x .0 ∙ same-output r (arg h 14 .now) (λ z. starts-P given compact k (c .0 z))) (and-fact 𝓤 (x .1) (and-fact 𝓤 (x .2)
+          (and-fact 𝓤 (x .3 ∙ same-output r (arg h 17 .now) (λ z. costs-q given compact k (c .0 z))) (and-fact 𝓤 (c .1 ∙ same-output r (arg h 18 .now) (λ _. starts-A given compact)) (and-fact 𝓤 (c .2 ∙ same-output r (arg h 19 .now) (λ _. rows-A given compact))
+          (and-fact 𝓤 (c .3 ∙ same-output r (arg h 20 .now) (λ _. values-A given compact)) (and-fact 𝓤 (c .4 ∙ same-output r (arg h 21 .now) (λ _. same-b given compact)) (and-fact 𝓤 (c .5 ∙ same-output r (arg h 22 .now) (λ _. same-cones given compact)) (and-fact 𝓤 (x .4) (fact-of 𝓤 m)))))))))))) $
+          -- [what `write_map`, `cut_objective` and `cut_constraints` say]
+          parts-said [] ! ((5, lefts (drop 10 (outs h)) (after 5 ws)) ∷ (8, lefts p-outs (after 8 vs)) ∷ (10, lefts a-outs (after 10 us)) ∷ []) $
+          move ! (span 1 4 ++ (span 6 5 ++ (5 ∷ 0 ∷ []))) $ joins-said [] ! 14 (lefts (outs h) ends) $ done !
 
   cuts-all : Whole h
   cuts-all bs =
-      -- [the tokens; what is owned; _0; …]: local i at 2 + 2 * i. The map's length is read, and the outputs are lent on
-      sets ! (of-opd ! (len ! 52 refl refl)) 56 refl (tt, record { fits = map-len }) $
-      lends ! 2 core-outs 15 28 refl refl $ taken-apart h _ ! $ size ! (length (map-out .now)) map-len $
-      -- [the map's length; the inputs; the outputs; the map; the tokens; _0; …]
-      move ! (11 ∷ 14 ∷ []) $ had-twice _ ! (shared-slice (named 8) (lft 22 (h .κs) 8) u32 (arg h 10) (slice (arg h 10) ∷ []) ∷ shared-slice (named 10) (lft 22 (h .κs) 10) u32 (arg h 13) (slice (arg h 13) ∷ []) ∷ []) $
-      -- [cones; words; cones; words; the map's length; the other inputs; the outputs; the map; the tokens; _0; …]
-      move ! (span 28 21 ++ (span 5 10 ++ (0 ∷ 15 ∷ 16 ∷ 1 ∷ 4 ∷ span 17 10))) $
-      -- [what it is handed; cones; words; the map; its token; _0; …]
-      calls-handing (h .w) cut-but-map to-core ! (h .cited .0) (toks h (span 0 21)) core-owned refl (id⊢ 𝓤 _) u32s (λ r us. Cut r (after 15 us)) refl (loads ! 5 tt refl) (λ r us told is.
-      -- [its tokens; the outputs' last values; cones; words; the map; its token; _0; …]: local i at 26 + 2 * i
-      lands-in ! u32s r is 78 refl refl $ lends ! 26 (drop 10 (outs h)) 25 49 refl refl $
-      number ! (arg h 12) (known-of h 12 .1) $ number ! (arg h 1) (known-of h 1 .1) $ number ! r (is .1) $ move ! (11 ∷ 13 ∷ 28 ∷ 0 ∷ 1 ∷ 25 ∷ 2 ∷ 26 ∷ 27 ∷ []) $
-      -- [what it is handed; the other tokens; the outputs' last values; _0; …]
-      calls-handing (h .w) write-map (to-write r) ! (h .cited .1 .0) (toks h map-lifetimes) (map-owned r) refl (fact-of 𝓤 (λ e. map-fits given rooms (length (map-out .now)) (sym (told .0) ∙ e) refl)) nothings
-      (λ _ vs. Written r (after 5 vs)) refl (loads ! 21 tt refl) (λ _ vs written-map _.
-      -- [its tokens; the map's last value; the other tokens; the outputs' last values; _0; …]: local i at 24 + 2 * i
-      lands-in ! nothings tt refl 120 refl refl $ sets ! (of-opd ! (value ! 76 refl)) 24 refl (tt, record { fits = is .1 }) $
-      returns ! (look ! 24 refl) $ free-all ! (Done us r vs) (En h bs) refl $ by ! (exits us r vs (is .1) told written-map)))
+      -- [the tokens; what is owned; _0; …]: local i at 2 + 2 * i
+      measures ! 2 (outs h) 15 28 refl refl $ taken-apart h _ ! $
+      -- [n; m; the inputs but count; the outputs; the tokens; _0; …]: local i at 47 + 2 * i
+      move ! (span 25 11 ++ (span 2 10 ++ (13 ∷ []))) $
+      calls-lent (h .w) refuse-cut-compact (to-call h (span 0 11) (denoted refuse-args) (vals refuse-args), tt) (toks h (span 0 11)) refuse-args _ ! (h .cited .0) (refl, refl) (id⊢ 𝓤 _) u32s (λ r. r ≡ cutRefusal compact given rooms) refl (loads ! 37 tt refl) (λ r e is.
+      lands-in ! u32s r is 99 refl refl $ lends ! 47 (a-outs r) 19 39 refl refl $
+      -- [the inputs' tokens; the inputs' slices; n; m; count; the outputs; the outputs' tokens; _0; …]
+      move ! (19 ∷ 21 ∷ []) $ had-twice _ ! (shared-slice (named 8) (lft 22 (h .κs) 8) u32 (arg h 10) (slice (arg h 10) ∷ []) ∷ shared-slice (named 10) (lft 22 (h .κs) 10) u32 (arg h 13) (slice (arg h 13) ∷ []) ∷ []) $ number ! r (is .1) $
+      -- [refused; cones; words; cones; words; the inputs' tokens; the other slices; n; m; count; the outputs; the outputs' tokens; _0; …]
+      move ! (span 9 5 ++ (15 ∷ (span 43 5 ++ (0 ∷ 25 ∷ 26 ∷ (span 20 4 ++ (1 ∷ 27 ∷ 2 ∷ span 32 5)))))) $
+      calls-handing (h .w) cut-constraints (to-constraints r) ! (h .cited .1 .0) (toks h (a-lifetimes r)) (a-owned r) (refl, refl) (fact-of 𝓤 (λ z. constraints-fit given rooms (sym e ∙ z))) usizes (λ k us. Constrained r k (after 10 us)) refl (loads ! 25 tt refl) (λ k us told kis.
+      -- [its tokens; what it says; cones; words; the other tokens of inputs; P, q and the exponents; the other outputs; their tokens; _0; …]: local i at 36 + 2 * i
+      lands-in ! usizes k kis 90 refl refl $ lends ! 36 (take 4 (outs h)) 15 50 refl refl $ lends ! 36 (take 1 (drop 9 (outs h))) 24 58 refl refl $
+      number ! (arg h 0) (known-of h 0 .1) $ size ! k (kis .1) $ number ! r (is .1) $
+      move ! (span 17 5 ++ (span 33 5 ++ (0 ∷ 1 ∷ 2 ∷ (span 22 5 ++ span 27 5)))) $
+      calls-handing (h .w) cut-objective (to-objective r k) ! (h .cited .1 .1 .0) (toks h (p-lifetimes r)) (p-owned r k) (refl, refl) (fact-of 𝓤 (λ z. objective-fits given rooms (sym e ∙ z) k (told .0 z))) nothings (λ _ vs. Extended r k (after 8 vs)) refl (loads ! 17 tt refl) (λ _ vs extended _.
+      -- [its tokens; what it says; the tokens of `cut_constraints`; what that says; cones; words; the map; its token; _0; …]: local i at 27 + 2 * i
+      lands-in ! nothings tt refl 125 refl refl $ lends ! 27 (drop 10 (outs h)) 25 60 refl refl $
+      number ! (arg h 12) (known-of h 12 .1) $ number ! (arg h 1) (known-of h 1 .1) $ number ! r (is .1) $ move ! (18 ∷ 19 ∷ 29 ∷ 0 ∷ 1 ∷ 26 ∷ 2 ∷ 27 ∷ 28 ∷ []) $
+      calls-handing (h .w) write-map (to-write r) ! (h .cited .1 .1 .1 .0) (toks h (map-lifetimes r)) (map-owned r) (refl, refl) (fact-of 𝓤 (λ z. map-fits given rooms (sym e ∙ z) (length (map-out .now)) refl)) nothings (λ _ ws. Written r (after 5 ws)) refl (loads ! 22 tt refl) (λ _ ws written-map _.
+      -- local i at 25 + 2 * i
+      lands-over ! nothings tt refl 123 refl refl $ sets ! (of-opd ! (value ! 77 refl)) 25 refl (tt, record { fits = is .1 }) $
+      returns ! (look ! 25 refl) $ free-all ! (Done r us k vs ws) (En h bs) refl $ by ! (exits r us k vs ws (is .1) e told extended written-map)))))
 
 pub cut-compact-entries-spec : {M : Type 1} → stated.statement M
 unfolding code.routine
-cut-compact-entries-spec 𝓤 H 𝓜 𝓖 𝓡 = stands this key.name code.env (code.calls-decomp-augment-entries·cut-but-map, (code.calls-cone-maps·write-map, tt)) (λ h. walks h refl (λ bs t. t) (cuts-all h)) 𝓤 H 𝓜 𝓖 𝓡 (code.unfolded 𝓤 H 𝓜 𝓡)
+cut-compact-entries-spec 𝓤 H 𝓜 𝓖 𝓡 =
+    stands this key.name code.env (code.calls-decomp-augment-entries·refuse-cut-compact, (code.calls-decomp-augment-entries·cut-constraints, (code.calls-decomp-augment-entries·cut-objective, (code.calls-cone-maps·write-map, tt))))
+    (λ h. walks h (λ bs t. t) (cuts-all h)) 𝓤 H 𝓜 𝓖 𝓡 (code.unfolded 𝓤 H 𝓜 𝓡)

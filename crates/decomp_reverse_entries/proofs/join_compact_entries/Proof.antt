@@ -21,7 +21,7 @@ use Rattle.layout.specs.Compact.{coneMap}
 use Rattle.layout.specs.Answers.{output, joinedParts, joinChecks, joined, scalars}
 use Rattle.decomp_reverse_entries.specs.Refusals.{refusalAs}
 use Rattle.by_hand.proofs.World.{World, Function, Callee}
-use Rattle.by_hand.proofs.Stars.{stars, padded, together, joins-said, fact-of, and-fact}
+use Rattle.by_hand.proofs.Stars.{stars, padded, parts-said, joins-said, fact-of, and-fact}
 use Rattle.by_hand.proofs.Values.{u32s, bools, own-of, had, number}
 use Rattle.by_hand.proofs.Places.{span, lft}
 use Rattle.by_hand.proofs.Outputs.{Lists, lefts, lengths, units, after}
@@ -141,39 +141,36 @@ module _ (h : Here this) where
       abbrev Done : List (Item 𝓤)
       Done = toks h core-lifetimes ++ (‵ (says-ends (h .w) join-as to-core us) ∷ (toks h (5 ∷ []) ++ (‵ (getD (Owned h) 10 ftrue) ∷ [])))
 
-      abbrev all-left : List (ℕ × List Fml)
-      all-left = (12, lefts (outs h) (after 12 us)) ∷ []
-
       abbrev all-ends : Lasts joins.ended (h .κs) (h .a)
       all-ends = units 11 (after 12 us)
 
       exits : (w : ℕ) → w < 2 ^ 32 → r ≡ checked → (r ≡ 0 → t ≡ right-map) → Joined w (after 12 us) → ent 𝓤 (⋆ 𝓤 H A Done) (Returned h (vint w32 w))
       exits w fits e same-there told =
           qed W Done ∵ move ! (span 0 5 ++ (10 ∷ span 5 4)) $
-          ends-in h ! u32s w (refl, fits) w all-ends (units 15 tt) (padded 11 (stars (together all-left))) refl
+          ends-in h ! u32s w (refl, fits) w all-ends (units 15 tt) (padded 11 (stars (lefts (outs h) (after 12 us)))) (refl, refl)
           (and-fact 𝓤 (told .0 ∙ as-entries t n m cones count words solved (map meant (entries .now)) (lengths (outs h)) (λ z. same-there (e ∙ z))) (and-fact 𝓤 (told .1) (and-fact 𝓤 (told .2) (and-fact 𝓤 (told .3) (fact-of 𝓤 (told .4)))))) $
           -- [the outputs' last values; the map]
-          move ! (1 ∷ []) $ drop-item ! $ joins-said [] ! all-left 11 $ done !
+          move ! (1 ∷ []) $ drop-item ! $ parts-said [] ! ((12, lefts (outs h) (after 12 us)) ∷ []) $ joins-said [] ! 11 (lefts (outs h) (after 12 us)) $ done !
 
   joins-all : Whole h
   joins-all bs = taken-apart h _ ! $
       -- [n; m; cones; count; words; x; s; z; tau; kappa; map; the outputs; the tokens; _0; …]: local i at 25 + 2 * i
       move ! (15 ∷ 16 ∷ 2 ∷ 4 ∷ []) $
-      calls-lent (h .w) check-join (to-call h (span 0 2) (denoted check-args) (vals check-args), tt) (toks h (span 0 2)) check-args _ ! (h .cited .0) refl (id⊢ 𝓤 _) u32s (λ r. r ≡ checked) refl (loads ! 24 tt refl) (λ r e is.
+      calls-lent (h .w) check-join (to-call h (span 0 2) (denoted check-args) (vals check-args), tt) (toks h (span 0 2)) check-args _ ! (h .cited .0) (refl, refl) (id⊢ 𝓤 _) u32s (λ r. r ≡ checked) refl (loads ! 24 tt refl) (λ r e is.
       lands-in ! u32s r is 57 refl refl $
       -- [the tokens; cones; words; n; m; count; x; s; z; tau; kappa; map; the outputs; the other tokens; _0; …]
       move ! (0 ∷ 1 ∷ 20 ∷ 2 ∷ 3 ∷ 12 ∷ []) $
       let passed = same-args r (is .1) in
-      calls-lent (h .w) same-map (to-call h map-lifetimes (denoted passed) (vals passed), tt) (toks h map-lifetimes) passed _ ! (h .cited .1 .0) refl (fact-of 𝓤 (λ z. checks-passed compact n m cones count words (sym e ∙ z) .0)) bools
+      calls-lent (h .w) same-map (to-call h map-lifetimes (denoted passed) (vals passed), tt) (toks h map-lifetimes) passed _ ! (h .cited .1 .0) (refl, refl) (fact-of 𝓤 (λ z. checks-passed compact n m cones count words (sym e ∙ z) .0)) bools
       (λ t. r ≡ 0 → t ≡ right-map) refl (loads ! 23 tt refl) (λ t same-there it.
       lands-in ! bools t it 59 refl refl $ lends ! 25 (outs h) 12 18 refl refl $ number ! r (is .1) $ had ! bools t it $
       -- [same; refused; the tokens; cones; words; map; n; m; count; x; s; z; tau; kappa; the outputs; the other tokens; _0; …]
       move ! (2 ∷ 3 ∷ (span 20 7 ++ (8 ∷ 9 ∷ 5 ∷ 10 ∷ 6 ∷ (span 11 5 ++ (1 ∷ 0 ∷ span 16 4))))) $
-      calls-handing (h .w) join-as (to-core r t) ! (h .cited .1 .1 .0) (toks h core-lifetimes) (core-owned r t) refl (fact-of 𝓤 e) u32s (λ w us. Joined r t w (after 12 us)) refl (loads ! 3 tt refl) (λ w us told wis.
+      calls-handing (h .w) join-as (to-core r t) ! (h .cited .1 .1 .0) (toks h core-lifetimes) (core-owned r t) (refl, refl) (fact-of 𝓤 e) u32s (λ w us. Joined r t w (after 12 us)) refl (loads ! 3 tt refl) (λ w us told wis.
       -- [its tokens; the outputs' last values; the map's token; the map; _0; …]
       lands-in ! u32s w wis 12 refl refl $
       returns ! (look ! 12 refl) $ free-all ! (Done r t us) (En h bs) refl $ by ! (exits r t us w (wis .1) e same-there told))))
 
 pub join-compact-entries-spec : {M : Type 1} → stated.statement M
 unfolding code.routine
-join-compact-entries-spec 𝓤 H 𝓜 𝓖 𝓡 = stands this key.name code.env (code.calls-decomp-reverse-entries·check-join, (code.calls-cone-maps·same-map, (code.calls-decomp-reverse-entries·join-as, tt))) (λ h. walks h refl (λ bs t. t) (joins-all h)) 𝓤 H 𝓜 𝓖 𝓡 (code.unfolded 𝓤 H 𝓜 𝓡)
+join-compact-entries-spec 𝓤 H 𝓜 𝓖 𝓡 = stands this key.name code.env (code.calls-decomp-reverse-entries·check-join, (code.calls-cone-maps·same-map, (code.calls-decomp-reverse-entries·join-as, tt))) (λ h. walks h (λ bs t. t) (joins-all h)) 𝓤 H 𝓜 𝓖 𝓡 (code.unfolded 𝓤 H 𝓜 𝓡)
