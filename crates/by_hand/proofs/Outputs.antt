@@ -1,9 +1,9 @@
 -- The `&mut [R]` parameters that a function walked by hand hands on, as a list.
---     Lists os         a list for each: their last values.        alongside     of two lists of outputs
+--     Lists os         a list for each: their last values
 --     lefts os ws      what is said of them.        lengths       how long they are
 --     Units k X        k units, and X: what is bound of last values where k parameters have none.        units, after     put before, and taken off
 use Prim.Native.Nat.{ℕ, zero, suc, _<_, _^_}
-use mathlib.Core.List.{List, [], _∷_, _++_}
+use mathlib.Core.List.{List, [], _∷_}
 use lib.ListN.{length}
 use mir.Syntax.{Lifetime}
 use base.Fml.{Fml}
@@ -23,10 +23,6 @@ output ℓ R x fits = record { lifetime = ℓ; R = R; ref = x; fits = fits }
 abbrev pub Lists : List Output → Type 0
 Lists [] = Unit {0}
 Lists (o ∷ os) = List (o .R .Denot) × Lists os
-
-abbrev pub alongside : (os us : List Output) → Lists os → Lists us → Lists (os ++ us)
-alongside [] us vs ws = ws
-alongside (o ∷ os) us vs ws = (vs .0, alongside os us (vs .1) ws)
 
 abbrev pub lefts : (os : List Output) → Lists os → List Fml
 lefts [] ws = []

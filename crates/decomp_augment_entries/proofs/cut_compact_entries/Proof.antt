@@ -1,5 +1,5 @@
 -- `decomp_augment_entries::cut_compact_entries` meets its contract: a walk of its MIR, by hand. The covered `refuse_cut_compact` is passed the inputs and how long
--- the outputs are; `cut_constraints`, `cut_objective` and `write_map` are handed what they write. Cones and words are passed to the first and the last of them.
+-- the outputs are; `cut_constraints`, `cut_objective` and `write_map` are handed what they write. Cones and words are handed to the first and to the last.
 -- Assumes nothing.
 use mathlib.Core.Path.{_≡_, refl, sym, _∙_}
 use Prim.Native.Nat.{ℕ, _*_, _<_, _^_}
