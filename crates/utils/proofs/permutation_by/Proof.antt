@@ -56,7 +56,7 @@ returns-2 c =
     sym (and-right (all (λ x. ltb x (length ws)) ws) (distinct ws) (repeats-within _ ws (sym (once m) ∙ not-true _ (c .if2 .taken))))
 
 sub-if3 : tie.Need-sub-if3 Inv-loop μ-loop
-sub-if3 c = c .before .before .before .before .before .before .before .before .before .loop .inv .0
+sub-if3 c = omega arith
 
 same-length-2 : tie.Need-same-length-2 Inv-loop μ-loop
 same-length-2 c = let m = c .before .before .before .before in size m ∙ m .before .before .before .before .before .before .loop .inv .1
