@@ -2,7 +2,7 @@ use native.Mathlib.Omega.{arith}
 use borrow.Author.Needs.{needs}
 use Rattle.layout.specs.Blocks.{standardRows}
 use Rattle.layout.specs.Answers.{joinedParts}
-use Rattle.layout.proofs.Buffers.{written-after}
+use Rattle.layout.proofs.Buffers.{written-after, length-tail}
 use Rattle.augment_standard.specs.Beside.{hRows}
 use Rattle.augment_standard.proofs.Columns.{length-hRows}
 use Rattle.augment.proofs.Laws.{rows-count}
@@ -27,7 +27,12 @@ part-h-rows-end : tie.Need-part-h-rows-end
 part-h-rows-end c = search needs
 
 h-rows-requires : tie.Need-h-rows-requires
-h-rows-requires c κs = search needs
+h-rows-requires c κs =
+    let g = c .before .before .before in
+    let s = g .before .before .before .before .before .before in (
+      s .pre .0,
+      (s .pre .1 .0, s .pre .1 .1, omega (arith, s .pre .1 .2, length-tail (g .copy-numbers .last .0) (length (s .args .a-rows .now)), g .copy-numbers .kept .0)),
+    )
 
 same-length : tie.Need-same-length
 same-length c = search needs
