@@ -5,22 +5,18 @@ use mathlib.Core.Path.{_≡_, ap, _∙_}
 use mathlib.Core.List.{List}
 use lib.ListN.{length}
 use lib.Dec.{T}
-use mir.Syntax.{w32}
-use mir.Val.{Fits}
 use Rattle.layout.specs.Lists.{written}
 use Rattle.layout.specs.Problem.{Problem, Route}
-use Rattle.layout.specs.Checks.{Sound, startsRight}
+use Rattle.layout.specs.Checks.{Sound, startsRight, layout}
 use Rattle.layout.proofs.Accepted.{accepted-sound, accepted-checked}
 use Rattle.layout.proofs.Columns.{right-A}
+use Rattle.layout.specs.Blocks.{blockRowCount}
+use Rattle.layout.specs.Answers.{augmented, addedCount, slackCount}
 use Rattle.augment_standard.specs.Constraints.{completed, Accepted}
 
 -- what was written, by an equal list
 pub renamed : {A : Type 0} {out xs ys : List A} (old : List A) → xs ≡ ys → out ≡ written xs old → out ≡ written ys old
 renamed old e w = w ∙ ap (λ zs. written zs old) e
-
--- a count of entries fits a u32
-pub fits-u32 : (k : ℕ) → k ≤ 262144 → Fits w32 k
-fits-u32 k few = omega arith
 
 module _ {route : Route} {p : Problem} (h : Accepted route p) where
   abbrev pub whole : Problem
@@ -44,3 +40,12 @@ module _ {route : Route} {p : Problem} (h : Accepted route p) where
   -- room for the starts of A and of k columns more
   pub room-starts : (k room : ℕ) → suc (p .n + k) ≤ room → length (p .A .starts) + k ≤ room
   room-starts k room r = omega (arith, right-A route whole (h .accepted) .count, r)
+
+-- what is asked of a route, with so many rows of blocks, k added columns, and room for the outputs
+module _ (p : Problem) (rows k starts entries values bs cones map : ℕ) where
+  abbrev pub Asked : Route → Type 0
+  Asked route =
+      Accepted route p
+      × (((rows ≡ blockRowCount (layout p)) × (k ≡ addedCount route (layout p)))
+      × ((suc (p .n + k) ≤ starts) × (length (p .A .values) + 2 * k ≤ entries) × (length (p .A .values) + 2 * k ≤ values)
+      × (slackCount route (p .m) (layout p) ≤ bs) × (length (augmented route p .cones) ≤ cones) × (length (augmented route p .map) ≤ map)))

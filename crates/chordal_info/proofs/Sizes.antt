@@ -1,5 +1,5 @@
 -- Check 10 and the sizes from counts, for a route's number and for a problem that the route accepts.
-use Prim.Native.Nat.{ℕ, zero, suc, _+_, _*_, _≤_, _<_}
+use Prim.Native.Nat.{ℕ, suc, _+_, _*_, _≤_, _<_}
 use native.Mathlib.Numerals.{add-one}
 use native.Mathlib.Omega.{arith}
 use mathlib.Core.Path.{_≡_, refl, ap}
@@ -11,7 +11,7 @@ use borrow.Author.Tests.{lt-leb}
 use Rattle.layout.specs.Problem.{Problem, Route, standard, compact}
 use Rattle.layout.specs.Blocks.{Part, blockRowCount, overlapCount, coneCount}
 use Rattle.layout.specs.Checks.{layout, check10, refusal}
-use Rattle.layout.specs.Answers.{routeOf, sizes}
+use Rattle.layout.specs.Answers.{sizes}
 use Rattle.layout.proofs.Tests.{and-iff, leb-iff}
 use Rattle.layout.proofs.Sizes.{compact-sizes, standard-sizes}
 use Rattle.chordal_info.specs.Sizes.{rowsFit, outputLengths, routeSizes}

@@ -16,7 +16,6 @@ use Rattle.layout.proofs.Walks.{all-append, all-both}
 use Rattle.supernode_tree.specs.Reads.{Whole, cliquesFrom, cliqueOf, cliqueRead, CliqueInside}
 use Rattle.supernode_tree.specs.declared.Clique.{Clique as CliqueAt}
 use Rattle.supernode_tree.specs.declared.CliqueRead.the-variants.{Clique as Found}
-use Rattle.supernode_tree.proofs.Words.{length-part}
 use Rattle.supernode_tree.proofs.Cliques.{whole-next, from-next, from-none, snode-size}
 use Rattle.clique_tree.specs.Trees.{snodesOf, fills, snodesFill, snodesOk}
 

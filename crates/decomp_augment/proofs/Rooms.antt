@@ -13,11 +13,11 @@ use Rattle.layout.specs.Compact.{extendedP}
 use Rattle.layout.specs.Answers.{augmented, orElse, onRoute, routeOf, roomy, sizes, addedCount, slackCount, cutRefusal}
 use Rattle.layout.proofs.Tests.{and-iff, leb-iff}
 use Rattle.layout.proofs.Accepted.{accepted-checked}
+use Rattle.augment_standard.proofs.Constraints.{Asked}
 use Rattle.chordal_info.specs.Sizes.{routeSizes}
 use Rattle.chordal_info.proofs.Sizes.{route-sizes}
 use Rattle.augment_standard.specs.Constraints.{constraints}
 use Rattle.augment.proofs.Laws.{rooms-P}
-use Rattle.constraints.proofs.Routes.{Asked}
 
 abbrev pub Taken : Route → Problem → List ℕ → Type 0
 Taken route p rooms = (refusal route p ≡ 0) × T (roomy (sizes route p) rooms)

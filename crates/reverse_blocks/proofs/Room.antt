@@ -1,7 +1,7 @@
 -- Plain numbers and lists behind what the borrow checker asks: places in a slice fit since the slice does, a loop's count
 -- rises below a length, and a slice keeps its length when a part of it was lent.
-use Prim.Native.Nat.{ℕ, suc, _+_, _-_, _*_, _^_, _≤_, _<_}
-use native.Mathlib.Nat.{le-trans, le-add-right, le-of-lt, lt-of-le-of-lt, lt-of-lt-of-le, lt-trans, mul-le-mul-right}
+use Prim.Native.Nat.{ℕ, _+_, _-_, _*_, _^_, _≤_, _<_}
+use native.Mathlib.Nat.{le-trans, le-add-right, le-of-lt, lt-of-lt-of-le, lt-trans, mul-le-mul-right}
 use native.Mathlib.Omega.{arith}
 use mathlib.Core.Path.{_≡_, sym, subst}
 use mathlib.Core.List.{List, _++_}
@@ -10,6 +10,7 @@ use lib.ListN.{length, take, drop, length-append, length-take, length-drop}
 use mir.Syntax.{w32, w64}
 use mir.Val.{Fits}
 use mir.Facts.{fits-le, fits-lit}
+use Rattle.layout.proofs.Walks.{one-more}
 
 -- ---- sums
 
@@ -50,7 +51,7 @@ pub fits-count : {i n : ℕ} (b : ℕ) → i ≤ n → Room b n → Fits w64 i
 fits-count b h r = fits-le h (record { fits = r .0 })
 
 pub fits-next : {i n : ℕ} (b : ℕ) → i < n → Room b n → Fits w64 (i + 1)
-fits-next b h r = fits-count b (next-le h) r
+fits-next b h r = fits-count b (one-more h) r
 
 pub fits-bytes : {i n : ℕ} (b : ℕ) → i ≤ n → Room b n → Fits w64 (i * b)
 fits-bytes b h r = fits-le (mul-le-mul-right b h) (record { fits = lt-trans (r .1) (lit< tt) })

@@ -10,7 +10,7 @@ ghost use Rattle.layout.specs.Cones.{records, rowCount};
 ghost use Rattle.layout.specs.Patterns.{blockSize, cliqueCount, patterns};
 ghost use Rattle.layout.specs.Blocks.{cut, parts, blockRows, blockRowCount};
 ghost use Rattle.layout.specs.Checks.{Sound, RightPattern, noCone};
-ghost use Rattle.layout.specs.Compact.{blockOf, wholeCone, coneWords, entryWords, mapWords, psdWords, mapPart};
+ghost use Rattle.layout.specs.Compact.{blockOf, coneWords, mapWords, psdWords};
 ghost use Rattle.supernode_tree.specs.Reads.{patternAt, Whole, cliquesFrom};
 ghost use Rattle.supernode_tree.specs.Sizes.{atMost};
 ghost use Rattle.tables.specs.Tables.{tableOf, routePart, wholeCodes, cutCodes, Few};

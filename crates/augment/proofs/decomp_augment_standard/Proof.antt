@@ -4,7 +4,8 @@ use mathlib.Core.List.{_++_}
 use lib.ListN.{replicate}
 use lib.Ieee.{ofBits}
 use Rattle.layout.specs.Problem.{zero64}
-use Rattle.augment_standard.proofs.Constraints.{renamed, fits-u32, sound, few-entries, room-starts}
+use Rattle.layout.proofs.Accepted.{fits-u32}
+use Rattle.augment_standard.proofs.Constraints.{renamed, sound, few-entries, room-starts}
 use Rattle.augment.proofs.Laws.{few-rows, few-ends, room-rows, room-b, starts-A, rows-A, values-A}
 use Rattle.augment.proofs.decomp_augment_standard.Statement.{statement}
 use Rattle.augment.proofs.decomp_augment_standard.Tie as tie

@@ -6,9 +6,7 @@ use lib.ListN.{length}
 use Rattle.layout.specs.Problem.{Csc, one64, minusOne64}
 use Rattle.layout.specs.Compact.{Entry, csc}
 use Rattle.layout.proofs.Columns.{RightStarts, starts-right}
-use Rattle.layout.proofs.Starts.{length-written}
 use Rattle.csc.specs.Matrix.{matrix}
-use Rattle.augment_standard.specs.Beside.{pairValues}
 use Rattle.augment_standard.proofs.Columns.{length-pairs}
 use Rattle.augment_compact.proofs.Columns.{columns-start}
 use Rattle.augment_compact.specs.Cut.{codedColumns, tiedRows, Behind}

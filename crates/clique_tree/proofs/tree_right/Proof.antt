@@ -13,7 +13,6 @@ use mathlib.Core.Path.{_≡_, refl, sym, ap, _∙_}
 use mathlib.Core.Bool.{Bool, true, false, not, _&&_}
 use Prim.Native.Nat.{ℕ, suc, _+_, _-_, _≤_, _<_}
 use native.Mathlib.Omega.{arith}
-use borrow.Author.Needs.{needs}
 use Rattle.clique_tree.proofs.tree_right.Statement.{statement}
 use Rattle.clique_tree.proofs.tree_right.Tie as tie
 

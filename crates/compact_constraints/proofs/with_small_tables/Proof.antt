@@ -6,10 +6,11 @@ use lib.Seq.{length-take-le}
 use lib.Dec.{lit≤}
 use Rattle.layout.specs.Blocks.{compactRows}
 use Rattle.layout.specs.Answers.{joinedParts}
+use Rattle.layout.proofs.Accepted.{fits-u32}
 use Rattle.codes.specs.Codes.{cutCode}
 use Rattle.csc.specs.Matrix.{matrix}
 use Rattle.augment_compact.specs.Cut.{cutRows, cutValues}
-use Rattle.augment_standard.proofs.Constraints.{renamed, fits-u32, sound, few-entries}
+use Rattle.augment_standard.proofs.Constraints.{renamed, sound, few-entries}
 use Rattle.compact_constraints.proofs.Laws.{few-flags, flags-fit, flags-count, few-rows, few-ends, cleared, rows-inside, columns-right, coded, placeable, starts-A, rows-A, values-A, values-b}
 use Rattle.compact_constraints.proofs.with_small_tables.Statement.{statement}
 use Rattle.compact_constraints.proofs.with_small_tables.Tie as tie

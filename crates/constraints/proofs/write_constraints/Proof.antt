@@ -1,11 +1,11 @@
 use mathlib.Core.Path.{_≡_, refl}
 use lib.ListN.{length}
-use Rattle.layout.specs.Problem.{Problem, Route, standard, compact}
+use Rattle.layout.specs.Problem.{Problem, Route}
 use Rattle.layout.specs.Answers.{routeOf}
 use Rattle.layout.proofs.Routes.{route-standard, route-compact}
 use Rattle.augment_standard.specs.Constraints.{constraints}
-use Rattle.augment_standard.proofs.Constraints.{renamed, sound}
-use Rattle.constraints.proofs.Routes.{Asked, asked-on, cut-on, room-standard, room-compact}
+use Rattle.augment_standard.proofs.Constraints.{renamed, sound, Asked}
+use Rattle.constraints.proofs.Routes.{asked-on, cut-on, room-standard, room-compact}
 use Rattle.constraints.proofs.write_constraints.Statement.{statement}
 use Rattle.constraints.proofs.write_constraints.Tie as tie
 

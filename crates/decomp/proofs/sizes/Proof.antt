@@ -1,11 +1,8 @@
-use Prim.Native.Nat.{ℕ, _≤_}
+use Prim.Native.Nat.{_≤_}
 use native.Mathlib.Nat.{le-trans}
-use native.Mathlib.Omega.{arith}
 use mathlib.Core.Path.{_≡_, refl, sym, _∙_}
 use lib.ListN.{length}
 use lib.Dec.{ltb, lit≤}
-use mir.Syntax.{w32}
-use mir.Val.{Fits}
 use borrow.Author.Tests.{le-leb, lt-leb}
 use Rattle.layout.specs.Lists.{all, below, rises}
 use Rattle.layout.specs.Problem.{Problem, problem}
@@ -13,6 +10,7 @@ use Rattle.layout.specs.Checks.{Checked, columnRows, refusal}
 use Rattle.layout.specs.Answers.{problemRefusal, routeOf}
 use Rattle.layout.proofs.Tests.{and-iff}
 use Rattle.layout.proofs.Buffers.{output-kept}
+use Rattle.layout.proofs.Accepted.{fits-u32}
 use Rattle.checks.proofs.Checked.{problem-checked}
 use Rattle.decomp.proofs.Answers.{no-route, few-alphas}
 use Rattle.decomp.proofs.Refusals.{stopped-early, stopped-late, by-room, accepted, counts-fit, sizes-written}
@@ -86,21 +84,17 @@ returns-4 c =
     let s = start e in
     (sym (by-room (s .args .route) (given s) (length (s .args .out .now)) (e .if1 .left) (ok k) ∙ rw (lt-leb 11 (length (s .args .out .now)) (c .if4 .taken))), refl)
 
--- a count that check 1 bounds fits a word
-small : {n : ℕ} → n ≤ 262144 → Fits w32 n
-small {n} h = omega arith
-
 cast-p-entries : tie.Need-cast-p-entries
-cast-p-entries c = small (checked (c .before .before .before .before) .fewEntriesP)
+cast-p-entries c = fits-u32 _ (checked (c .before .before .before .before) .fewEntriesP)
 
 cast-a-entries : tie.Need-cast-a-entries
-cast-a-entries c = small (checked (c .before .before .before .before) .fewEntriesA)
+cast-a-entries c = fits-u32 _ (checked (c .before .before .before .before) .fewEntriesA)
 
 cast-alpha-count : tie.Need-cast-alpha-count
 cast-alpha-count c =
     let e = c .before .before .before .before in
     let p = given (start (e .before .before)) in
-    small (le-trans (few-alphas p (checked e)) (lit≤ tt))
+    fits-u32 _ (le-trans (few-alphas p (checked e)) (lit≤ tt))
 
 write-sizes-requires : tie.Need-write-sizes-requires
 write-sizes-requires c κs =

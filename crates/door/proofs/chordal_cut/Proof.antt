@@ -2,7 +2,7 @@ use Prim.Native.Nat.{ℕ}
 use mathlib.Core.Path.{_≡_, refl, sym, _∙_}
 use mathlib.Core.List.{List, [], _∷_}
 use lib.ListN.{length}
-use Rattle.layout.specs.Problem.{Problem, Route, problem}
+use Rattle.layout.specs.Problem.{Problem, problem}
 use Rattle.layout.specs.Answers.{onRoute, routeOf, cutRefusal}
 use Rattle.layout.proofs.Accepted.{accepted-sound}
 use Rattle.layout.proofs.Buffers.{output-kept}

@@ -18,7 +18,7 @@ use Rattle.supernode_tree.specs.Reads.{patternAt}
 use Rattle.parts.specs.Ahead.{patternsAhead, ahead, Stands, meets, Knows}
 use Rattle.parts.specs.declared.Met.the-variants.{Whole, Cut}
 use Rattle.reverse_blocks.proofs.Laws.{by-same}
-use Rattle.reverse_blocks.proofs.Room.{Room, same-le, le-same, fits-count}
+use Rattle.reverse_blocks.proofs.Room.{same-le, le-same, fits-count}
 use Rattle.reverse_cones.specs.Parts.{sPart, zPart, valuesFrom, CountsRows, Cleared}
 use Rattle.reverse.specs.Joined.{firstOf}
 use Rattle.reverse.specs.Counts.{CountsCones}

@@ -1,7 +1,7 @@
 use Prim.Native.Nat.{ℕ, suc, zero-le, _≤_, _<_, _-_, _+_, _*_, _/_}
 use native.Mathlib.Nat.{le-refl, le-of-lt, lt-of-le-of-lt}
 use mathlib.Core.Path.{_≡_, refl, ap, sym, subst, _∙_}
-use mathlib.Core.List.{List, [], _∷_}
+use mathlib.Core.List.{List}
 use lib.ListN.{length, getD, take, drop, set, length-set}
 use lib.Seq.{take-all, length-take-le}
 use lib.Ieee.{nan, add, binary64}

@@ -1,7 +1,5 @@
-use mathlib.Core.Path.{_≡_, ap, sym, subst, _∙_}
+use mathlib.Core.Path.{ap, sym, subst, _∙_}
 use mathlib.Core.Bool.{Bool}
-use mathlib.Core.List.{List}
-use Prim.Native.Nat.{ℕ}
 use lib.ListN.{length}
 use Rattle.reverse_cones.specs.Parts.{zAveragedBy, CountsRows, ClearsRows}
 use Rattle.reverse_cones.proofs.average.Statement.{statement}

@@ -1,11 +1,10 @@
-use Prim.Native.Nat.{ℕ, _+_, _-_, _≤_}
+use Prim.Native.Nat.{_+_, _-_, _≤_}
 use native.Mathlib.Nat.{le-of-eq, le-add-right}
 use mathlib.Core.Path.{_≡_, refl, _∙_}
 use mathlib.Core.List.{List}
 use lib.ListN.{length, take, drop}
 use lib.Ieee.{Float}
 use Rattle.layout.specs.Patterns.{Pattern}
-use Rattle.layout.specs.Blocks.{blockRows}
 use Rattle.supernode_tree.specs.Reads.{patternAt}
 use Rattle.reverse_blocks.proofs.Room.{begins, fits-count, fits-value, length-part, length-put}
 use Rattle.reverse_cones.specs.Parts.{sCut, zCut}

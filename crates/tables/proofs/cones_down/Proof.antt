@@ -2,14 +2,14 @@ use Prim.Native.Nat.{ℕ, _≤_, _-_, _+_, _*_}
 use mathlib.Core.Path.{_≡_, refl, ap, sym, _∙_}
 use mathlib.Core.Bool.{true}
 use lib.Dec.{leb→le}
-use Rattle.layout.specs.Lists.{all, join, written}
+use Rattle.layout.specs.Lists.{all, join}
 use Rattle.layout.specs.Compact.{psdWords}
 use Rattle.layout.proofs.Tests.{passes}
 use Rattle.supernode_tree.specs.Reads.{Whole, cliquesFrom, cliqueOf}
-use Rattle.supernode_tree.proofs.Cliques.{first-whole, whole-next, from-next, from-none, block-size}
+use Rattle.supernode_tree.proofs.Cliques.{first-whole, whole-next, from-next, block-size}
 use Rattle.supernode_tree.specs.Sizes.{atMost}
 use Rattle.supernode_tree.proofs.Sizes.{all-cons}
-use mathlib.Core.List.{List, [], _∷_, _++_, map, reverse, reverse-cons, append-nil}
+use mathlib.Core.List.{List, [], _∷_, _++_, map, reverse, reverse-cons}
 use lib.ListN.{length, drop, length-map, length-reverse}
 use Rattle.layout.specs.Patterns.{Clique, readClique, blockSize}
 use Rattle.layout.proofs.Starts.{join-append}

@@ -2,7 +2,7 @@ use Prim.Native.Nat.{ℕ, _≤_, _-_, _+_, _*_}
 use mathlib.Core.Path.{_≡_, refl, ap, sym, _∙_}
 use mathlib.Core.Bool.{true}
 use lib.Dec.{leb→le}
-use Rattle.layout.specs.Lists.{all, join, written}
+use Rattle.layout.specs.Lists.{all, join}
 use Rattle.layout.specs.Compact.{psdWords}
 use Rattle.layout.proofs.Tests.{passes}
 use Rattle.supernode_tree.specs.Reads.{Whole, cliquesFrom, cliqueOf}
@@ -10,7 +10,7 @@ use Rattle.supernode_tree.proofs.Cliques.{first-whole, whole-next, from-next, f
 use Rattle.supernode_tree.specs.Sizes.{atMost}
 use Rattle.supernode_tree.proofs.Sizes.{all-cons}
 use mathlib.Core.List.{List, _∷_, _++_, map}
-use lib.ListN.{length, take, drop, length-take}
+use lib.ListN.{length, take, drop}
 use Rattle.layout.specs.Patterns.{Clique, blockSize}
 use Rattle.tables.proofs.Laws.{up-more, up-done}
 use native.Mathlib.Omega.{arith}
