@@ -121,8 +121,15 @@ fn separator_holds(
     if 256 < q.get_nblk() {
         return false;
     }
-    let m = supernode_tree::members_by(words, p.cliques, p.clique_count, 1, offsets, q.parent);
-    clique_tree::separator_right(words, q.separator, q.next, m.start, m.end, 256, marks)
+    if q.separator == q.next {
+        return true;
+    }
+    if p.clique_count <= q.parent {
+        return false;
+    }
+    let at = offsets[q.parent as usize];
+    let m = Clique::here(words, at);
+    clique_tree::separator_right(words, q.separator, q.next, m.snode, m.next, 256, marks)
 }
 
 // A clique's block beside those before it.

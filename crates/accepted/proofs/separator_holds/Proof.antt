@@ -1,13 +1,43 @@
-use Prim.Native.Nat.{ℕ, _-_}
-use mathlib.Core.Bool.{false}
-use mathlib.Core.Path.{refl, sym, ap, _∙_}
+use Prim.Native.Nat.{ℕ, suc, _+_, _-_, _*_, _≤_}
+use mathlib.Core.Bool.{true, false}
+use mathlib.Core.Path.{_≡_, refl, sym, ap, _∙_}
 use mathlib.Core.List.{List}
-use lib.ListN.{take, drop}
+use lib.ListN.{getD, take, drop}
+use native.Mathlib.Nat.{le-trans}
 use native.Mathlib.Omega.{arith}
+use Rattle.layout.specs.Patterns.{read, readClique, members, noClique}
 use Rattle.layout.proofs.Tests.{differ}
+use Rattle.supernode_tree.specs.Reads.{cliqueOf, cliquesFrom, valueOr, whole}
+use Rattle.supernode_tree.proofs.Cliques.{members-part}
+use Rattle.supernode_tree.proofs.Offsets.{after, after-clique}
 use Rattle.vertex_set.specs.OnceIn.{onceIn}
 use Rattle.accepted.proofs.separator_holds.Statement.{statement}
 use Rattle.accepted.proofs.separator_holds.Tie as tie
+
+-- a clique's members end after they start
+members-rise : (start separator next a b : ℕ) → separator ≡ start + a → next ≡ separator + b → start ≤ next
+members-rise start separator next a b p q = omega arith
+
+-- a separator that ends where it starts is empty
+none : (ms ws : List ℕ) (a e : ℕ) → a ≡ e → onceIn ms (take (e - a) (drop a ws)) ≡ true
+none ms ws a e s = let z : e - a ≡ 0 = omega arith in ap (λ (k : ℕ). onceIn ms (take k (drop a ws))) z
+
+small : (c : tie.Else1) → let q = c .before .before .before .before .before .args .q in
+    q .«snode_count» + q .«separator_count» ≤ 256
+small c = omega (arith, c .if1 .left, c .before .get-nblk .ensures)
+
+-- the parent's clique stands at its offset
+parent-read : (c : tie.After-shared-slice-known3) → let a = c .before .before .before .before .before .before .before .before .before .before .before .before .args in
+    let ws = a .words .now in
+    readClique (drop (getD (a .offsets .now) (a .q .parent) 0) ws)
+    ≡ read (getD (cliquesFrom ws (a .p .cliques) (a .p .«clique_count»)) (a .q .parent) noClique) (after ws (a .p .cliques) (suc (a .q .parent)))
+parent-read c =
+    let s = c .before .before .before .before .before .before .before .before .before .before .before .before in
+    let a = s .args in
+    let ws = a .words .now in
+    let parent = a .q .parent in
+    let o : parent * 1 ≡ parent = omega arith in
+    after-clique ws (a .p .cliques) (a .p .«clique_count») (s .pre .0 .0) parent (getD (a .offsets .now) parent 0) (c .before .before .if3 .left) (s .pre .0 .2 parent (omega (arith, c .before .before .if3 .left)) ∙ ap (after ws (a .p .cliques)) o)
 
 get-nblk-requires : tie.Need-get-nblk-requires
 get-nblk-requires c κs = c .before .before .before .pre .1 .1 .0
@@ -15,31 +45,55 @@ get-nblk-requires c κs = c .before .before .before .pre .1 .1 .0
 returns : tie.Need-returns
 returns c = λ z. absurd (differ false z refl)
 
-members-by-requires : tie.Need-members-by-requires
-members-by-requires c κs =
-    let s = c .before .before .before .before .before in
-    let (stand, long, at) = s .pre .0 in
-    (stand, ((omega arith, omega (arith, long)), at))
+returns-2 : tie.Need-returns-2
+returns-2 c =
+    let s = c .before .before .before .before .before .before .before in
+    let ws = s .args .words .now in
+    let q = s .args .q in
+    let p = s .args .p in
+    λ _. (
+      small (c .before .before),
+      none (members (getD (cliquesFrom ws (p .cliques) (p .«clique_count»)) (q .parent) noClique)) ws (q .separator) (q .next) (c .if2 .taken),
+    )
+
+returns-3 : tie.Need-returns-3
+returns-3 c = λ z. absurd (differ false z refl)
+
+cast-at : tie.Need-cast-at
+cast-at c = omega arith
+
+mul-at : tie.Need-mul-at
+mul-at c = omega arith
+
+shared-slice-read-at : tie.Need-shared-slice-read-at
+shared-slice-read-at c = le-trans (c .before .before .if3 .left) (c .before .before .before .before .before .before .before .before .before .before .before .before .pre .0 .1)
+
+here-requires : tie.Need-here-requires
+here-requires c κs = ap whole (parent-read c)
 
 separator-right-requires : tie.Need-separator-right-requires
 separator-right-requires c κs =
-    let s = c .before .before .before .before .before .before .before in
-    let m = c .before .members-by .ensures in
-    (s .pre .1 .0, ((m .1, m .2), s .pre .1 .1 .1))
+    let h = c .before in
+    let s = h .before .before .before .before .before .before .before .before .before .before .before .before .before in
+    let inside = h .here .ensures .1 in
+    (s .pre .1 .0, ((members-rise _ _ _ _ _ (inside .1) (inside .2), inside .3), s .pre .1 .1 .1))
 
 same-length : tie.Need-same-length
 same-length c = c .before .before .separator-right .kept .1 .1 .1 .1 .1 .1 .0
 
-returns-2 : tie.Need-returns-2
-returns-2 c =
-    let m = c .before .before .before .before in
-    let s = m .before .before .before .before .before .before in
+returns-4 : tie.Need-returns-4
+returns-4 c =
+    let h = c .before .before .before .before in
+    let m = h .here .result in
+    let s = c .before .before .before .before .before .before .before .before .before .before .before .before .before .before .before .before .before in
+    let ws = s .args .words .now in
     let q = s .args .q in
-    let us = take (q .next - q .separator) (drop (q .separator) (s .args .words .now)) in
-    λ z. (
-      omega (arith, m .before .if1 .left, m .before .before .get-nblk .ensures),
-      ap (λ (ms : List ℕ). onceIn ms us) (sym (m .members-by .ensures .0)) ∙ sym (c .before .before .separator-right .ensures) ∙ z,
-    )
+    let p = s .args .p in
+    let at = getD (s .args .offsets .now) (q .parent) 0 in
+    let us = take (q .next - q .separator) (drop (q .separator) ws) in
+    let same : cliqueOf ws m ≡ getD (cliquesFrom ws (p .cliques) (p .«clique_count»)) (q .parent) noClique =
+    ap (valueOr noClique) (h .here .ensures .0 ∙ parent-read (h .before)) in
+    λ z. (small (c .before .before .before .before .before .before .before .before .before .before .before .before), ap (λ (ms : List ℕ). onceIn ms us) (sym (members-part ws at m (h .here .ensures .1) ∙ ap members same)) ∙ sym (c .before .before .separator-right .ensures) ∙ z)
 
 pub separator-holds-spec : {M : Type 1} → statement M
 separator-holds-spec =
@@ -47,7 +101,12 @@ separator-holds-spec =
     (tie.spec
     get-nblk-requires
     returns
-    members-by-requires
+    returns-2
+    returns-3
+    cast-at
+    mul-at
+    shared-slice-read-at
+    here-requires
     separator-right-requires
     same-length
-    returns-2)
+    returns-4)
