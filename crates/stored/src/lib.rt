@@ -5,7 +5,7 @@
 // and its numbers; then the same of its lists of f64. A case is held in a buffer of u32 and one of f64, in
 // which its lists lie one after the other. Those of u32 are numbered from 0 and those of f64 from 16, and word
 // k of the first buffer says where list k starts: it ends where the next one starts. No contract can say what
-// a file holds, so the functions that read promise only that they are safe and that they end.
+// a file holds, so the functions that read promise no more than bounds and lengths.
 ghost use mathlib.Core.Path.{_≡_};
 ghost use Prim.Native.Nat.{_<_, _≤_};
 ghost use lib.ListN.{length, take, getD};
@@ -63,6 +63,7 @@ fn least(a: usize, b: usize) -> usize
 // Reads a case's lists of u32, up to 15 of them, cut where the buffer ends.
 pub fn load_words(fd: i32, words: &mut [u32])
     requires { ⌜ CaseRoom (length (now words)) ⌝ }
+    ensures { λ _. ⌜ length (now (words .exit)) ≡ length (now (words .entry)) ⌝ }
 {
     let lists = (word(fd) % 16) as usize;
     let mut at = 32;
@@ -79,8 +80,10 @@ pub fn load_words(fd: i32, words: &mut [u32])
     }
 }
 
+// The same of its lists of f64, whose starts stand from the 17th word on.
 pub fn load_values(fd: i32, words: &mut [u32], values: &mut [f64])
     requires { ⌜ CaseRoom (length (now words)) × CaseRoom (length (now values)) ⌝ }
+    ensures { λ _. ⌜ (length (now (words .exit)) ≡ length (now (words .entry))) × (length (now (values .exit)) ≡ length (now (values .entry))) ⌝ }
 {
     let lists = (word(fd) % 16) as usize;
     let mut at = 0;

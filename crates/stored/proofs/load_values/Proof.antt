@@ -95,7 +95,7 @@ same-length-2 : tie.Need-same-length-2 Inv-loop2 μ-loop2 Inv-loop μ-loop
 same-length-2 c = search needs
 
 returns : tie.Need-returns Inv-loop2 μ-loop2 Inv-loop μ-loop
-returns c = search needs
+returns c = (long (c .before), c .before .loop .inv .3)
 
 pub load-values-spec : {M : Type 1} → statement M
 load-values-spec =

@@ -92,7 +92,7 @@ same-length : tie.Need-same-length Inv-loop2 μ-loop2 Inv-loop μ-loop
 same-length c = long (c .before)
 
 returns : tie.Need-returns Inv-loop2 μ-loop2 Inv-loop μ-loop
-returns c = search needs
+returns c = long (c .before)
 
 pub load-words-spec : {M : Type 1} → statement M
 load-words-spec =
