@@ -214,8 +214,9 @@ pub fn join(route: Route, problem: &Problem, map: &[ConeMapEntry], solution: &So
     Ok(Solution { x, s, z, tau: scalars[0], kappa: scalars[1] })
 }
 
-/// Whether n, m, the cones' records and the patterns of two problems agree, so that their cuts have the same rows, added
-/// unknowns, cones and map. Values are not compared, and neither are exponents.
+/// Whether n, m, the cones' records and the patterns of two problems agree. Where a route accepts both, their cuts then
+/// have as many rows and as many added unknowns, the same kinds and sizes of cones, and the same map. Nothing else is
+/// compared: neither exponents, nor which entries A and P have, nor any value.
 ///
 /// ```
 /// use tejiwakpa::{same_layout, Problem};

@@ -24,6 +24,12 @@ use crate::Refusal;
 /// ```
 pub const NONE: u32 = u32::MAX;
 
+// The word of a parent's or pattern's number. The mark itself is no such number: it becomes the largest word that is not
+// the mark, which is refused as it is, being beyond every clique and every pattern.
+pub(crate) fn numbered(number: Option<u32>) -> u32 {
+    number.map_or(NONE, |number| number.min(NONE - 1))
+}
+
 /// A problem as flat tables. Nothing is checked before a call checks it.
 ///
 /// ```

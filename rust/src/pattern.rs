@@ -11,7 +11,8 @@ use crate::{count, flat, Refusal};
 /// ```
 #[derive(Clone, Debug, Default, PartialEq, Eq)]
 pub struct Clique {
-    /// The clique's parent, a later clique of the pattern; none for the last clique.
+    /// The clique's parent, a later clique of the pattern; none for the last clique. Any other number is refused as
+    /// [`Refusal::Tree`], `Some(u32::MAX)` too.
     pub parent: Option<u32>,
     /// Its own vertices: each vertex stands in exactly one snode.
     pub snode: Vec<u32>,
@@ -46,19 +47,24 @@ pub struct Pattern {
 
 impl Pattern {
     /// The pattern as words: `orig_index`, vertex count, clique count, the ordering, and for each clique its parent,
-    /// snode count, separator count, snode members and separator members.
+    /// snode count, separator count, snode members and separator members. Only a parent that is none has the mark
+    /// [`flat::NONE`]; `Some(u32::MAX)` becomes the word before it, which no call takes for a parent either.
     ///
     /// ```
     /// use tejiwakpa::Problem;
     ///
     /// let pattern = &Problem::three_projectors().patterns[0];
     /// assert_eq!(pattern.words()[..6], [0, 3, 2, 0, 1, 2]);
+    ///
+    /// let mut wrong = pattern.clone();
+    /// wrong.cliques[1].parent = Some(u32::MAX);
+    /// assert_ne!(wrong.words(), pattern.words());
     /// ```
     pub fn words(&self) -> Vec<u32> {
         let mut words = vec![self.orig_index, count(self.ordering.len()), count(self.cliques.len())];
         words.extend(&self.ordering);
         for clique in &self.cliques {
-            words.push(clique.parent.unwrap_or(flat::NONE));
+            words.push(flat::numbered(clique.parent));
             words.extend([count(clique.snode.len()), count(clique.separator.len())]);
             words.extend(clique.snode.iter().chain(&clique.separator));
         }

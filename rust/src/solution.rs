@@ -37,7 +37,8 @@ pub struct Solution {
 pub struct ConeMapEntry {
     /// The original cone, by its place among the cones.
     pub orig_index: u32,
-    /// The pattern's number and the clique's number in it; none where the cone was not cut.
+    /// The pattern's number and the clique's number in it; none where the cone was not cut. No pattern has the number
+    /// `u32::MAX`: a joining refuses an entry that names it.
     pub tree_and_clique: Option<(u32, u32)>,
 }
 
@@ -62,7 +63,8 @@ pub struct Augmented {
 /// The words of a cone map, three an entry.
 pub(crate) fn map_words(map: &[ConeMapEntry]) -> Vec<u32> {
     let words = map.iter().flat_map(|entry| {
-        let (pattern, clique) = entry.tree_and_clique.unwrap_or((flat::NONE, 0));
+        let pattern = flat::numbered(entry.tree_and_clique.map(|(pattern, _)| pattern));
+        let clique = entry.tree_and_clique.map_or(0, |(_, clique)| clique);
         [entry.orig_index, pattern, clique]
     });
     words.collect()

@@ -1,21 +1,23 @@
 -- Numbers met one by one, with a mark for each.
-use Prim.Native.Nat.{ℕ, _+_, _-_, _≤_, _<_}
+use Prim.Native.Nat.{ℕ, suc, _+_, _-_, _≤_, _<_}
 use native.Mathlib.Nat.{le-trans}
 use native.Mathlib.Omega.{arith}
 use mathlib.Core.Path.{_≡_, refl, sym, ap, subst, _∙_}
-use mathlib.Core.Logic.{inl, inr, ⊎-elim}
+use mathlib.Core.Logic.{_⊎_, inl, inr, ⊎-elim}
 use mathlib.Core.Bool.{Bool, true, false, not, cond, Bool·beq, _||_, or-false}
-use mathlib.Core.List.{List, [], _∷_, _++_, append-nil}
+use mathlib.Core.List.{List, [], _∷_, _++_, append-nil, append-assoc}
 use lib.ListN.{length, getD, take, drop, set, length-drop}
 use lib.Seq.{getD-set-same, getD-set-other, getD-drop}
-use lib.Dec.{T, eqb, ltb, lt→ltb}
+use lib.Dec.{T, eqb, ltb, lt→ltb, ltb→lt}
 use borrow.Author.Tests.{eqb-true, eqb-false}
 use Rattle.layout.specs.Lists.{has, all, distinct}
 use Rattle.layout.specs.Checks.{isPermutation}
-use Rattle.layout.proofs.Tests.{and-iff, passed, differ, lt-or-le}
+use Rattle.layout.proofs.Tests.{and-iff, passed, passes, failed, differ, lt-or-le}
 use Rattle.layout.proofs.Members.{has-cons, has-append, all-has}
 use Rattle.layout.proofs.Distinct.{distinct-append, permutation-has}
 use Rattle.utils.proofs.Windows.{has-more, take-more}
+use Rattle.supernode_tree.proofs.Words.{drop-next, part-part}
+use Rattle.vertex_set.specs.OnceIn.{onceBelow}
 use Rattle.accepted.specs.Accepted.{AllClear, Met}
 
 pub beq-differ : (a b : Bool) → Bool·beq a b ≡ false → a ≡ b → ⊥
@@ -23,6 +25,12 @@ beq-differ true true e q = differ true refl e
 beq-differ true false e q = differ true refl q
 beq-differ false true e q = differ false q refl
 beq-differ false false e q = differ true refl e
+
+pub beq-same : (a b : Bool) → Bool·beq a b ≡ true → a ≡ b
+beq-same true true e = refl
+beq-same true false e = absurd (differ false e refl)
+beq-same false true e = absurd (differ false e refl)
+beq-same false false e = refl
 
 pub met-start : (n : ℕ) (marks : List Bool) → AllClear marks → Met true n marks []
 met-start n marks a = record { marked = λ v h. a v; later = λ v h. a v; once = tt; below = tt }
@@ -93,3 +101,50 @@ part-more met ws a i l h =
     let f : a + (i - a) ≡ i = omega arith in
     ap (λ (k : ℕ). met ++ take k (drop a ws)) e ∙ take-more met (drop a ws) (i - a) (omega (arith, length-drop a ws))
     ∙ ap (λ (x : ℕ). (met ++ take (i - a) (drop a ws)) ++ (x ∷ [])) (getD-drop a ws (i - a) 0 ∙ ap (λ (k : ℕ). getD ws k 0) f)
+
+-- ---- what can be met
+
+pub met-once : (b : Bool) (n : ℕ) (marks : List Bool) (met : List ℕ) → Met b n marks met → onceBelow n met ≡ true
+met-once b n marks met m = passed _ (and-iff (all (λ x. ltb x n) met) (distinct met) .1 (m .below, m .once))
+
+-- a number whose mark is b was met
+pub met-has : (b : Bool) (n : ℕ) (marks : List Bool) (met : List ℕ) (x : ℕ) → Met b n marks met → x < n → getD marks x false ≡ b → T (has x met)
+met-has b n marks met x m l e = go b (has x met) (sym (m .marked x l) ∙ e)
+  where
+    go : (b t : Bool) → cond t b (not b) ≡ b → T t
+    go b true q = tt
+    go true false q = absurd (differ false q refl)
+    go false false q = absurd (differ true refl q)
+
+not-once : (n : ℕ) (front : List ℕ) (x : ℕ) (back : List ℕ) → (n ≤ x) ⊎ T (has x front) → onceBelow n (front ++ (x ∷ back)) ≡ false
+not-once n front x back bad = failed _ (λ h.
+    let (below, once) = and-iff (all (λ y. ltb y n) (front ++ (x ∷ back))) (distinct (front ++ (x ∷ back))) .0 h in
+    let here : T (has x (x ∷ back)) = has-cons x x back .1 (inl refl) in
+    elim bad [
+      | inl l ↦ let k : x < n = ltb→lt x n (all-has (λ y. ltb y n) (front ++ (x ∷ back)) .0 below x (has-append x front (x ∷ back) .1 (inr here))) in absurd (omega arith)
+      | inr k ↦ distinct-append front (x ∷ back) .0 once .2 x k here
+    ])
+
+-- a part of the words around the i-th
+part-around : (met ws : List ℕ) (a e i : ℕ) → a ≤ i → i < e → e ≤ length ws
+    → met ++ take (e - a) (drop a ws) ≡ (met ++ take (i - a) (drop a ws)) ++ (getD ws i 0 ∷ take (e - (i + 1)) (drop (i + 1) ws))
+part-around met ws a e i l h f =
+    let s : e - i ≡ suc (e - (i + 1)) = omega arith in
+    let d : take (e - i) (drop i ws) ≡ getD ws i 0 ∷ take (e - (i + 1)) (drop (i + 1) ws) =
+    ap (λ (k : ℕ). take k (drop i ws)) s ∙ ap (take (suc (e - (i + 1)))) (drop-next ws i (i + 1) refl (omega arith)) in
+    ap (λ (us : List ℕ). met ++ us) (sym (part-part ws a i e l (omega arith)) ∙ ap (λ (us : List ℕ). take (i - a) (drop a ws) ++ us) d)
+    ∙ sym (append-assoc met (take (i - a) (drop a ws)) _)
+
+pub part-not-once : (n : ℕ) (met ws : List ℕ) (a e i : ℕ) → a ≤ i → i < e → e ≤ length ws
+    → (n ≤ getD ws i 0) ⊎ T (has (getD ws i 0) (met ++ take (i - a) (drop a ws))) → false ≡ onceBelow n (met ++ take (e - a) (drop a ws))
+part-not-once n met ws a e i l h f bad =
+    sym (ap (onceBelow n) (part-around met ws a e i l h f) ∙ not-once n (met ++ take (i - a) (drop a ws)) (getD ws i 0) _ bad)
+
+-- a part that cannot be met, and what cannot be met with more after it
+pub once-front : (n : ℕ) (xs ys : List ℕ) → onceBelow n (xs ++ ys) ≡ true → onceBelow n xs ≡ true
+once-front n xs ys h =
+    let (below, once) = and-iff (all (λ y. ltb y n) (xs ++ ys)) (distinct (xs ++ ys)) .0 (passes _ h) in
+    passed _ (and-iff (all (λ y. ltb y n) xs) (distinct xs) .1 (
+      all-has (λ y. ltb y n) xs .1 (λ y k. all-has (λ z. ltb z n) (xs ++ ys) .0 below y (has-append y xs ys .1 (inl k))),
+      distinct-append xs ys .0 once .0,
+    ))

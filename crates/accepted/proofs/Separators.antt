@@ -2,51 +2,52 @@
 use Prim.Native.Nat.{ℕ, _+_, _-_, _*_, _≤_, _<_}
 use native.Mathlib.Omega.{arith}
 use mathlib.Core.Path.{_≡_, refl, sym, ap, subst, _∙_}
-use mathlib.Core.Bool.{Bool, true}
+use mathlib.Core.Bool.{Bool, true, false, _&&_}
 use mathlib.Core.List.{List, _∷_, map}
-use lib.ListN.{length, drop}
+use lib.ListN.{length, take, drop}
+use lib.Dec.{leb}
+use borrow.Author.Tests.{leb-true}
 use Rattle.layout.specs.Lists.{all, sum}
 use Rattle.layout.specs.Triangle.{triangle}
-use Rattle.layout.specs.Patterns.{Clique, readClique, readCliques}
+use Rattle.layout.specs.Patterns.{Clique, blockSize, readClique, readCliques}
 use Rattle.supernode_tree.specs.Sizes.{dimOf, overlapsOf}
 use Rattle.supernode_tree.specs.Reads.{whole, Whole, rest, cliquesFrom, cliqueOf, cliqueRead, CliqueInside}
 use Rattle.supernode_tree.specs.declared.Clique.{Clique as CliqueAt}
 use Rattle.supernode_tree.specs.declared.CliqueRead.the-variants.{Clique as Found}
 use Rattle.supernode_tree.specs.declared.Pattern.{Pattern as PatternAt}
-use Rattle.supernode_tree.proofs.Cliques.{whole-next, rest-next, rest-none, from-next, from-none, separator-size, block-size, clique-goes}
+use Rattle.supernode_tree.proofs.Cliques.{whole-next, rest-next, rest-none, from-next, from-none, separator-part, separator-size, block-size, clique-goes, clique-stops}
 use Rattle.supernode_tree.proofs.Sizes.{triangle-small, sum-cons, sum-none}
-use Rattle.clique_tree.specs.Trees.{separatorOk, separatorsOk}
-use Rattle.accepted.specs.Accepted.{cliquesOf, SeparatorsHold}
+use Rattle.clique_tree.specs.Trees.{separatorBelow}
+use Rattle.accepted.specs.Accepted.{cliquesOf, separatorFits, separatorsFit, SeparatorsHold}
+use Rattle.accepted.proofs.Walked.{and-parts}
 use Rattle.accepted.specs.declared.Blocks.{Blocks}
-
--- the test of a clique
-abbrev right : List Clique → Clique → Bool
-right cs q = separatorOk cs (q .parent) (q .separator)
 
 -- so many cliques are left
 pub record Seen (ws : List ℕ) (p : PatternAt) (b : Blocks) (left : ℕ) : Type 0 where
   pub stand : Whole ws (b .next) left
-  pub later : separatorsOk (cliquesOf ws p) ≡ all (right (cliquesOf ws p)) (cliquesFrom ws (b .next) left)
+  pub later : separatorsFit (p .«vertex_count») (cliquesOf ws p) ≡ all (separatorFits (p .«vertex_count») (cliquesOf ws p)) (cliquesFrom ws (b .next) left)
   pub dim : b .dim + sum (map dimOf (cliquesFrom ws (b .next) left)) ≡ sum (map dimOf (cliquesOf ws p))
   pub overlaps : b .overlaps + sum (map overlapsOf (cliquesFrom ws (b .next) left)) ≡ sum (map overlapsOf (cliquesOf ws p))
   pub few-rows : b .dim + left * 32896 ≤ p .«clique_count» * 32896
   pub few-overlaps : b .overlaps + left * 32896 ≤ p .«clique_count» * 32896
   pub after : rest (readCliques (p .«clique_count») (drop (p .cliques) ws)) ≡ rest (readCliques left (drop (b .next) ws))
   pub inside : b .next ≤ length ws
+  pub past : 0 < b .next
 
-pub seen-none : (ws : List ℕ) (p : PatternAt) (b : Blocks) → Whole ws (p .cliques) (p .«clique_count») → p .cliques ≤ length ws
+pub seen-none : (ws : List ℕ) (p : PatternAt) (b : Blocks) → Whole ws (p .cliques) (p .«clique_count») → (0 < p .cliques) × (p .cliques ≤ length ws)
     → (b .next ≡ p .cliques) × (b .dim ≡ 0) × (b .overlaps ≡ 0) → Seen ws p b (p .«clique_count»)
 seen-none ws p b w l e =
     let n = sym (e .0) in
     record {
       stand = ap (λ (i : ℕ). whole (readCliques (p .«clique_count») (drop i ws))) (e .0) ∙ w;
-      later = ap (λ (i : ℕ). all (right (cliquesOf ws p)) (cliquesFrom ws i (p .«clique_count»))) n;
+      later = ap (λ (i : ℕ). all (separatorFits (p .«vertex_count») (cliquesOf ws p)) (cliquesFrom ws i (p .«clique_count»))) n;
       dim = omega (arith, e .1, ap (λ (i : ℕ). sum (map dimOf (cliquesFrom ws i (p .«clique_count»)))) (e .0));
       overlaps = omega (arith, e .2, ap (λ (i : ℕ). sum (map overlapsOf (cliquesFrom ws i (p .«clique_count»)))) (e .0));
       few-rows = omega (arith, e .1);
       few-overlaps = omega (arith, e .2);
       after = ap (λ (i : ℕ). rest (readCliques (p .«clique_count») (drop i ws))) n;
-      inside = omega (arith, e .0);
+      inside = omega (arith, e .0, l .1);
+      past = omega (arith, e .0, l .0);
     }
 
 abbrev made : ℕ → ℕ → ℕ → Blocks
@@ -72,29 +73,42 @@ module _ (ws : List ℕ) (p : PatternAt) (b : Blocks) (left : ℕ) (s : Seen ws 
     less d t k h l = omega arith
 
     module _ (q : CliqueAt) (e : cliqueRead ws (Found q) ≡ readClique (drop (b .next) ws)) (inside : CliqueInside (length ws) (b .next) (Found q))
-        (small : q .«snode_count» + q .«separator_count» ≤ 256) (ok : right (cliquesOf ws p) (cliqueOf ws q) ≡ true) where
+        (r : Bool) (so : r ≡ (leb (q .«snode_count» + q .«separator_count») 256 && separatorBelow (p .«vertex_count») (cliquesOf ws p) (q .parent) (take (q .next - q .separator) (drop (q .separator) ws)))) where
+      -- the answer for it
+      fit : r ≡ separatorFits (p .«vertex_count») (cliquesOf ws p) (cliqueOf ws q)
+      fit =
+          so ∙ ap (λ (n : ℕ). leb n 256 && separatorBelow (p .«vertex_count») (cliquesOf ws p) (q .parent) (take (q .next - q .separator) (drop (q .separator) ws))) (sym (block-size ws (b .next) q inside))
+          ∙ ap (λ (us : List ℕ). leb (blockSize (cliqueOf ws q)) 256 && separatorBelow (p .«vertex_count») (cliquesOf ws p) (q .parent) us) (separator-part ws (b .next) q inside)
+
+      pub fits-small : r ≡ true → q .«snode_count» + q .«separator_count» ≤ 256
+      fits-small held = leb-true _ _ (and-parts (leb (q .«snode_count» + q .«separator_count») 256) _ (sym so ∙ held) .0)
+
+      pub seen-stops : r ≡ false → separatorsFit (p .«vertex_count») (cliquesOf ws p) ≡ false
+      seen-stops fell = clique-stops ws (b .next) left (Found q) e more q refl (s .stand) (separatorFits (p .«vertex_count») (cliquesOf ws p)) _ r (s .later) fit fell
+
       first : cliquesFrom ws (b .next) left ≡ cliqueOf ws q ∷ cliquesFrom ws (q .next) (left - 1)
       first = from-next ws (b .next) left (Found q) e more q refl (s .stand)
 
       abbrev beside : Blocks
       beside = made (q .next) (b .dim + triangle (q .«snode_count» + q .«separator_count»)) (b .overlaps + triangle (q .«separator_count»))
 
-      seen : Seen ws p beside (left - 1)
-      seen = record {
+      seen : r ≡ true → Seen ws p beside (left - 1)
+      seen held = record {
         stand = sym (whole-next ws (b .next) left (Found q) e more q refl) ∙ s .stand;
-        later = clique-goes ws (b .next) left (Found q) e more q refl (s .stand) (right (cliquesOf ws p)) _ (right (cliquesOf ws p) (cliqueOf ws q)) (s .later) refl ok;
+        later = clique-goes ws (b .next) left (Found q) e more q refl (s .stand) (separatorFits (p .«vertex_count») (cliquesOf ws p)) _ r (s .later) fit held;
         dim = sum-cons dimOf (cliqueOf ws q) (cliquesFrom ws (q .next) (left - 1)) _ (b .dim) (triangle (q .«snode_count» + q .«separator_count»)) _ first (ap triangle (sym (block-size ws (b .next) q inside))) (s .dim);
         overlaps = sum-cons overlapsOf (cliqueOf ws q) (cliquesFrom ws (q .next) (left - 1)) _ (b .overlaps) (triangle (q .«separator_count»)) _ first (ap triangle (sym (separator-size ws (b .next) q inside))) (s .overlaps);
-        few-rows = less (b .dim) (triangle (q .«snode_count» + q .«separator_count»)) _ (triangle-small (q .«snode_count» + q .«separator_count») small) (s .few-rows);
-        few-overlaps = less (b .overlaps) (triangle (q .«separator_count»)) _ (triangle-small (q .«separator_count») (omega arith)) (s .few-overlaps);
+        few-rows = less (b .dim) (triangle (q .«snode_count» + q .«separator_count»)) _ (triangle-small (q .«snode_count» + q .«separator_count») (fits-small held)) (s .few-rows);
+        few-overlaps = less (b .overlaps) (triangle (q .«separator_count»)) _ (triangle-small (q .«separator_count») (omega (arith, fits-small held))) (s .few-overlaps);
         after = s .after ∙ rest-next ws (b .next) left (Found q) e more q refl;
         inside = inside .3;
+        past = omega (arith, inside .0, inside .1, inside .2);
       }
 
-      pub seen-more : (r : Blocks)
+      pub seen-more : r ≡ true → (r : Blocks)
           → (r .next ≡ q .next) × (r .dim ≡ b .dim + triangle (q .«snode_count» + q .«separator_count»)) × (r .overlaps ≡ b .overlaps + triangle (q .«separator_count»))
           → Seen ws p r (left - 1)
-      seen-more r a = subst (λ (x : Blocks). Seen ws p x (left - 1)) (sym (same-blocks r beside (a .0) (a .1) (a .2))) seen
+      seen-more held r a = subst (λ (x : Blocks). Seen ws p x (left - 1)) (sym (same-blocks r beside (a .0) (a .1) (a .2))) (seen held)
 
   pub seen-all : left ≤ 0 → SeparatorsHold ws p b
   seen-all z =
@@ -102,7 +116,7 @@ module _ (ws : List ℕ) (p : PatternAt) (b : Blocks) (left : ℕ) (s : Seen ws 
       record {
         after = s .after ∙ rest-none ws (b .next) left z;
         inside = s .inside;
-        right = s .later ∙ ap (all (right (cliquesOf ws p))) none;
+        right = s .later ∙ ap (all (separatorFits (p .«vertex_count») (cliquesOf ws p))) none;
         dim = sum-none dimOf (cliquesFrom ws (b .next) left) (b .dim) _ none (s .dim);
         overlaps = sum-none overlapsOf (cliquesFrom ws (b .next) left) (b .overlaps) _ none (s .overlaps);
         few-rows = omega (arith, s .few-rows);

@@ -1,12 +1,14 @@
 -- Cliques walked from the first on.
-use Prim.Native.Nat.{ℕ, zero, suc, _+_, _*_, _<_}
+use Prim.Native.Nat.{ℕ, zero, suc, _+_, _-_, _*_, _<_}
 use native.Mathlib.Numerals.{add-one}
 use native.Mathlib.Omega.{arith}
 use mathlib.Core.Path.{_≡_, refl, sym, ap, subst, _∙_}
-use mathlib.Core.Bool.{Bool, true, false, _&&_}
-use mathlib.Core.List.{List, [], _∷_, _++_, append-nil}
+use mathlib.Core.Bool.{Bool, true, false, not, _&&_}
+use mathlib.Core.List.{List, [], _∷_, _++_, append-nil, append-assoc}
 use lib.ListN.{length, drop, set, length-append}
-use borrow.Author.Tests.{ne-eqb}
+use lib.Dec.{eqb}
+use borrow.Author.Tests.{eqb-true, eq-eqb}
+use Rattle.layout.proofs.Tests.{and-iff, passed, passes, failed, differ}
 use Rattle.layout.specs.Lists.{all}
 use Rattle.layout.specs.Patterns.{Read, read, short, andThen, readMany, Clique, noClique, readClique, readCliques}
 use Rattle.layout.specs.Checks.{isPermutation}
@@ -16,11 +18,14 @@ use Rattle.supernode_tree.specs.declared.Clique.{Clique as CliqueAt}
 use Rattle.supernode_tree.specs.declared.Pattern.{Pattern as PatternAt}
 use Rattle.supernode_tree.specs.declared.CliqueRead.the-variants.{Clique as Found}
 use Rattle.supernode_tree.proofs.Words.{length-part}
+use Rattle.supernode_tree.proofs.Many.{whole-read, first-whole, many-value, many-whole}
+use Rattle.supernode_tree.proofs.Cliques.{snode-size, separator-size}
 use Rattle.supernode_tree.proofs.Offsets.{after, Written, written-more, written-all}
-use Rattle.clique_tree.specs.Trees.{parentOk, cliqueOk, treeFrom, snodesOf}
+use Rattle.clique_tree.specs.Trees.{parentOk, cliqueOk, treeFrom, snodesOf, snodesOk}
 use Rattle.layout.proofs.Walks.{all-append}
-use Rattle.accepted.specs.Accepted.{AllClear, Met, cliqueAt, filled, cliquesOf, CliqueHolds, SnodeHolds, SnodesHold}
-use Rattle.accepted.proofs.Marks.{met-all, met-clear}
+use Rattle.vertex_set.specs.OnceIn.{onceBelow}
+use Rattle.accepted.specs.Accepted.{AllClear, Met, cliqueAt, filled, cliqueRight, snodesRight, cliquesOf, SnodeHolds, SnodesHold}
+use Rattle.accepted.proofs.Marks.{met-all, met-clear, once-front}
 
 -- ---- one more, after those that were read
 
@@ -74,19 +79,88 @@ tree-last k c (p ∷ qs) q h e = go (cliqueOk k c p) h (tree-last k (suc c) qs q
     go true h more = let s : suc c + length qs ≡ c + suc (length qs) = omega arith in more h (ap (λ (i : ℕ). cliqueOk k i q) s ∙ e)
     go false h more = h
 
--- a clique that was found right
-pub clique-holds : (ws : List ℕ) (at c count : ℕ) (q : CliqueAt) → readClique (drop at ws) ≡ read (cliqueOf ws q) (drop (q .next) ws)
-    → CliqueInside (length ws) at (Found q) → (q .«snode_count» ≡ 0 → ⊥) → parentOk count c (q .parent) (q .«separator_count») ≡ true
-    → CliqueHolds ws at c count
-clique-holds ws at c count q e inside some ok =
-    let d : cliqueAt ws at ≡ cliqueOf ws q = ap (valueOr noClique) e in
-    let s : length (cliqueOf ws q .snode) ≡ q .«snode_count» = length-part (q .snode) (q .«snode_count») ws (omega arith) in
-    let t : length (cliqueOf ws q .separator) ≡ q .«separator_count» = length-part (q .separator) (q .«separator_count») ws (omega arith) in
+-- a clique as it is read
+pub clique-is : (ws : List ℕ) (at c count : ℕ) (q : CliqueAt) → readClique (drop at ws) ≡ read (cliqueOf ws q) (drop (q .next) ws)
+    → CliqueInside (length ws) at (Found q)
+    → cliqueRight count c (readClique (drop at ws)) ≡ (not (eqb (q .«snode_count») 0) && parentOk count c (q .parent) (q .«separator_count»))
+clique-is ws at c count q e inside =
+    ap (cliqueRight count c) e
+    ∙ ap (λ (n : ℕ). not (eqb n 0) && cliqueOk count c (cliqueOf ws q)) (snode-size ws at q inside)
+    ∙ ap (λ (n : ℕ). not (eqb (q .«snode_count») 0) && parentOk count c (q .parent) n) (separator-size ws at q inside)
+
+-- two tests that pass together
+pub agree : (a b : Bool) → (a ≡ true → b ≡ true) → (b ≡ true → a ≡ true) → a ≡ b
+agree true b f g = sym (f refl)
+agree false b f g = sym (failed b (λ t. differ false (g (passed b t)) refl))
+
+pub and-parts : (a b : Bool) → (a && b) ≡ true → (a ≡ true) × (b ≡ true)
+and-parts a b h = let (f, g) = and-iff a b .0 (passes (a && b) h) in (passed a f, passed b g)
+
+-- ---- cliques to come, after those whose snodes were met, where all are right
+
+pub record Later (k n c : ℕ) (met : List ℕ) (r : Read (List Clique)) : Type 0 where
+  pub stand : whole r ≡ true
+  pub tree : treeFrom k c (valueOr [] r) ≡ true
+  pub full : all filled (valueOr [] r) ≡ true
+  pub many : length met + length (snodesOf (valueOr [] r)) ≡ n
+  pub once : onceBelow n (met ++ snodesOf (valueOr [] r)) ≡ true
+
+pub later-start : (k n : ℕ) (r : Read (List Clique)) → snodesRight k n r ≡ true → Later k n 0 [] r
+later-start k n r h =
+    let cs = valueOr [] r in
+    let (stand, others) = and-parts (whole r) (treeFrom k 0 cs && snodesOk n cs) h in
+    let (tree, snodes) = and-parts (treeFrom k 0 cs) (snodesOk n cs) others in
+    let (counts, permutation) = and-parts (all filled cs && eqb (length (snodesOf cs)) n) (isPermutation (snodesOf cs)) snodes in
+    let (full, many) = and-parts (all filled cs) (eqb (length (snodesOf cs)) n) counts in
+    let e : length (snodesOf cs) ≡ n = eqb-true _ _ many in
     record {
-      stands = ap whole e;
-      tree = ap (cliqueOk count c) d ∙ ap (parentOk count c (q .parent)) t ∙ ok;
-      full = ap filled d ∙ rw (ne-eqb (length (cliqueOf ws q .snode)) 0 (λ z. some (sym s ∙ z)));
+      stand = stand;
+      tree = tree;
+      full = full;
+      many = omega arith;
+      once = ap (λ (m : ℕ). onceBelow m (snodesOf cs)) (sym e) ∙ permutation;
     }
+
+module _ (ws : List ℕ) (k n c at left : ℕ) (met : List ℕ) (more : 0 < left) (h : Later k n c met (readCliques left (drop at ws))) where
+  first-read : readClique (drop at ws) ≡ read (cliqueAt ws at) (rest (readClique (drop at ws)))
+  first-read = whole-read noClique (readClique (drop at ws)) (first-whole readClique left (drop at ws) more (h .stand))
+
+  abbrev others : Read (List Clique)
+  others = readCliques (left - 1) (rest (readClique (drop at ws)))
+
+  opened : valueOr [] (readCliques left (drop at ws)) ≡ cliqueAt ws at ∷ valueOr [] others
+  opened = many-value readClique left (drop at ws) more (cliqueAt ws at) (rest (readClique (drop at ws))) first-read (h .stand)
+
+  trees : (cliqueOk k c (cliqueAt ws at) ≡ true) × (treeFrom k (suc c) (valueOr [] others) ≡ true)
+  trees = and-parts _ _ (sym (ap (treeFrom k c) opened) ∙ h .tree)
+
+  fulls : (filled (cliqueAt ws at) ≡ true) × (all filled (valueOr [] others) ≡ true)
+  fulls = and-parts _ _ (sym (ap (all filled) opened) ∙ h .full)
+
+  snodes-opened : met ++ snodesOf (valueOr [] (readCliques left (drop at ws))) ≡ (met ++ cliqueAt ws at .snode) ++ snodesOf (valueOr [] others)
+  snodes-opened = ap (λ (cs : List Clique). met ++ snodesOf cs) opened ∙ sym (append-assoc met (cliqueAt ws at .snode) (snodesOf (valueOr [] others)))
+
+  once-opened : onceBelow n ((met ++ cliqueAt ws at .snode) ++ snodesOf (valueOr [] others)) ≡ true
+  once-opened = sym (ap (onceBelow n) snodes-opened) ∙ h .once
+
+  -- the first is right
+  pub later-first : (cliqueRight k c (readClique (drop at ws)) && onceBelow n (met ++ cliqueAt ws at .snode)) ≡ true
+  later-first =
+      let right : cliqueRight k c (readClique (drop at ws)) ≡ true = ap (cliqueRight k c) first-read ∙ rw (fulls .0, trees .0) in
+      rw (right, once-front n (met ++ cliqueAt ws at .snode) (snodesOf (valueOr [] others)) once-opened)
+
+  -- and the others
+  pub later-next : (next : ℕ) (us : List ℕ) → rest (readClique (drop at ws)) ≡ drop next ws → cliqueAt ws at .snode ≡ us
+      → Later k n (c + 1) (met ++ us) (readCliques (left - 1) (drop next ws))
+  later-next next us e f =
+      subst (λ (vs : List ℕ). Later k n (c + 1) (met ++ vs) (readCliques (left - 1) (drop next ws))) f
+      (subst (λ (l : List ℕ). Later k n (c + 1) (met ++ cliqueAt ws at .snode) (readCliques (left - 1) l)) e (record {
+        stand = sym (many-whole readClique left (drop at ws) more (cliqueAt ws at) (rest (readClique (drop at ws))) first-read) ∙ h .stand;
+        tree = let s : c + 1 ≡ suc c = omega arith in ap (λ (i : ℕ). treeFrom k i (valueOr [] others)) s ∙ trees .1;
+        full = fulls .1;
+        many = omega (arith, h .many, ap length snodes-opened, length-append met (snodesOf (valueOr [] (readCliques left (drop at ws)))), length-append (met ++ cliqueAt ws at .snode) (snodesOf (valueOr [] others)));
+        once = once-opened;
+      }))
 
 -- ---- c of a pattern's cliques were walked
 
@@ -99,6 +173,8 @@ pub record Walked (ws : List ℕ) (p : PatternAt) (marks : List Bool) (offsets :
   pub met : Met false (p .«vertex_count») marks (snodesOf cliques)
   pub many : length (snodesOf cliques) ≡ total
   pub starts : Written ws (p .cliques) 1 c offsets
+  pub later : snodesRight (p .«clique_count») (p .«vertex_count») (readCliques (p .«clique_count») (drop (p .cliques) ws)) ≡ true
+      → Later (p .«clique_count») (p .«vertex_count») c (snodesOf cliques) (readCliques (p .«clique_count» - c) (drop at ws))
 
 pub walked-none : (ws : List ℕ) (p : PatternAt) (marks : List Bool) (offsets : List ℕ) → Met false (p .«vertex_count») marks []
     → Walked ws p marks offsets 0 (p .cliques) 0
@@ -111,14 +187,34 @@ walked-none ws p marks offsets m = record {
   met = m;
   many = refl;
   starts = λ j l. absurd (omega arith);
+  later = λ h. let e : p .«clique_count» ≡ p .«clique_count» - 0 = omega arith in
+      subst (λ (k : ℕ). Later (p .«clique_count») (p .«vertex_count») 0 [] (readCliques k (drop (p .cliques) ws))) e (later-start (p .«clique_count») (p .«vertex_count») _ h);
 }
 
 module _ (ws : List ℕ) (p : PatternAt) (marks : List Bool) (offsets : List ℕ) (total at c : ℕ) (w : Walked ws p marks offsets total at c) where
+  -- the next was found right
+  module _ {new : List Bool} (r : Bool) (holds : SnodeHolds ws p at c marks new r) where
+    found : r ≡ true → (whole (readClique (drop at ws)) ≡ true) × (filled (cliqueAt ws at) ≡ true) × (cliqueOk (p .«clique_count») c (cliqueAt ws at) ≡ true)
+    found held =
+        let right = and-parts (cliqueRight (p .«clique_count») c (readClique (drop at ws))) _ (sym (holds (snodesOf (w .cliques)) (w .met) .0) ∙ held) .0 in
+        let (stand, others) = and-parts (whole (readClique (drop at ws))) _ right in
+        let (full, tree) = and-parts (filled (cliqueAt ws at)) (cliqueOk (p .«clique_count») c (cliqueAt ws at)) others in
+        (stand, full, tree)
+
+    pub walked-stands : r ≡ true → whole (readClique (drop at ws)) ≡ true
+    walked-stands held = found held .0
+
+    -- or not
+    pub walked-stops : c < p .«clique_count» → r ≡ false → false ≡ snodesRight (p .«clique_count») (p .«vertex_count») (readCliques (p .«clique_count») (drop (p .cliques) ws))
+    walked-stops few fell = sym (failed _ (λ t. differ r
+        (holds (snodesOf (w .cliques)) (w .met) .0 ∙ later-first ws (p .«clique_count») (p .«vertex_count») c at (p .«clique_count» - c) (snodesOf (w .cliques)) (omega arith) (w .later (passed _ t)))
+        fell))
+
   -- one more
-  pub walked-more : (q : CliqueAt) (new : List Bool) → cliqueRead ws (Found q) ≡ readClique (drop at ws) → CliqueInside (length ws) at (Found q)
-      → SnodeHolds ws p at c marks new → c < length offsets
+  pub walked-more : (q : CliqueAt) (new : List Bool) (r : Bool) → cliqueRead ws (Found q) ≡ readClique (drop at ws) → CliqueInside (length ws) at (Found q)
+      → SnodeHolds ws p at c marks new r → r ≡ true → c < length offsets → c < p .«clique_count»
       → Walked ws p new (set offsets c at) (total + q .«snode_count») (q .next) (c + 1)
-  walked-more q new e inside h room =
+  walked-more q new r e inside holds held room few =
       let cs = w .cliques in
       let count = p .«clique_count» in
       let first = p .cliques in
@@ -128,15 +224,21 @@ module _ (ws : List ℕ) (p : PatternAt) (marks : List Bool) (offsets : List ℕ
       join-append (λ (x : Clique). x .snode) cs (cliqueOf ws q ∷ []) ∙ ap (λ (r : List ℕ). snodesOf cs ++ r) (append-nil (cliqueOf ws q .snode)) in
       let o : c * 1 ≡ c = omega arith in
       let n : 0 + length cs ≡ c = omega (arith, w .as-many) in
+      let h = found r holds held in
+      let less : count - c - 1 ≡ count - (c + 1) = omega arith in
       record {
         cliques = cs ++ (cliqueOf ws q ∷ []);
         as-many = omega (arith, length-append cs (cliqueOf ws q ∷ []), w .as-many);
         reads = many-last readClique c (drop first ws) (drop at ws) (drop (q .next) ws) cs (cliqueOf ws q) (w .reads) (sym e);
-        tree = tree-last count 0 cs (cliqueOf ws q) (w .tree) (ap (λ (i : ℕ). cliqueOk count i (cliqueOf ws q)) n ∙ ap (cliqueOk count c) (sym d) ∙ h .0 .tree);
-        full = all-last filled cs (cliqueOf ws q) (w .full) (ap filled (sym d) ∙ h .0 .full);
-        met = subst (Met false (p .«vertex_count») new) (ap (λ (x : Clique). snodesOf cs ++ x .snode) d ∙ sym j) (h .1 (snodesOf cs) (w .met));
+        tree = tree-last count 0 cs (cliqueOf ws q) (w .tree) (ap (λ (i : ℕ). cliqueOk count i (cliqueOf ws q)) n ∙ ap (cliqueOk count c) (sym d) ∙ h .2);
+        full = all-last filled cs (cliqueOf ws q) (w .full) (ap filled (sym d) ∙ h .1);
+        met = subst (Met false (p .«vertex_count») new) (ap (λ (x : Clique). snodesOf cs ++ x .snode) d ∙ sym j) (holds (snodesOf cs) (w .met) .1 held);
         many = omega (arith, ap length j, length-append (snodesOf cs) (cliqueOf ws q .snode), w .many, s);
         starts = written-more ws first 1 offsets c at room (w .starts) (sym (ap rest (w .reads)) ∙ ap (after ws first) (sym o));
+        later = λ all.
+            subst (λ (us : List ℕ). Later count (p .«vertex_count») (c + 1) us (readCliques (count - (c + 1)) (drop (q .next) ws))) (sym j)
+            (subst (λ (k : ℕ). Later count (p .«vertex_count») (c + 1) (snodesOf cs ++ cliqueOf ws q .snode) (readCliques k (drop (q .next) ws))) less
+            (later-next ws count (p .«vertex_count») c at (count - c) (snodesOf cs) (omega arith) (w .later all) (q .next) (cliqueOf ws q .snode) (sym (ap rest e)) (ap (λ (x : Clique). x .snode) d)));
       }
 
   -- all of them
@@ -158,3 +260,14 @@ module _ (ws : List ℕ) (p : PatternAt) (marks : List Bool) (offsets : List ℕ
 
     pub walked-clear : AllClear marks
     walked-clear = met-clear (p .«vertex_count») marks (snodesOf (w .cliques)) (w .met) (w .many ∙ e)
+
+  -- the count of their vertices decides
+  pub walked-many : c ≡ p .«clique_count» → eqb total (p .«vertex_count»)
+      ≡ snodesRight (p .«clique_count») (p .«vertex_count») (readCliques (p .«clique_count») (drop (p .cliques) ws))
+  walked-many end = agree _ _
+      (λ z. let h = walked-all end (eqb-true _ _ z) in
+      rw (h .stand, h .tree, h .full, eq-eqb (length (snodesOf (cliquesOf ws p))) (p .«vertex_count») (h .many)) (h .permutation))
+      (λ z.
+      let none : p .«clique_count» - c ≡ 0 = omega arith in
+      let n : length (snodesOf (valueOr [] (readCliques (p .«clique_count» - c) (drop at ws)))) ≡ 0 = ap (λ (k : ℕ). length (snodesOf (valueOr [] (readCliques k (drop at ws))))) none in
+      eq-eqb total (p .«vertex_count») (omega (arith, w .later z .many, w .many)))

@@ -1,31 +1,27 @@
--- What a walk that finds nothing wrong says of patterns.
+-- What a walk over patterns decides, and what it says where it finds nothing wrong.
 use Prim.Native.Nat.{ℕ, _+_, _*_, _≤_, _<_}
 use mathlib.Core.Path.{_≡_}
-use mathlib.Core.Bool.{Bool, true, false, not, cond}
+use mathlib.Core.Bool.{Bool, true, false, not, cond, _&&_}
 use mathlib.Core.List.{List, [], _++_, map}
 use lib.ListN.{length, getD, drop}
-use lib.Dec.{T, eqb, ltb}
+use lib.Dec.{T, eqb, leb, ltb}
 use Rattle.layout.specs.Lists.{has, all, distinct, sum}
 use Rattle.layout.specs.Triangle.{triangle}
-use Rattle.layout.specs.Patterns.{Clique, Head, Pattern, noClique, readClique, readHead, readCliques, readPattern, patterns}
+use Rattle.layout.specs.Patterns.{Read, Clique, Head, Pattern, noClique, noPattern, readClique, readHead, readCliques, readPattern, patterns}
 use Rattle.layout.specs.Blocks.{blockRows, overlapRows}
-use Rattle.layout.specs.Checks.{isPermutation, patternsRead, treeRight, cliquesRight}
+use Rattle.layout.specs.Checks.{isPermutation, treeRight, cliquesRight}
 use Rattle.supernode_tree.specs.Reads.{headOf, patternRead, PatternInside, valueOr, whole, Whole, rest, cliquesFrom, patternAt}
 use Rattle.supernode_tree.specs.Offsets.{OffsetsEvery}
 use Rattle.supernode_tree.specs.declared.Pattern.{Pattern as PatternAt}
 use Rattle.supernode_tree.specs.declared.PatternRead.the-variants.{Pattern as FoundPattern}
-use Rattle.supernode_tree.specs.Sizes.{dimOf, overlapsOf}
+use Rattle.supernode_tree.specs.Sizes.{atMost, dimOf, overlapsOf}
 use Rattle.sparsity_pattern.specs.Sparsity.{patternRight}
 use Rattle.supportedcone.specs.Ranges.{isPsdOf}
-use Rattle.clique_tree.specs.Trees.{cliqueOk, treeFrom, snodesOf, separatorsOk}
+use Rattle.vertex_set.specs.OnceIn.{onceBelow}
+use Rattle.clique_tree.specs.Trees.{cliqueOk, treeFrom, snodesOf, snodesOk, separatorBelow}
 use Rattle.accepted.specs.declared.Blocks.{Blocks}
 use Rattle.accepted.specs.declared.Walk.{Walk}
 use Rattle.accepted.specs.declared.Accepted.{Accepted}
-
--- checks 5, 6 and 7
-abbrev pub Holds : List ℕ → ℕ → List ℕ → Type 0
-Holds cones count ws =
-    (patternsRead cones count ws ≡ true) × (all treeRight (patterns count ws) ≡ true) × (all cliquesRight (patterns count ws) ≡ true)
 
 -- the rows of a pattern's cone
 abbrev pub cutRows : Pattern → ℕ
@@ -48,9 +44,9 @@ pub record Met (b : Bool) (n : ℕ) (marks : List Bool) (met : List ℕ) : Type 
   pub once : T (distinct met)
   pub below : T (all (λ x. ltb x n) met)
 
--- after any that were met the words are met too
-abbrev pub MeetsMore : Bool → ℕ → List Bool → List ℕ → List Bool → Type 0
-MeetsMore b n old ws new = (met : List ℕ) → Met b n old met → Met b n new (met ++ ws)
+-- after any that were met the answer is whether the words can be met too, and where it is true they are
+abbrev pub Meets : Bool → ℕ → List Bool → List ℕ → List Bool → Bool → Type 0
+Meets b n old ws new r = (met : List ℕ) → Met b n old met → (r ≡ onceBelow n (met ++ ws)) × (r ≡ true → Met b n new (met ++ ws))
 
 -- ---- cliques
 
@@ -60,16 +56,21 @@ cliqueAt ws at = valueOr noClique (readClique (drop at ws))
 abbrev pub filled : Clique → Bool
 filled c = not (eqb (length (c .snode)) 0)
 
--- clique c of count stands whole at an offset, its parent is right, and its snode is not empty
-pub record CliqueHolds (ws : List ℕ) (at c count : ℕ) : Type 0 where
-  pub stands : whole (readClique (drop at ws)) ≡ true
-  pub tree : cliqueOk count c (cliqueAt ws at) ≡ true
-  pub full : filled (cliqueAt ws at) ≡ true
+-- clique c of count stands whole, its snode is not empty, and its parent is right
+abbrev pub cliqueRight : ℕ → ℕ → Read Clique → Bool
+cliqueRight count c r = whole r && (filled (valueOr noClique r) && cliqueOk count c (valueOr noClique r))
 
--- and after any that were met its snode is met
-abbrev pub SnodeHolds : List ℕ → PatternAt → ℕ → ℕ → List Bool → List Bool → Type 0
-SnodeHolds ws p at c old new =
-    CliqueHolds ws at c (p .«clique_count») × MeetsMore false (p .«vertex_count») old (cliqueAt ws at .snode) new
+-- so it is and, after any that were met, its snode can be met
+abbrev pub SnodeHolds : List ℕ → PatternAt → ℕ → ℕ → List Bool → List Bool → Bool → Type 0
+SnodeHolds ws p at c old new r =
+    let us = cliqueAt ws at .snode in
+    (met : List ℕ) → Met false (p .«vertex_count») old met
+    → (r ≡ (cliqueRight (p .«clique_count») c (readClique (drop at ws)) && onceBelow (p .«vertex_count») (met ++ us)))
+    × (r ≡ true → Met false (p .«vertex_count») new (met ++ us))
+
+-- k cliques stand whole, their parents are right, no snode is empty, and the snodes hold each number below n once
+abbrev pub snodesRight : ℕ → ℕ → Read (List Clique) → Bool
+snodesRight k n r = whole r && (treeFrom k 0 (valueOr [] r) && snodesOk n (valueOr [] r))
 
 abbrev pub cliquesOf : List ℕ → PatternAt → List Clique
 cliquesOf ws p = cliquesFrom ws (p .cliques) (p .«clique_count»)
@@ -83,11 +84,18 @@ pub record SnodesHold (ws : List ℕ) (p : PatternAt) (offsets : List ℕ) : Typ
   pub many : length (snodesOf (cliquesOf ws p)) ≡ p .«vertex_count»
   pub permutation : isPermutation (snodesOf (cliquesOf ws p)) ≡ true
 
--- they end at an offset, their separators are right, and their blocks have so many rows and overlaps, which are few
+-- a clique's block is no larger than a cone, and its separator is right, of numbers below n
+abbrev pub separatorFits : ℕ → List Clique → Clique → Bool
+separatorFits n cs c = atMost 256 c && separatorBelow n cs (c .parent) (c .separator)
+
+abbrev pub separatorsFit : ℕ → List Clique → Bool
+separatorsFit n cs = all (separatorFits n cs) cs
+
+-- they end at an offset, their separators are right and small, and their blocks have so many rows and overlaps, which are few
 pub record SeparatorsHold (ws : List ℕ) (p : PatternAt) (b : Blocks) : Type 0 where
   pub after : rest (readCliques (p .«clique_count») (drop (p .cliques) ws)) ≡ drop (b .next) ws
   pub inside : b .next ≤ length ws
-  pub right : separatorsOk (cliquesOf ws p) ≡ true
+  pub right : separatorsFit (p .«vertex_count») (cliquesOf ws p) ≡ true
   pub dim : b .dim ≡ sum (map dimOf (cliquesOf ws p))
   pub overlaps : b .overlaps ≡ sum (map overlapsOf (cliquesOf ws p))
   pub few-rows : b .dim ≤ p .«clique_count» * 32896
@@ -105,6 +113,29 @@ noHead = record { origIndex = 0; vertexCount = 0; cliqueCount = 0; ordering = []
 
 abbrev pub headAt : List ℕ → ℕ → Head
 headAt ws at = valueOr noHead (readHead (drop at ws))
+
+-- a head stands whole, names a cone that is not before `least`, and has cliques; tables of 256 are long enough
+abbrev pub headRight : List ℕ → ℕ → Read Head → Bool
+headRight cones least r =
+    let h = valueOr noHead r in
+    whole r && (leb least (h .origIndex) && (not (eqb (h .cliqueCount) 0) && (leb (h .cliqueCount) 256
+    && (leb (h .vertexCount) 256 && isPsdOf cones (h .origIndex) (h .vertexCount)))))
+
+-- and the cliques after it
+abbrev pub cliquesAfter : Read Head → Read (List Clique)
+cliquesAfter r = readCliques (valueOr noHead r .cliqueCount) (rest r)
+
+-- so it is, its ordering is a permutation, and the snodes after it are right
+abbrev pub verticesRight : List ℕ → ℕ → Read Head → Bool
+verticesRight cones least r =
+    let h = valueOr noHead r in
+    headRight cones least r && (isPermutation (h .ordering) && snodesRight (h .cliqueCount) (h .vertexCount) (cliquesAfter r))
+
+-- checks 5, 6 and 7 of one pattern, whose cone is not before `least`
+abbrev pub patternHolds : List ℕ → ℕ → Read Pattern → Bool
+patternHolds cones least r =
+    let p = valueOr noPattern r in
+    whole r && (leb least (p .origIndex) && (patternRight cones p && (treeRight p && cliquesRight p)))
 
 -- the head at an offset stands whole, names a cone that is not before `least`, and has cliques; tables of 256 are long enough
 pub record HeadHolds (cones ws : List ℕ) (at least : ℕ) : Type 0 where

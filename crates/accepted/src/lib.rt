@@ -1,15 +1,19 @@
-// Checks 5, 6 and 7 of patterns that are right, and the rows of their blocks, in two walks over the cliques. Only a true answer
-// says something: where it is false the checks themselves find the number.
+// Checks 5, 6 and 7 of patterns, and the rows of their blocks, in two walks over the cliques. Tables of 256 are enough: a right
+// pattern has the vertices of its cone, 256 at most; each clique has a vertex of its own, so that there are no more cliques; and a
+// separator's members are vertices of later snodes, so that no block is larger than its cone.
 ghost use mathlib.Core.Path.{_≡_};
-ghost use mathlib.Core.Bool.{true, false};
+ghost use mathlib.Core.Bool.{true, false, _&&_};
 ghost use mathlib.Core.List.{[]};
 ghost use Prim.Native.Nat.{_+_, _-_, _*_, _≤_, _<_};
+ghost use lib.Dec.{leb, ltb};
 ghost use lib.ListN.{length, take, drop};
 ghost use Rattle.supernode_tree.specs.Reads.{cliquesFrom, whole};
-ghost use Rattle.clique_tree.specs.Trees.{separatorOk};
+ghost use Rattle.clique_tree.specs.Trees.{separatorBelow};
+ghost use Rattle.layout.specs.Lists.{all};
+ghost use Rattle.layout.specs.Checks.{conesBounded, patternsRead, treeRight, cliquesRight};
 ghost use Rattle.layout.specs.Triangle.{triangle};
-ghost use Rattle.layout.specs.Patterns.{patterns, readHead};
-ghost use Rattle.accepted.specs.Accepted.{Holds, Summed, AllClear, Met, MeetsMore, CliqueHolds, SnodeHolds, SnodesHold, SeparatorsHold, Stand, VerticesHold, HeadHolds, headAt, PatternHolds, Added};
+ghost use Rattle.layout.specs.Patterns.{patterns, readHead, readClique, readCliques, readPattern};
+ghost use Rattle.accepted.specs.Accepted.{Summed, AllClear, Met, Meets, cliqueRight, SnodeHolds, snodesRight, SnodesHold, separatorsFit, SeparatorsHold, Stand, headRight, verticesRight, VerticesHold, headAt, patternHolds, PatternHolds, Added};
 use supernode_tree::Clique;
 use supernode_tree::CliqueRead;
 use supernode_tree::Pattern;
@@ -26,7 +30,7 @@ struct Blocks {
 // Sets the marks of the words from a to e to b, unless one is not below n or has the mark b already.
 fn mark_all(words: &[u32], a: usize, e: usize, n: usize, b: bool, marks: &mut [bool]) -> bool
     requires { ⌜ (a ≤ e) × (e ≤ length (now words)) × (n ≤ length (now marks)) ⌝ }
-    ensures { λ r. ⌜ (r ≡ true → MeetsMore b n (now (marks .entry)) (take (e - a) (drop a (now (words .entry)))) (now (marks .exit))) ⌝ }
+    ensures { λ r. ⌜ Meets b n (now (marks .entry)) (take (e - a) (drop a (now (words .entry)))) (now (marks .exit)) r ⌝ }
 {
     let mut i = a;
     while i < e {
@@ -56,7 +60,7 @@ fn rows(k: usize) -> u64
 // The c-th clique stands whole, has a right parent, and its snode is not empty.
 fn clique_holds(words: &[u32], at: usize, c: u32, count: u32) -> bool
     requires { ⌜ c < count ⌝ }
-    ensures { λ r. ⌜ (r ≡ true → CliqueHolds (now (words .entry)) at c count) ⌝ }
+    ensures { λ r. ⌜ r ≡ cliqueRight count c (readClique (drop at (now (words .entry)))) ⌝ }
 {
     let CliqueRead::Clique(q) = Clique::read(words, at) else {
         return false;
@@ -70,7 +74,7 @@ fn clique_holds(words: &[u32], at: usize, c: u32, count: u32) -> bool
 // The same, and each vertex of its snode has a mark and loses it, so that none is left to clear.
 fn snode_holds(words: &[u32], p: Pattern, at: usize, c: u32, marks: &mut [bool]) -> bool
     requires { ⌜ (c < p .«clique_count») × (p .«vertex_count» ≤ length (now marks)) ⌝ }
-    ensures { λ r. ⌜ (r ≡ true → SnodeHolds (now (words .entry)) p at c (now (marks .entry)) (now (marks .exit))) ⌝ }
+    ensures { λ r. ⌜ SnodeHolds (now (words .entry)) p at c (now (marks .entry)) (now (marks .exit)) r ⌝ }
 {
     if !clique_holds(words, at, c, p.clique_count) {
         return false;
@@ -83,6 +87,7 @@ fn snode_holds(words: &[u32], p: Pattern, at: usize, c: u32, marks: &mut [bool])
 fn snodes_hold(words: &[u32], p: Pattern, marks: &mut [bool], offsets: &mut [usize]) -> bool
     requires { ⌜ (p .cliques ≤ length (now words)) × (p .«vertex_count» ≤ length (now marks)) × (p .«clique_count» ≤ length (now offsets)) ⌝ }
     requires { ⌜ Met false (p .«vertex_count») (now marks) [] ⌝ }
+    ensures { λ r. ⌜ r ≡ snodesRight (p .«clique_count») (p .«vertex_count») (readCliques (p .«clique_count») (drop (p .cliques) (now (words .entry)))) ⌝ }
     ensures { λ r. ⌜ (r ≡ true → SnodesHold (now (words .entry)) p (now (offsets .exit)) × AllClear (now (marks .exit))) ⌝ }
 {
     let mut total = 0;
@@ -103,8 +108,8 @@ fn snodes_hold(words: &[u32], p: Pattern, marks: &mut [bool], offsets: &mut [usi
 
 // ---- separators and blocks
 
-// A read clique's block is no larger than a cone, its separator repeats no member, and its parent's clique, which has its offset,
-// holds each.
+// A read clique's block is no larger than a cone, its separator repeats no member, and each is a vertex that its parent's clique,
+// which has its offset, holds.
 fn separator_holds(
     words: &[u32],
     p: Pattern,
@@ -116,7 +121,7 @@ fn separator_holds(
     requires { ⌜ (q .separator ≤ q .next) × (q .next ≤ length (now words)) ⌝ }
     requires { ⌜ q .«snode_count» + q .«separator_count» < 18446744073709551616 ⌝ }
     requires { ⌜ 0 < length (now marks) ⌝ }
-    ensures { λ r. ⌜ (r ≡ true → (q .«snode_count» + q .«separator_count» ≤ 256) × (separatorOk (cliquesFrom (now (words .entry)) (p .cliques) (p .«clique_count»)) (q .parent) (take (q .next - q .separator) (drop (q .separator) (now (words .entry)))) ≡ true)) ⌝ }
+    ensures { λ r. ⌜ r ≡ (leb (q .«snode_count» + q .«separator_count») 256 && separatorBelow (p .«vertex_count») (cliquesFrom (now (words .entry)) (p .cliques) (p .«clique_count»)) (q .parent) (take (q .next - q .separator) (drop (q .separator) (now (words .entry))))) ⌝ }
 {
     if 256 < q.get_nblk() {
         return false;
@@ -129,7 +134,15 @@ fn separator_holds(
     }
     let at = offsets[q.parent as usize];
     let m = Clique::here(words, at);
-    clique_tree::separator_right(words, q.separator, q.next, m.snode, m.next, 256, marks)
+    clique_tree::separator_right(
+        words,
+        q.separator,
+        q.next,
+        m.snode,
+        m.next,
+        p.vertex_count,
+        marks,
+    )
 }
 
 // A clique's block beside those before it.
@@ -158,8 +171,9 @@ fn no_blocks(next: usize) -> Blocks
 // Each separator, and the rows of the blocks.
 fn separators_hold(words: &[u32], p: Pattern, offsets: &[usize], marks: &mut [bool]) -> Blocks
     requires { ⌜ Stand (now words) p (now offsets) ⌝ }
-    requires { ⌜ p .cliques ≤ length (now words) ⌝ }
+    requires { ⌜ (0 < p .cliques) × (p .cliques ≤ length (now words)) ⌝ }
     requires { ⌜ 0 < length (now marks) ⌝ }
+    ensures { λ r. ⌜ ltb 0 (r .next) ≡ separatorsFit (p .«vertex_count») (cliquesFrom (now (words .entry)) (p .cliques) (p .«clique_count»)) ⌝ }
     ensures { λ r. ⌜ (0 < r .next → SeparatorsHold (now (words .entry)) p r) ⌝ }
 {
     let mut b = no_blocks(p.cliques);
@@ -189,7 +203,7 @@ struct Walk {
 
 // The head of the pattern at an offset stands whole, and names its cone, which is a later one; tables of 256 are long enough.
 fn head_holds(cones: &[u32], words: &[u32], at: usize, least: u64) -> bool
-    ensures { λ r. ⌜ (r ≡ true → HeadHolds (now (cones .entry)) (now (words .entry)) at least) ⌝ }
+    ensures { λ r. ⌜ r ≡ headRight (now (cones .entry)) least (readHead (drop at (now (words .entry)))) ⌝ }
 {
     let PatternRead::Pattern(p) = Pattern::read(words, at) else {
         return false;
@@ -218,6 +232,7 @@ fn vertices_hold(
     offsets: &mut [usize],
 ) -> bool
     requires { ⌜ (256 ≤ length (now marks)) × (256 ≤ length (now offsets)) × AllClear (now marks) ⌝ }
+    ensures { λ r. ⌜ r ≡ verticesRight (now (cones .entry)) (w .least) (readHead (drop (w .next) (now (words .entry)))) ⌝ }
     ensures { λ r. ⌜ (r ≡ true → VerticesHold (now (cones .entry)) (now (words .entry)) w (now (offsets .exit)) × AllClear (now (marks .exit))) ⌝ }
 {
     if !head_holds(cones, words, w.next, w.least) {
@@ -248,6 +263,8 @@ fn pattern_holds(
 ) -> Blocks
     requires { ⌜ (256 ≤ length (now marks)) × (256 ≤ length (now offsets)) × AllClear (now marks) ⌝ }
     requires { ⌜ 0 < length (now others) ⌝ }
+    requires { ⌜ conesBounded (now cones) ≡ true ⌝ }
+    ensures { λ r. ⌜ ltb 0 (r .next) ≡ patternHolds (now (cones .entry)) (w .least) (readPattern (drop (w .next) (now (words .entry)))) ⌝ }
     ensures { λ r. ⌜ (0 < r .next → PatternHolds (now (cones .entry)) (now (words .entry)) w r × AllClear (now (marks .exit))) ⌝ }
 {
     if !vertices_hold(cones, words, w, marks, &mut *offsets) {
@@ -294,7 +311,9 @@ fn answer(holds: bool, w: Walk) -> Accepted
 }
 
 pub fn patterns_hold(cones: &[u32], count: u32, words: &[u32]) -> Accepted
-    ensures { λ r. ⌜ (r .holds ≡ true → Holds (now (cones .entry)) count (now (words .entry)) × Summed (patterns count (now (words .entry))) r × (r .dim ≤ count * 8421376)) ⌝ }
+    requires { ⌜ conesBounded (now cones) ≡ true ⌝ }
+    ensures { λ r. ⌜ r .holds ≡ (patternsRead (now (cones .entry)) count (now (words .entry)) && all treeRight (patterns count (now (words .entry))) && all cliquesRight (patterns count (now (words .entry)))) ⌝ }
+    ensures { λ r. ⌜ (r .holds ≡ true → Summed (patterns count (now (words .entry))) r × (r .dim ≤ count * 8421376)) ⌝ }
 {
     let mut marks = [false; 256];
     let mut offsets = [0usize; 256];

@@ -106,8 +106,8 @@ module _ {p : Problem} (h : Accepted standard p) where
     pub room-rows : (room : ℕ) → length (p .A .values) + 2 * k ≤ room → length (p .A .rows) + 2 * k ≤ room
     room-rows room r = omega (arith, even-A h, r)
 
-    pub room-b : (room : ℕ) → p .m + k ≤ room → length (p .b) + k ≤ room
-    room-b room r = omega (arith, same-b h, r)
+    pub room-b : (room : ℕ) → p .m + blockRowCount (layout p) ≤ room → length (p .b) + k ≤ room
+    room-b room r = omega (arith, same-b h, e, r)
 
     columns : k ≡ length (standardRows (layout p))
     columns = e ∙ sym (rows-count (sound h))

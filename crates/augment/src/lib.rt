@@ -1,20 +1,17 @@
 // What both routes write alike, and the standard cut of a whole problem that the route accepts, each output written by its own function.
 ghost use mathlib.Core.Path.{_≡_};
-ghost use mathlib.Core.List.{_++_};
-ghost use Prim.Native.Nat.{suc, _+_, _*_, _≤_};
-ghost use lib.ListN.{length, replicate};
-ghost use lib.Dec.{T};
+ghost use Prim.Native.Nat.{_+_, _*_, _≤_};
+ghost use lib.ListN.{length};
 ghost use Rattle.layout.specs.Lists.{written};
-ghost use Rattle.layout.specs.Problem.{standard, zero64};
+ghost use Rattle.layout.specs.Problem.{standard};
 ghost use Rattle.layout.specs.Blocks.{standardRows, blockRowCount};
-ghost use Rattle.layout.specs.Checks.{Sound, startsRight};
-ghost use Rattle.layout.specs.Compact.{extendedP};
-ghost use Rattle.layout.specs.Standard.{standardA, standardB, standardCones};
-ghost use Rattle.layout.specs.Answers.{joinedParts};
-ghost use Rattle.csc.specs.Matrix.{matrix};
+ghost use Rattle.layout.specs.Checks.{Sound};
+ghost use Rattle.layout.specs.Answers.{joinedParts, augmented};
+ghost use Rattle.layout.specs.Calls.Cut.{objective, HoldsObjective, constrained, constrainedOf, HoldsConstrained};
 ghost use Rattle.augment_standard.specs.Beside.{hRows, besideRows};
-ghost use Rattle.augment_standard.specs.Constraints.{constraints, Accepted};
+ghost use Rattle.augment_standard.specs.Constraints.{constraints};
 ghost use Rattle.augment.specs.Cut.{zeroThenParts};
+ghost use Rattle.augment.specs.Fits.{extended, ObjectiveFits, ConstrainedFits};
 use tables::Table;
 
 // ---- P, q and the exponents, on either route
@@ -34,13 +31,14 @@ pub fn write_objective(
     q_out: &mut [f64],
     alphas_out: &mut [f64],
 )
-    requires { ⌜ T (startsRight n (matrix (now «p_starts») (now «p_rows») (now «p_values»))) ⌝ }
-    requires { ⌜ (length (now «p_starts») + k ≤ length (now «p_starts_out»)) × (length (now «p_rows») ≤ length (now «p_rows_out»)) × (length (now «p_values») ≤ length (now «p_values_out»)) × (length (now q) + k ≤ length (now «q_out»)) × (length (now alphas) ≤ length (now «alphas_out»)) ⌝ }
-    ensures { λ _. ⌜ now («p_starts_out» .exit) ≡ written (extendedP k (matrix (now («p_starts» .entry)) (now («p_rows» .entry)) (now («p_values» .entry))) .starts) (now («p_starts_out» .entry)) ⌝ }
-    ensures { λ _. ⌜ now («p_rows_out» .exit) ≡ written (now («p_rows» .entry)) (now («p_rows_out» .entry)) ⌝ }
-    ensures { λ _. ⌜ now («p_values_out» .exit) ≡ written (now («p_values» .entry)) (now («p_values_out» .entry)) ⌝ }
-    ensures { λ _. ⌜ now («q_out» .exit) ≡ written (now (q .entry) ++ replicate k zero64) (now («q_out» .entry)) ⌝ }
-    ensures { λ _. ⌜ now («alphas_out» .exit) ≡ written (now (alphas .entry)) (now («alphas_out» .entry)) ⌝ }
+    requires { let o = objective (now «p_starts») (now «p_rows») (now «p_values») (now q) (now alphas) in
+        let out = objective (now «p_starts_out») (now «p_rows_out») (now «p_values_out») (now «q_out») (now «alphas_out») in
+        ⌜ ObjectiveFits n k o out ⌝ }
+    ensures { λ _.
+        let o = objective (now («p_starts» .entry)) (now («p_rows» .entry)) (now («p_values» .entry)) (now (q .entry)) (now (alphas .entry)) in
+        let before = objective (now («p_starts_out» .entry)) (now («p_rows_out» .entry)) (now («p_values_out» .entry)) (now («q_out» .entry)) (now («alphas_out» .entry)) in
+        let after = objective (now («p_starts_out» .exit)) (now («p_rows_out» .exit)) (now («p_values_out» .exit)) (now («q_out» .exit)) (now («alphas_out» .exit)) in
+        ⌜ HoldsObjective 0 (extended k o) before after ⌝ }
 {
     csc::extend_starts(p_starts_out, n, p_starts, p_rows, p_values, k);
     csc::copy_numbers(p_rows_out, p_rows);
@@ -109,14 +107,14 @@ pub fn decomp_augment_standard(
     b_out: &mut [f64],
     cones_out: &mut [u32],
 )
-    requires { ⌜ Accepted standard (constraints n m (now «a_starts») (now «a_rows») (now «a_values») (now b) (now cones) count (now words)) ⌝ }
-    requires { ⌜ k ≡ blockRowCount (joinedParts (now cones) count (now words)) ⌝ }
-    requires { ⌜ (suc (n + k) ≤ length (now «a_starts_out»)) × (length (now «a_values») + 2 * k ≤ length (now «a_rows_out»)) × (length (now «a_values») + 2 * k ≤ length (now «a_values_out»)) × (m + k ≤ length (now «b_out»)) × (length (standardCones (constraints n m (now «a_starts») (now «a_rows») (now «a_values») (now b) (now cones) count (now words))) ≤ length (now «cones_out»)) ⌝ }
-    ensures { λ _. ⌜ now («a_starts_out» .exit) ≡ written (standardA (constraints n m (now («a_starts» .entry)) (now («a_rows» .entry)) (now («a_values» .entry)) (now (b .entry)) (now (cones .entry)) count (now (words .entry))) .starts) (now («a_starts_out» .entry)) ⌝ }
-    ensures { λ _. ⌜ now («a_rows_out» .exit) ≡ written (standardA (constraints n m (now («a_starts» .entry)) (now («a_rows» .entry)) (now («a_values» .entry)) (now (b .entry)) (now (cones .entry)) count (now (words .entry))) .rows) (now («a_rows_out» .entry)) ⌝ }
-    ensures { λ _. ⌜ now («a_values_out» .exit) ≡ written (standardA (constraints n m (now («a_starts» .entry)) (now («a_rows» .entry)) (now («a_values» .entry)) (now (b .entry)) (now (cones .entry)) count (now (words .entry))) .values) (now («a_values_out» .entry)) ⌝ }
-    ensures { λ _. ⌜ now («b_out» .exit) ≡ written (standardB (constraints n m (now («a_starts» .entry)) (now («a_rows» .entry)) (now («a_values» .entry)) (now (b .entry)) (now (cones .entry)) count (now (words .entry)))) (now («b_out» .entry)) ⌝ }
-    ensures { λ _. ⌜ now («cones_out» .exit) ≡ written (standardCones (constraints n m (now («a_starts» .entry)) (now («a_rows» .entry)) (now («a_values» .entry)) (now (b .entry)) (now (cones .entry)) count (now (words .entry)))) (now («cones_out» .entry)) ⌝ }
+    requires { let p = constraints n m (now «a_starts») (now «a_rows») (now «a_values») (now b) (now cones) count (now words) in
+        let out = constrained (now «a_starts_out») (now «a_rows_out») (now «a_values_out») (now «b_out») (now «cones_out») in
+        ⌜ ConstrainedFits standard p k out ⌝ }
+    ensures { λ _.
+        let p = constraints n m (now («a_starts» .entry)) (now («a_rows» .entry)) (now («a_values» .entry)) (now (b .entry)) (now (cones .entry)) count (now (words .entry)) in
+        let before = constrained (now («a_starts_out» .entry)) (now («a_rows_out» .entry)) (now («a_values_out» .entry)) (now («b_out» .entry)) (now («cones_out» .entry)) in
+        let after = constrained (now («a_starts_out» .exit)) (now («a_rows_out» .exit)) (now («a_values_out» .exit)) (now («b_out» .exit)) (now («cones_out» .exit)) in
+        ⌜ HoldsConstrained 0 (constrainedOf (augmented standard p)) before after ⌝ }
 {
     augment_standard::write_starts(a_starts_out, a_starts, a_values.len() as u32, k);
     standard_a_rows(m, cones, count, words, a_rows, k, a_rows_out);

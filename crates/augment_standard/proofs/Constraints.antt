@@ -1,5 +1,5 @@
 -- What the checks say of constraints that a route accepts, as the writers ask it.
-use Prim.Native.Nat.{ℕ, suc, _+_, _*_, _≤_}
+use Prim.Native.Nat.{ℕ, suc, _+_, _≤_}
 use native.Mathlib.Omega.{arith}
 use mathlib.Core.Path.{_≡_, ap, _∙_}
 use mathlib.Core.List.{List}
@@ -7,11 +7,9 @@ use lib.ListN.{length}
 use lib.Dec.{T}
 use Rattle.layout.specs.Lists.{written}
 use Rattle.layout.specs.Problem.{Problem, Route}
-use Rattle.layout.specs.Checks.{Sound, startsRight, layout}
+use Rattle.layout.specs.Checks.{Sound, startsRight}
 use Rattle.layout.proofs.Accepted.{accepted-sound, accepted-checked}
 use Rattle.layout.proofs.Columns.{right-A}
-use Rattle.layout.specs.Blocks.{blockRowCount}
-use Rattle.layout.specs.Answers.{augmented, addedCount, slackCount}
 use Rattle.augment_standard.specs.Constraints.{completed, Accepted}
 
 -- what was written, by an equal list
@@ -40,12 +38,3 @@ module _ {route : Route} {p : Problem} (h : Accepted route p) where
   -- room for the starts of A and of k columns more
   pub room-starts : (k room : ℕ) → suc (p .n + k) ≤ room → length (p .A .starts) + k ≤ room
   room-starts k room r = omega (arith, right-A route whole (h .accepted) .count, r)
-
--- what is asked of a route, with so many rows of blocks, k added columns, and room for the outputs
-module _ (p : Problem) (rows k starts entries values bs cones map : ℕ) where
-  abbrev pub Asked : Route → Type 0
-  Asked route =
-      Accepted route p
-      × (((rows ≡ blockRowCount (layout p)) × (k ≡ addedCount route (layout p)))
-      × ((suc (p .n + k) ≤ starts) × (length (p .A .values) + 2 * k ≤ entries) × (length (p .A .values) + 2 * k ≤ values)
-      × (slackCount route (p .m) (layout p) ≤ bs) × (length (augmented route p .cones) ≤ cones) × (length (augmented route p .map) ≤ map)))

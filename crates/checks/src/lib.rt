@@ -1,11 +1,13 @@
 // Checks 1 to 7 in document 01's order: of a whole problem, and of what a joining is given.
 ghost use mathlib.Core.Path.{_≡_};
-ghost use mathlib.Core.Bool.{true};
-ghost use Prim.Native.Nat.{_≤_};
+ghost use mathlib.Core.Bool.{true, false, _&&_};
+ghost use Prim.Native.Nat.{_≤_, _<_};
 ghost use lib.Dec.{T};
 ghost use Rattle.layout.specs.Problem.{problem};
 ghost use Rattle.layout.specs.Blocks.{blockRowCount, overlapCount};
-ghost use Rattle.layout.specs.Checks.{conesBounded, conesRead};
+ghost use Rattle.layout.specs.Lists.{all};
+ghost use Rattle.layout.specs.Patterns.{patterns};
+ghost use Rattle.layout.specs.Checks.{conesBounded, conesRead, patternsRead, treeRight, cliquesRight};
 ghost use Rattle.layout.specs.Answers.{joinBounded, joinedParts, problemRefusal};
 ghost use Rattle.csc.specs.Matrix.{matrix};
 ghost use Rattle.checks.specs.Order.{bounds, matricesRefusal, recordsRefusal, patternsRefusal, joinedRefusal};
@@ -84,9 +86,10 @@ pub fn check_records(n: u32, m: u32, q: &[f64], b: &[f64], cones: &[u32], alphas
     0
 }
 
-// Checks 5, 6 and 7 in order.
+// Checks 5, 6 and 7 in order, where one of them fails: it is the last where the others pass.
 fn refuse_patterns(cones: &[u32], count: u32, words: &[u32]) -> u32
-    ensures { λ r. ⌜ r ≡ patternsRefusal (now (cones .entry)) count (now (words .entry)) ⌝ }
+    requires { ⌜ (patternsRead (now cones) count (now words) && all treeRight (patterns count (now words)) && all cliquesRight (patterns count (now words))) ≡ false ⌝ }
+    ensures { λ r. ⌜ (r ≡ patternsRefusal (now (cones .entry)) count (now (words .entry))) × (0 < r) ⌝ }
 {
     if !sparsity_pattern::check_patterns(cones, count, words) {
         return 5;
@@ -94,10 +97,7 @@ fn refuse_patterns(cones: &[u32], count: u32, words: &[u32]) -> u32
     if !clique_tree::trees_right(count, words) {
         return 6;
     }
-    if !clique_tree::all_cliques_right(count, words) {
-        return 7;
-    }
-    0
+    7
 }
 
 // The number of the first check that fails, or 0 and how many rows and overlaps the blocks have.
@@ -117,8 +117,8 @@ fn refused_as(refusal: u32) -> Joined
     }
 }
 
-// Checks 5, 6 and 7 after 1 and 4: a fast walk accepts patterns that are right, and counts, and the checks in order find the number
-// of others.
+// Checks 5, 6 and 7 after 1 and 4: one walk decides whether they pass, and counts; where they do not, the first two in order find
+// the number.
 fn count_patterns(m: u32, cones: &[u32], count: u32, words: &[u32]) -> Joined
     requires { ⌜ (m ≤ 65536) × T (conesBounded (now cones)) × T (conesRead m (now cones)) ⌝ }
     ensures { λ r. ⌜ r .refusal ≡ patternsRefusal (now (cones .entry)) count (now (words .entry)) ⌝ }
@@ -132,16 +132,7 @@ fn count_patterns(m: u32, cones: &[u32], count: u32, words: &[u32]) -> Joined
             overlaps: walk.overlaps,
         };
     }
-    let r = refuse_patterns(cones, count, words);
-    if r != 0 {
-        return refused_as(r);
-    }
-    let d = parts::get_decomposed_dim_and_overlaps(m, cones, count, words);
-    Joined {
-        refusal: 0,
-        rows: d.rows,
-        overlaps: d.overlaps,
-    }
+    refused_as(refuse_patterns(cones, count, words))
 }
 
 // Checks 1 to 7: the number of the first that fails, or 0.
@@ -161,7 +152,9 @@ pub fn check_problem(
     count: u32,
     words: &[u32],
 ) -> u32
-    ensures { λ r. ⌜ r ≡ problemRefusal (problem n m (now («p_starts» .entry)) (now («p_rows» .entry)) (now («p_values» .entry)) (now (q .entry)) (now («a_starts» .entry)) (now («a_rows» .entry)) (now («a_values» .entry)) (now (b .entry)) (now (cones .entry)) (now (alphas .entry)) count (now (words .entry))) ⌝ }
+    ensures { λ r.
+        let p = problem n m (now («p_starts» .entry)) (now («p_rows» .entry)) (now («p_values» .entry)) (now (q .entry)) (now («a_starts» .entry)) (now («a_rows» .entry)) (now («a_values» .entry)) (now (b .entry)) (now (cones .entry)) (now (alphas .entry)) count (now (words .entry)) in
+        ⌜ r ≡ problemRefusal p ⌝ }
 {
     if !bounded(n, m, a_values.len(), p_values.len(), cones) {
         return 1;

@@ -5,17 +5,20 @@ use mathlib.Core.Bool.{Bool, true, false, not, _&&_}
 use mathlib.Core.Logic.{inl, inr}
 use mathlib.Core.Path.{_≡_, refl, sym, ap, _∙_}
 use mathlib.Core.List.{List, [], _∷_}
-use lib.Dec.{eqb, ltb}
+use lib.Dec.{T, eqb, ltb, lt→ltb}
 use borrow.Author.Tests.{lt-ltb, le-ltb, eq-eqb, ne-eqb}
-use lib.ListN.{length, drop, drop-of-length-le}
+use lib.ListN.{length, getD, drop, drop-of-length-le}
 use lib.Seq.{drop-cons}
 use Rattle.layout.specs.Lists.{all, upFrom}
 use Rattle.layout.specs.Patterns.{Read, read, short, andThen, Head, readHead, withCliques, readClique, readCliques, Clique, Pattern, noClique, noPattern}
-use Rattle.layout.specs.Checks.{parentRight, treeRight}
+use Rattle.layout.specs.Checks.{parentRight, treeRight, cliquesRight}
 use Rattle.supernode_tree.proofs.Many.{many-length}
 use Rattle.supernode_tree.specs.Reads.{whole, valueOr, patternAt}
-use Rattle.clique_tree.specs.Trees.{cliqueOk, treeFrom}
-use Rattle.layout.proofs.Tests.{and-right, lt-or-le}
+use Rattle.clique_tree.specs.Trees.{cliqueOk, treeFrom, snodesOk, separatorOk, separatorsOk, separatorsBelow}
+use Rattle.layout.proofs.Tests.{and-iff, and-true, and-right, lt-or-le, passed, passes, failed, differ}
+use Rattle.layout.proofs.Members.{all-at, all-has}
+use Rattle.layout.proofs.Walks.{all-both}
+use Rattle.layout.proofs.Tree.{in-vertex, in-iff}
 
 -- of cliques that are read
 abbrev pub treeRead : ℕ → ℕ → Read (List Clique) → Bool
@@ -57,3 +60,36 @@ tree-step k c j ws rest q e = rw e (go (readCliques j rest))
     go : (r : Read (List Clique)) → treeRead k c (andThen r (λ cs left. read (q ∷ cs) left)) ≡ (cliqueOk k c q && treeRead k (suc c) r)
     go (read cs left) = refl
     go short = sym (and-right (cliqueOk k c q) false refl)
+
+-- ---- separators below the vertex count
+
+pub below-right : (n : ℕ) (cs : List Clique) → separatorsBelow n cs ≡ true → separatorsOk cs ≡ true
+below-right n cs h = second (all (λ (c : Clique). all (λ x. ltb x n) (c .separator)) cs) (separatorsOk cs)
+    (sym (all-both (λ (c : Clique). all (λ x. ltb x n) (c .separator)) (λ (c : Clique). separatorOk cs (c .parent) (c .separator)) cs) ∙ h)
+  where
+    second : (a b : Bool) → (a && b) ≡ true → b ≡ true
+    second a b e = passed b (and-iff a b .0 (passes (a && b) e) .1)
+
+-- in a pattern that passes check 6, and whose snodes are right, separators that are right have no other members
+pub separators-below : (p : Pattern) → treeRight p ≡ true → snodesOk (p .vertexCount) (p .cliques) ≡ true
+    → separatorsBelow (p .vertexCount) (p .cliques) ≡ separatorsOk (p .cliques)
+separators-below p tree snodes = same (separatorsBelow n cs) (separatorsOk cs) (below-right n cs) back
+  where
+    n : ℕ
+    n = p .vertexCount
+
+    cs : List Clique
+    cs = p .cliques
+
+    same : (a b : Bool) → (a ≡ true → b ≡ true) → (b ≡ true → a ≡ true) → a ≡ b
+    same true b f g = sym (f refl)
+    same false b f g = sym (failed b (λ t. differ false (g (passed b t)) refl))
+
+    back : separatorsOk cs ≡ true → separatorsBelow n cs ≡ true
+    back h =
+        let right : T (cliquesRight p) = passes _ (and-true (snodesOk n cs) (separatorsOk cs) snodes ∙ h) in
+        let all-below : all (λ (c : Clique). all (λ x. ltb x n) (c .separator)) cs ≡ true =
+        passed _ (all-at noClique (λ (c : Clique). all (λ x. ltb x n) (c .separator)) cs .1 (λ c l.
+        all-has (λ x. ltb x n) (getD cs c noClique .separator) .1 (λ u k. lt→ltb u n (in-vertex p (passes _ tree) right c u l (in-iff p c u .1 (inr k)))))) in
+        all-both (λ (c : Clique). all (λ x. ltb x n) (c .separator)) (λ (c : Clique). separatorOk cs (c .parent) (c .separator)) cs
+        ∙ and-true (all (λ (c : Clique). all (λ x. ltb x n) (c .separator)) cs) (separatorsOk cs) all-below ∙ h

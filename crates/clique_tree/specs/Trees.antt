@@ -7,7 +7,7 @@ use lib.Dec.{eqb, ltb}
 use Rattle.layout.specs.Patterns.{Clique, noClique, members, noParent}
 use Rattle.layout.specs.Lists.{all, join}
 use Rattle.layout.specs.Checks.{isPermutation}
-use Rattle.vertex_set.specs.OnceIn.{onceIn}
+use Rattle.vertex_set.specs.OnceIn.{onceIn, onceBelowIn}
 
 -- clique c of k, with its parent and the count of its separator
 abbrev pub parentOk : ℕ → ℕ → ℕ → ℕ → Bool
@@ -28,6 +28,13 @@ separatorOk cs parent us = onceIn (members (getD cs parent noClique)) us
 
 abbrev pub separatorsOk : List Clique → Bool
 separatorsOk cs = all (λ c. separatorOk cs (c .parent) (c .separator)) cs
+
+-- the same, and each member is below n
+abbrev pub separatorBelow : ℕ → List Clique → ℕ → List ℕ → Bool
+separatorBelow n cs parent us = onceBelowIn n (members (getD cs parent noClique)) us
+
+abbrev pub separatorsBelow : ℕ → List Clique → Bool
+separatorsBelow n cs = all (λ c. separatorBelow n cs (c .parent) (c .separator)) cs
 
 -- the snodes' numbers, one after the other
 abbrev pub snodesOf : List Clique → List ℕ

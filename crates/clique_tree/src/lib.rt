@@ -9,8 +9,8 @@ ghost use Rattle.layout.specs.Patterns.{readPattern, readPatterns, patterns, en
 ghost use Rattle.utils.specs.Windows.{within};
 ghost use Rattle.supernode_tree.specs.Reads.{patternAt, whole, Whole, cliquesFrom};
 ghost use Rattle.supernode_tree.specs.Offsets.{OffsetsEvery};
-ghost use Rattle.vertex_set.specs.OnceIn.{onceIn};
-ghost use Rattle.clique_tree.specs.Trees.{parentOk, snodesOf, snodesFill, snodesOk, separatorsOk};
+ghost use Rattle.vertex_set.specs.OnceIn.{onceBelowIn};
+ghost use Rattle.clique_tree.specs.Trees.{parentOk, snodesOf, snodesFill, snodesOk, separatorsBelow};
 use supernode_tree::Clique;
 use supernode_tree::Pattern;
 
@@ -141,7 +141,7 @@ fn snodes_right(words: &[u32], first: usize, count: u32, n: usize, marks: &mut [
 
 // ---- check 7: separators
 
-// A separator, which stands from a to e, repeats no member, and its parent's clique, from b to f, holds each.
+// A separator, which stands from a to e, repeats no member, each is below n, and its parent's clique, from b to f, holds it.
 pub fn separator_right(
     words: &[u32],
     a: usize,
@@ -154,7 +154,7 @@ pub fn separator_right(
     requires { ⌜ (a ≤ e) × (e ≤ length (now words)) ⌝ }
     requires { ⌜ (b ≤ f) × (f ≤ length (now words)) ⌝ }
     requires { ⌜ 0 < length (now marks) ⌝ }
-    ensures { λ r. ⌜ r ≡ onceIn (take (f - b) (drop b (now (words .entry)))) (take (e - a) (drop a (now (words .entry)))) ⌝ }
+    ensures { λ r. ⌜ r ≡ onceBelowIn n (take (f - b) (drop b (now (words .entry)))) (take (e - a) (drop a (now (words .entry)))) ⌝ }
 {
     vertex_set::once_in(&words[a..e], &words[b..f], n, marks)
 }
@@ -173,7 +173,7 @@ fn separators_by(
     requires { ⌜ (0 < step) × (count ≤ length (now offsets) * step) ⌝ }
     requires { ⌜ OffsetsEvery step (now words) first count (now offsets) ⌝ }
     requires { ⌜ 0 < length (now marks) ⌝ }
-    ensures { λ r. ⌜ r ≡ separatorsOk (cliquesFrom (now (words .entry)) first count) ⌝ }
+    ensures { λ r. ⌜ r ≡ separatorsBelow n (cliquesFrom (now (words .entry)) first count) ⌝ }
 {
     let mut at = first;
     let mut left = count;
@@ -200,7 +200,7 @@ fn separators_right(
 ) -> bool
     requires { ⌜ Whole (now words) first count ⌝ }
     requires { ⌜ (0 < length (now marks)) × (256 ≤ length (now offsets)) ⌝ }
-    ensures { λ r. ⌜ r ≡ separatorsOk (cliquesFrom (now (words .entry)) first count) ⌝ }
+    ensures { λ r. ⌜ r ≡ separatorsBelow n (cliquesFrom (now (words .entry)) first count) ⌝ }
 {
     let step = (count as usize / offsets.len() + 1) as u32;
     supernode_tree::offsets_every(words, first, count, step, &mut *offsets);
@@ -209,9 +209,10 @@ fn separators_right(
 
 // ---- check 7
 
-// Check 7 of the pattern that stands at an offset, with lent tables.
+// Check 7 of the pattern that stands at an offset and passes check 6, with lent tables. Its parents come later, so that a member of a
+// separator is in a later snode, and below the vertex count.
 fn cliques_right_by(words: &[u32], at: usize, marks: &mut [bool], offsets: &mut [usize]) -> bool
-    requires { ⌜ whole (readPattern (drop at (now words))) ≡ true ⌝ }
+    requires { ⌜ (whole (readPattern (drop at (now words))) ≡ true) × (treeRight (patternAt (now words) at) ≡ true) ⌝ }
     requires { ⌜ (0 < length (now marks)) × (256 ≤ length (now offsets)) ⌝ }
     ensures { λ r. ⌜ r ≡ cliquesRight (patternAt (now (words .entry)) at) ⌝ }
 {
@@ -237,7 +238,7 @@ fn cliques_right_by(words: &[u32], at: usize, marks: &mut [bool], offsets: &mut 
 
 // The same, in little stack: 256 vertices are one window.
 fn few_cliques_right(words: &[u32], at: usize) -> bool
-    requires { ⌜ whole (readPattern (drop at (now words))) ≡ true ⌝ }
+    requires { ⌜ (whole (readPattern (drop at (now words))) ≡ true) × (treeRight (patternAt (now words) at) ≡ true) ⌝ }
     ensures { λ r. ⌜ r ≡ cliquesRight (patternAt (now (words .entry)) at) ⌝ }
 {
     let mut marks = [false; 256];
@@ -247,7 +248,7 @@ fn few_cliques_right(words: &[u32], at: usize) -> bool
 
 // The same, with tables for many vertices.
 fn many_cliques_right(words: &[u32], at: usize) -> bool
-    requires { ⌜ whole (readPattern (drop at (now words))) ≡ true ⌝ }
+    requires { ⌜ (whole (readPattern (drop at (now words))) ≡ true) × (treeRight (patternAt (now words) at) ≡ true) ⌝ }
     ensures { λ r. ⌜ r ≡ cliquesRight (patternAt (now (words .entry)) at) ⌝ }
 {
     let mut marks = [false; 65536];
@@ -257,7 +258,7 @@ fn many_cliques_right(words: &[u32], at: usize) -> bool
 
 // The same; a pattern of at most 256 vertices has smaller tables to clear.
 pub fn cliques_right(words: &[u32], at: usize) -> bool
-    requires { ⌜ whole (readPattern (drop at (now words))) ≡ true ⌝ }
+    requires { ⌜ (whole (readPattern (drop at (now words))) ≡ true) × (treeRight (patternAt (now words) at) ≡ true) ⌝ }
     ensures { λ r. ⌜ r ≡ cliquesRight (patternAt (now (words .entry)) at) ⌝ }
 {
     let p = Pattern::here(words, at);
@@ -265,21 +266,4 @@ pub fn cliques_right(words: &[u32], at: usize) -> bool
         return few_cliques_right(words, at);
     }
     many_cliques_right(words, at)
-}
-
-// Check 7. Check 5 leaves a pattern at most 256 vertices, those of its cone.
-pub fn all_cliques_right(count: u32, words: &[u32]) -> bool
-    requires { ⌜ endsRight (readPatterns count (now words)) ≡ true ⌝ }
-    ensures { λ r. ⌜ r ≡ all cliquesRight (patterns count (now (words .entry))) ⌝ }
-{
-    let mut at = 0;
-    let mut left = count;
-    while 0 < left {
-        if !few_cliques_right(words, at) {
-            return false;
-        }
-        at = supernode_tree::pattern_next(words, at);
-        left -= 1;
-    }
-    true
 }

@@ -4,15 +4,14 @@ ghost use mathlib.Core.List.{map};
 ghost use Prim.Native.Nat.{_+_, _*_, _≤_, _<_};
 ghost use lib.ListN.{length};
 ghost use Rattle.layout.specs.Lists.{written};
-ghost use Rattle.layout.specs.Problem.{compact};
-ghost use Rattle.layout.specs.Blocks.{compactRows, blockRowCount, overlapCount};
+ghost use Rattle.layout.specs.Blocks.{compactRows, blockRowCount};
 ghost use Rattle.layout.specs.Checks.{Sound};
-ghost use Rattle.layout.specs.Compact.{compactA, compactB};
 ghost use Rattle.layout.specs.Answers.{joinedParts};
 ghost use Rattle.codes.specs.Codes.{cutCode, RowsInside};
 ghost use Rattle.sparsevector.specs.Values.{codeValue};
 ghost use Rattle.augment_standard.specs.Beside.{besideStarts};
-ghost use Rattle.augment_standard.specs.Constraints.{constraints, Accepted};
+ghost use Rattle.augment_standard.specs.Constraints.{constraints};
+ghost use Rattle.compact_constraints.specs.System.{system, SystemFits, HoldsSystem};
 use tables::Table;
 
 // Writes the starts of A with the k overlaps' columns, the codes of the `rows` augmented rows to their table, and b from these.
@@ -61,14 +60,15 @@ fn with_small_tables(
     a_values_out: &mut [f64],
     b_out: &mut [f64],
 )
-    requires { ⌜ Accepted compact (constraints n m (now «a_starts») (now «a_rows») (now «a_values») (now b) (now cones) count (now words)) ⌝ }
-    requires { ⌜ (rows ≡ blockRowCount (joinedParts (now cones) count (now words))) × (k ≡ overlapCount (joinedParts (now cones) count (now words))) ⌝ }
-    requires { ⌜ (length (now «a_starts») + k ≤ length (now «a_starts_out»)) × (length (now «a_values») + 2 * k ≤ length (now «a_rows_out»)) × (length (now «a_values») + 2 * k ≤ length (now «a_values_out»)) × (rows ≤ length (now «b_out»)) ⌝ }
+    requires { let p = constraints n m (now «a_starts») (now «a_rows») (now «a_values») (now b) (now cones) count (now words) in
+        let out = system (now «a_starts_out») (now «a_rows_out») (now «a_values_out») (now «b_out») in
+        ⌜ SystemFits p rows k out ⌝ }
     requires { ⌜ (rows ≤ 2048) × (m ≤ 2048) ⌝ }
-    ensures { λ _. ⌜ now («a_starts_out» .exit) ≡ written (compactA (constraints n m (now («a_starts» .entry)) (now («a_rows» .entry)) (now («a_values» .entry)) (now (b .entry)) (now (cones .entry)) count (now (words .entry))) .starts) (now («a_starts_out» .entry)) ⌝ }
-    ensures { λ _. ⌜ now («a_rows_out» .exit) ≡ written (compactA (constraints n m (now («a_starts» .entry)) (now («a_rows» .entry)) (now («a_values» .entry)) (now (b .entry)) (now (cones .entry)) count (now (words .entry))) .rows) (now («a_rows_out» .entry)) ⌝ }
-    ensures { λ _. ⌜ now («a_values_out» .exit) ≡ written (compactA (constraints n m (now («a_starts» .entry)) (now («a_rows» .entry)) (now («a_values» .entry)) (now (b .entry)) (now (cones .entry)) count (now (words .entry))) .values) (now («a_values_out» .entry)) ⌝ }
-    ensures { λ _. ⌜ now («b_out» .exit) ≡ written (compactB (constraints n m (now («a_starts» .entry)) (now («a_rows» .entry)) (now («a_values» .entry)) (now (b .entry)) (now (cones .entry)) count (now (words .entry)))) (now («b_out» .entry)) ⌝ }
+    ensures { λ _.
+        let p = constraints n m (now («a_starts» .entry)) (now («a_rows» .entry)) (now («a_values» .entry)) (now (b .entry)) (now (cones .entry)) count (now (words .entry)) in
+        let before = system (now («a_starts_out» .entry)) (now («a_rows_out» .entry)) (now («a_values_out» .entry)) (now («b_out» .entry)) in
+        let after = system (now («a_starts_out» .exit)) (now («a_rows_out» .exit)) (now («a_values_out» .exit)) (now («b_out» .exit)) in
+        ⌜ HoldsSystem p before after ⌝ }
 {
     let mut table = [0u32; 2048];
     let mut place = [0u32; 2048];
@@ -121,13 +121,14 @@ fn with_large_tables(
     a_values_out: &mut [f64],
     b_out: &mut [f64],
 )
-    requires { ⌜ Accepted compact (constraints n m (now «a_starts») (now «a_rows») (now «a_values») (now b) (now cones) count (now words)) ⌝ }
-    requires { ⌜ (rows ≡ blockRowCount (joinedParts (now cones) count (now words))) × (k ≡ overlapCount (joinedParts (now cones) count (now words))) ⌝ }
-    requires { ⌜ (length (now «a_starts») + k ≤ length (now «a_starts_out»)) × (length (now «a_values») + 2 * k ≤ length (now «a_rows_out»)) × (length (now «a_values») + 2 * k ≤ length (now «a_values_out»)) × (rows ≤ length (now «b_out»)) ⌝ }
-    ensures { λ _. ⌜ now («a_starts_out» .exit) ≡ written (compactA (constraints n m (now («a_starts» .entry)) (now («a_rows» .entry)) (now («a_values» .entry)) (now (b .entry)) (now (cones .entry)) count (now (words .entry))) .starts) (now («a_starts_out» .entry)) ⌝ }
-    ensures { λ _. ⌜ now («a_rows_out» .exit) ≡ written (compactA (constraints n m (now («a_starts» .entry)) (now («a_rows» .entry)) (now («a_values» .entry)) (now (b .entry)) (now (cones .entry)) count (now (words .entry))) .rows) (now («a_rows_out» .entry)) ⌝ }
-    ensures { λ _. ⌜ now («a_values_out» .exit) ≡ written (compactA (constraints n m (now («a_starts» .entry)) (now («a_rows» .entry)) (now («a_values» .entry)) (now (b .entry)) (now (cones .entry)) count (now (words .entry))) .values) (now («a_values_out» .entry)) ⌝ }
-    ensures { λ _. ⌜ now («b_out» .exit) ≡ written (compactB (constraints n m (now («a_starts» .entry)) (now («a_rows» .entry)) (now («a_values» .entry)) (now (b .entry)) (now (cones .entry)) count (now (words .entry)))) (now («b_out» .entry)) ⌝ }
+    requires { let p = constraints n m (now «a_starts») (now «a_rows») (now «a_values») (now b) (now cones) count (now words) in
+        let out = system (now «a_starts_out») (now «a_rows_out») (now «a_values_out») (now «b_out») in
+        ⌜ SystemFits p rows k out ⌝ }
+    ensures { λ _.
+        let p = constraints n m (now («a_starts» .entry)) (now («a_rows» .entry)) (now («a_values» .entry)) (now (b .entry)) (now (cones .entry)) count (now (words .entry)) in
+        let before = system (now («a_starts_out» .entry)) (now («a_rows_out» .entry)) (now («a_values_out» .entry)) (now («b_out» .entry)) in
+        let after = system (now («a_starts_out» .exit)) (now («a_rows_out» .exit)) (now («a_values_out» .exit)) (now («b_out» .exit)) in
+        ⌜ HoldsSystem p before after ⌝ }
 {
     let mut table = [0u32; 262144];
     let mut place = [0u32; 65536];
@@ -179,13 +180,14 @@ pub fn write_compact_a(
     a_values_out: &mut [f64],
     b_out: &mut [f64],
 )
-    requires { ⌜ Accepted compact (constraints n m (now «a_starts») (now «a_rows») (now «a_values») (now b) (now cones) count (now words)) ⌝ }
-    requires { ⌜ (rows ≡ blockRowCount (joinedParts (now cones) count (now words))) × (k ≡ overlapCount (joinedParts (now cones) count (now words))) ⌝ }
-    requires { ⌜ (length (now «a_starts») + k ≤ length (now «a_starts_out»)) × (length (now «a_values») + 2 * k ≤ length (now «a_rows_out»)) × (length (now «a_values») + 2 * k ≤ length (now «a_values_out»)) × (rows ≤ length (now «b_out»)) ⌝ }
-    ensures { λ _. ⌜ now («a_starts_out» .exit) ≡ written (compactA (constraints n m (now («a_starts» .entry)) (now («a_rows» .entry)) (now («a_values» .entry)) (now (b .entry)) (now (cones .entry)) count (now (words .entry))) .starts) (now («a_starts_out» .entry)) ⌝ }
-    ensures { λ _. ⌜ now («a_rows_out» .exit) ≡ written (compactA (constraints n m (now («a_starts» .entry)) (now («a_rows» .entry)) (now («a_values» .entry)) (now (b .entry)) (now (cones .entry)) count (now (words .entry))) .rows) (now («a_rows_out» .entry)) ⌝ }
-    ensures { λ _. ⌜ now («a_values_out» .exit) ≡ written (compactA (constraints n m (now («a_starts» .entry)) (now («a_rows» .entry)) (now («a_values» .entry)) (now (b .entry)) (now (cones .entry)) count (now (words .entry))) .values) (now («a_values_out» .entry)) ⌝ }
-    ensures { λ _. ⌜ now («b_out» .exit) ≡ written (compactB (constraints n m (now («a_starts» .entry)) (now («a_rows» .entry)) (now («a_values» .entry)) (now (b .entry)) (now (cones .entry)) count (now (words .entry)))) (now («b_out» .entry)) ⌝ }
+    requires { let p = constraints n m (now «a_starts») (now «a_rows») (now «a_values») (now b) (now cones) count (now words) in
+        let out = system (now «a_starts_out») (now «a_rows_out») (now «a_values_out») (now «b_out») in
+        ⌜ SystemFits p rows k out ⌝ }
+    ensures { λ _.
+        let p = constraints n m (now («a_starts» .entry)) (now («a_rows» .entry)) (now («a_values» .entry)) (now (b .entry)) (now (cones .entry)) count (now (words .entry)) in
+        let before = system (now («a_starts_out» .entry)) (now («a_rows_out» .entry)) (now («a_values_out» .entry)) (now («b_out» .entry)) in
+        let after = system (now («a_starts_out» .exit)) (now («a_rows_out» .exit)) (now («a_values_out» .exit)) (now («b_out» .exit)) in
+        ⌜ HoldsSystem p before after ⌝ }
 {
     if 2048 < rows {
         with_large_tables(

@@ -6,7 +6,8 @@ use lib.Dec.{eqb}
 use Rattle.cone_map.specs.declared.ConeMapEntry.{ConeMapEntry}
 use Rattle.cone_map.specs.declared.TreeAndClique.{TreeAndClique}
 use Rattle.cone_map.specs.declared.TreeAndClique.the-variants.{None, In}
-use Rattle.cone_map.specs.Entries.{placed, meant, structOf, sameEntry}
+use Rattle.layout.specs.Calls.JoinEntries.{sameEntry}
+use Rattle.cone_map.specs.Entries.{placed, meant, structOf}
 
 pub struct-meant : (e : ConeMapEntry) → structOf (meant e) ≡ e
 struct-meant e = go (e .«tree_and_clique»)

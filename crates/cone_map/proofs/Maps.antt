@@ -1,11 +1,11 @@
--- What the definitions of specs/Entries.antt say: the same map is an equal one.
+-- What layout's `sameMap` says: the same map is an equal one.
 use mathlib.Core.Path.{_≡_, refl, sym, ap, ap₂}
 use mathlib.Core.List.{List, [], _∷_}
 use mathlib.Core.Logic.{_↔_}
 use lib.Dec.{T, eqb, eqb-refl}
 use Rattle.layout.specs.Compact.{MapEntry, wholeCone, blockOf}
 use Rattle.layout.proofs.Tests.{and-iff, eqb-iff}
-use Rattle.cone_map.specs.Entries.{sameEntry, sameMap}
+use Rattle.layout.specs.Calls.JoinEntries.{sameEntry, sameMap}
 
 -- ---- the same entry, the same map
 

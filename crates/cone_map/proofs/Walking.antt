@@ -18,7 +18,8 @@ use Rattle.cone_map.specs.declared.MapPlace.{MapPlace}
 use Rattle.cone_map.specs.declared.ConeMapEntry.{ConeMapEntry}
 use Rattle.cone_map.specs.declared.TreeAndClique.{TreeAndClique}
 use Rattle.cone_map.specs.declared.TreeAndClique.the-variants.{None, In}
-use Rattle.cone_map.specs.Entries.{meant, patternWord, cliqueWord, sameEntry, sameMap}
+use Rattle.layout.specs.Calls.JoinEntries.{sameEntry, sameMap}
+use Rattle.cone_map.specs.Entries.{meant, patternWord, cliqueWord}
 use Rattle.cone_map.specs.Walking.{blocksAfter, entriesFrom, unlessRefused, Compares}
 
 -- the blocks after an entry, by its words

@@ -1,10 +1,6 @@
--- The cone map's entries: what a struct stands for among layout's, its words, and when two maps are the same.
+-- The cone map's entries: what a struct stands for among layout's, and its words.
 use Prim.Native.Nat.{ℕ}
-use mathlib.Core.Bool.{Bool, false, _&&_}
-use mathlib.Core.List.{List}
-use lib.Dec.{eqb}
 use Rattle.layout.specs.Compact.{MapEntry, wholeCone, blockOf, noPatternNumber}
-use Rattle.layout.specs.Lists.{sameBy}
 use Rattle.cone_map.specs.declared.ConeMapEntry.{ConeMapEntry}
 use Rattle.cone_map.specs.declared.TreeAndClique.{TreeAndClique}
 use Rattle.cone_map.specs.declared.TreeAndClique.the-variants.{None, In}
@@ -31,14 +27,3 @@ patternWord (In k c) = k
 abbrev pub cliqueWord : TreeAndClique → ℕ
 cliqueWord None = 0
 cliqueWord (In k c) = c
-
--- ---- the same entry, and the same map
-
-abbrev pub sameEntry : MapEntry → MapEntry → Bool
-sameEntry (wholeCone i) (wholeCone j) = eqb i j
-sameEntry (wholeCone i) (blockOf j l d) = false
-sameEntry (blockOf i k c) (wholeCone j) = false
-sameEntry (blockOf i k c) (blockOf j l d) = eqb i j && (eqb k l && eqb c d)
-
-abbrev pub sameMap : List MapEntry → List MapEntry → Bool
-sameMap es fs = sameBy sameEntry es fs

@@ -10,7 +10,8 @@ use Rattle.cone_map.specs.declared.MapPlace.{MapPlace}
 use Rattle.cone_map.specs.declared.ConeMapEntry.{ConeMapEntry}
 use Rattle.cone_map.specs.declared.TreeAndClique.{TreeAndClique}
 use Rattle.cone_map.specs.declared.TreeAndClique.the-variants.{None, In}
-use Rattle.cone_map.specs.Entries.{meant, sameMap}
+use Rattle.layout.specs.Calls.JoinEntries.{sameMap}
+use Rattle.cone_map.specs.Entries.{meant}
 
 -- the blocks of the entry's cone that come after it: cliques go from last to first
 abbrev pub blocksAfter : ℕ → TreeAndClique → List MapEntry

@@ -14,7 +14,8 @@ use Rattle.layout.proofs.Buffers.{set-written}
 use Rattle.parts.specs.Ahead.{ahead}
 use Rattle.cone_map.specs.declared.MapPlace.{MapPlace}
 use Rattle.cone_map.specs.declared.ConeMapEntry.{ConeMapEntry}
-use Rattle.cone_map.specs.Entries.{meant, structOf, sameMap}
+use Rattle.layout.specs.Calls.JoinEntries.{sameMap}
+use Rattle.cone_map.specs.Entries.{meant, structOf}
 use Rattle.cone_map.specs.Walking.{blocksAfter, entriesFrom, unlessRefused, agreed, Compares}
 use Rattle.cone_map.proofs.Entries.{struct-meant}
 use Rattle.cone_map.proofs.Walking.{none-here}

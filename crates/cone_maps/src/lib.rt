@@ -6,7 +6,8 @@ ghost use lib.ListN.{length};
 ghost use Rattle.layout.specs.Checks.{Sound};
 ghost use Rattle.layout.specs.Compact.{coneMap};
 ghost use Rattle.layout.specs.Answers.{joinedParts, output};
-ghost use Rattle.cone_map.specs.Entries.{meant, structOf, sameMap};
+ghost use Rattle.layout.specs.Calls.JoinEntries.{sameMap};
+ghost use Rattle.cone_map.specs.Entries.{meant, structOf};
 use cone_map::ConeMapEntry;
 use cone_map::MapPlace;
 

@@ -1,29 +1,34 @@
 -- A route by its number: what the writers ask and write on each.
-use Prim.Native.Nat.{ℕ, _+_, _≤_}
+use Prim.Native.Nat.{ℕ, _≤_}
 use mathlib.Core.Path.{_≡_, sym, ap, subst}
 use mathlib.Core.List.{List}
+use lib.ListN.{length}
+use Rattle.layout.specs.Lists.{written}
 use Rattle.layout.specs.Problem.{Problem, Route}
 use Rattle.layout.specs.Blocks.{Part}
-use Rattle.layout.specs.Answers.{Augmented, augmented, addedCount}
-use Rattle.augment_standard.proofs.Constraints.{Asked}
+use Rattle.layout.specs.Answers.{augmented, addedCount}
+use Rattle.layout.specs.Calls.Cut.{Constrained, constrainedOf, HoldsConstrained}
+use Rattle.augment.specs.Fits.{ConstrainedFits}
 
 -- the columns that a route adds
 pub added-on : (ps : List Part) {route other : Route} → route ≡ other → addedCount other ps ≡ addedCount route ps
 added-on ps e = ap (λ (r : Route). addedCount r ps) (sym e)
 
-module _ (p : Problem) where
-  -- what is asked of a route is asked of an equal one
-  module _ (rows k starts entries values bs cones map : ℕ) where
-    pub asked-on : {route other : Route} → route ≡ other → Asked p rows k starts entries values bs cones map route → Asked p rows k starts entries values bs cones map other
-    asked-on e h = subst (Asked p rows k starts entries values bs cones map) e h
+-- what is asked of a route is asked of an equal one
+pub fits-on : {p : Problem} {k : ℕ} {out : Constrained} {route other : Route} → route ≡ other → ConstrainedFits route p k out → ConstrainedFits other p k out
+fits-on {p} {k} {out} e h = subst (λ (r : Route). ConstrainedFits r p k out) e h
 
-  -- a list of the cut
-  pub cut-on : {A : Type 0} (f : Augmented → List A) {route other : Route} → route ≡ other → f (augmented other p) ≡ f (augmented route p)
-  cut-on f e = ap (λ (r : Route). f (augmented r p)) (sym e)
+module _ (p : Problem) {route other : Route} (e : route ≡ other) where
+  -- a map that fits, and what was written
+  pub map-fits-on : (room : ℕ) → length (augmented route p .map) ≤ room → length (augmented other p .map) ≤ room
+  map-fits-on room h = subst (λ (r : Route). length (augmented r p .map) ≤ room) e h
+
+  pub constrained-on : {before after : Constrained} → HoldsConstrained 0 (constrainedOf (augmented other p)) before after → HoldsConstrained 0 (constrainedOf (augmented route p)) before after
+  constrained-on {before} {after} h = subst (λ (r : Route). HoldsConstrained 0 (constrainedOf (augmented r p)) before after) (sym e) h
+
+  pub map-on : {after : List ℕ} (before : List ℕ) → after ≡ written (augmented other p .map) before → after ≡ written (augmented route p .map) before
+  map-on {after} before h = subst (λ (r : Route). after ≡ written (augmented r p .map) before) (sym e) h
 
 -- room for b, by the counts
-pub room-standard : (m : ℕ) {k blocks : ℕ} (room : ℕ) → k ≡ blocks → m + blocks ≤ room → m + k ≤ room
-room-standard m room e r = subst (λ (j : ℕ). m + j ≤ room) (sym e) r
-
 pub room-compact : {rows blocks : ℕ} (room : ℕ) → rows ≡ blocks → blocks ≤ room → rows ≤ room
 room-compact room e r = subst (λ (j : ℕ). j ≤ room) (sym e) r

@@ -1,14 +1,15 @@
 // A, b, the cones and the cone map of a whole problem that a route accepts, and the counts that its writers take.
 ghost use mathlib.Core.Path.{_≡_};
-ghost use Prim.Native.Nat.{suc, _+_, _*_, _≤_};
+ghost use Prim.Native.Nat.{_≤_};
 ghost use lib.ListN.{length};
 ghost use Rattle.layout.specs.Lists.{written};
 ghost use Rattle.layout.specs.Problem.{compact};
-ghost use Rattle.layout.specs.Blocks.{blockRowCount, overlapCount};
-ghost use Rattle.layout.specs.Checks.{Sound};
-ghost use Rattle.layout.specs.Compact.{compactA, compactB, compactCones};
-ghost use Rattle.layout.specs.Answers.{joinedParts, routeOf, augmented, addedCount, slackCount};
-ghost use Rattle.augment_standard.specs.Constraints.{constraints, Accepted};
+ghost use Rattle.layout.specs.Blocks.{blockRowCount};
+ghost use Rattle.layout.specs.Checks.{Sound, layout};
+ghost use Rattle.layout.specs.Answers.{joinedParts, routeOf, augmented, addedCount};
+ghost use Rattle.layout.specs.Calls.Cut.{constrained, constrainedOf, HoldsConstrained};
+ghost use Rattle.augment_standard.specs.Constraints.{constraints};
+ghost use Rattle.augment.specs.Fits.{ConstrainedFits};
 use tables::Table;
 
 // How many rows the blocks of a cut have, and how many columns the route adds.
@@ -53,14 +54,14 @@ pub fn decomp_augment_compact(
     b_out: &mut [f64],
     cones_out: &mut [u32],
 )
-    requires { ⌜ Accepted compact (constraints n m (now «a_starts») (now «a_rows») (now «a_values») (now b) (now cones) count (now words)) ⌝ }
-    requires { ⌜ (rows ≡ blockRowCount (joinedParts (now cones) count (now words))) × (k ≡ overlapCount (joinedParts (now cones) count (now words))) ⌝ }
-    requires { ⌜ (suc (n + k) ≤ length (now «a_starts_out»)) × (length (now «a_values») + 2 * k ≤ length (now «a_rows_out»)) × (length (now «a_values») + 2 * k ≤ length (now «a_values_out»)) × (rows ≤ length (now «b_out»)) × (length (compactCones (constraints n m (now «a_starts») (now «a_rows») (now «a_values») (now b) (now cones) count (now words))) ≤ length (now «cones_out»)) ⌝ }
-    ensures { λ _. ⌜ now («a_starts_out» .exit) ≡ written (compactA (constraints n m (now («a_starts» .entry)) (now («a_rows» .entry)) (now («a_values» .entry)) (now (b .entry)) (now (cones .entry)) count (now (words .entry))) .starts) (now («a_starts_out» .entry)) ⌝ }
-    ensures { λ _. ⌜ now («a_rows_out» .exit) ≡ written (compactA (constraints n m (now («a_starts» .entry)) (now («a_rows» .entry)) (now («a_values» .entry)) (now (b .entry)) (now (cones .entry)) count (now (words .entry))) .rows) (now («a_rows_out» .entry)) ⌝ }
-    ensures { λ _. ⌜ now («a_values_out» .exit) ≡ written (compactA (constraints n m (now («a_starts» .entry)) (now («a_rows» .entry)) (now («a_values» .entry)) (now (b .entry)) (now (cones .entry)) count (now (words .entry))) .values) (now («a_values_out» .entry)) ⌝ }
-    ensures { λ _. ⌜ now («b_out» .exit) ≡ written (compactB (constraints n m (now («a_starts» .entry)) (now («a_rows» .entry)) (now («a_values» .entry)) (now (b .entry)) (now (cones .entry)) count (now (words .entry)))) (now («b_out» .entry)) ⌝ }
-    ensures { λ _. ⌜ now («cones_out» .exit) ≡ written (compactCones (constraints n m (now («a_starts» .entry)) (now («a_rows» .entry)) (now («a_values» .entry)) (now (b .entry)) (now (cones .entry)) count (now (words .entry)))) (now («cones_out» .entry)) ⌝ }
+    requires { let p = constraints n m (now «a_starts») (now «a_rows») (now «a_values») (now b) (now cones) count (now words) in
+        let out = constrained (now «a_starts_out») (now «a_rows_out») (now «a_values_out») (now «b_out») (now «cones_out») in
+        ⌜ ConstrainedFits compact p k out × (rows ≡ blockRowCount (layout p)) ⌝ }
+    ensures { λ _.
+        let p = constraints n m (now («a_starts» .entry)) (now («a_rows» .entry)) (now («a_values» .entry)) (now (b .entry)) (now (cones .entry)) count (now (words .entry)) in
+        let before = constrained (now («a_starts_out» .entry)) (now («a_rows_out» .entry)) (now («a_values_out» .entry)) (now («b_out» .entry)) (now («cones_out» .entry)) in
+        let after = constrained (now («a_starts_out» .exit)) (now («a_rows_out» .exit)) (now («a_values_out» .exit)) (now («b_out» .exit)) (now («cones_out» .exit)) in
+        ⌜ HoldsConstrained 0 (constrainedOf (augmented compact p)) before after ⌝ }
 {
     compact_constraints::write_compact_a(
         n,
@@ -103,15 +104,15 @@ pub fn write_constraints(
     cones_out: &mut [u32],
     map_out: &mut [u32],
 )
-    requires { ⌜ Accepted (routeOf route) (constraints n m (now «a_starts») (now «a_rows») (now «a_values») (now b) (now cones) count (now words)) ⌝ }
-    requires { ⌜ (rows ≡ blockRowCount (joinedParts (now cones) count (now words))) × (k ≡ addedCount (routeOf route) (joinedParts (now cones) count (now words))) ⌝ }
-    requires { ⌜ (suc (n + k) ≤ length (now «a_starts_out»)) × (length (now «a_values») + 2 * k ≤ length (now «a_rows_out»)) × (length (now «a_values») + 2 * k ≤ length (now «a_values_out»)) × (slackCount (routeOf route) m (joinedParts (now cones) count (now words)) ≤ length (now «b_out»)) × (length (augmented (routeOf route) (constraints n m (now «a_starts») (now «a_rows») (now «a_values») (now b) (now cones) count (now words)) .cones) ≤ length (now «cones_out»)) × (length (augmented (routeOf route) (constraints n m (now «a_starts») (now «a_rows») (now «a_values») (now b) (now cones) count (now words)) .map) ≤ length (now «map_out»)) ⌝ }
-    ensures { λ _. ⌜ now («a_starts_out» .exit) ≡ written (augmented (routeOf route) (constraints n m (now («a_starts» .entry)) (now («a_rows» .entry)) (now («a_values» .entry)) (now (b .entry)) (now (cones .entry)) count (now (words .entry))) .A .starts) (now («a_starts_out» .entry)) ⌝ }
-    ensures { λ _. ⌜ now («a_rows_out» .exit) ≡ written (augmented (routeOf route) (constraints n m (now («a_starts» .entry)) (now («a_rows» .entry)) (now («a_values» .entry)) (now (b .entry)) (now (cones .entry)) count (now (words .entry))) .A .rows) (now («a_rows_out» .entry)) ⌝ }
-    ensures { λ _. ⌜ now («a_values_out» .exit) ≡ written (augmented (routeOf route) (constraints n m (now («a_starts» .entry)) (now («a_rows» .entry)) (now («a_values» .entry)) (now (b .entry)) (now (cones .entry)) count (now (words .entry))) .A .values) (now («a_values_out» .entry)) ⌝ }
-    ensures { λ _. ⌜ now («b_out» .exit) ≡ written (augmented (routeOf route) (constraints n m (now («a_starts» .entry)) (now («a_rows» .entry)) (now («a_values» .entry)) (now (b .entry)) (now (cones .entry)) count (now (words .entry))) .b) (now («b_out» .entry)) ⌝ }
-    ensures { λ _. ⌜ now («cones_out» .exit) ≡ written (augmented (routeOf route) (constraints n m (now («a_starts» .entry)) (now («a_rows» .entry)) (now («a_values» .entry)) (now (b .entry)) (now (cones .entry)) count (now (words .entry))) .cones) (now («cones_out» .entry)) ⌝ }
-    ensures { λ _. ⌜ now («map_out» .exit) ≡ written (augmented (routeOf route) (constraints n m (now («a_starts» .entry)) (now («a_rows» .entry)) (now («a_values» .entry)) (now (b .entry)) (now (cones .entry)) count (now (words .entry))) .map) (now («map_out» .entry)) ⌝ }
+    requires { let p = constraints n m (now «a_starts») (now «a_rows») (now «a_values») (now b) (now cones) count (now words) in
+        let out = constrained (now «a_starts_out») (now «a_rows_out») (now «a_values_out») (now «b_out») (now «cones_out») in
+        ⌜ ConstrainedFits (routeOf route) p k out × (rows ≡ blockRowCount (layout p)) × (length (augmented (routeOf route) p .map) ≤ length (now «map_out»)) ⌝ }
+    ensures { λ _.
+        let p = constraints n m (now («a_starts» .entry)) (now («a_rows» .entry)) (now («a_values» .entry)) (now (b .entry)) (now (cones .entry)) count (now (words .entry)) in
+        let before = constrained (now («a_starts_out» .entry)) (now («a_rows_out» .entry)) (now («a_values_out» .entry)) (now («b_out» .entry)) (now («cones_out» .entry)) in
+        let after = constrained (now («a_starts_out» .exit)) (now («a_rows_out» .exit)) (now («a_values_out» .exit)) (now («b_out» .exit)) (now («cones_out» .exit)) in
+        let new = augmented (routeOf route) p in
+        ⌜ HoldsConstrained 0 (constrainedOf new) before after × (now («map_out» .exit) ≡ written (new .map) (now («map_out» .entry))) ⌝ }
 {
     if route == 0 {
         augment::decomp_augment_standard(

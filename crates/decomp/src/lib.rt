@@ -1,9 +1,9 @@
 // The sizes on either route, and the refusals of the cut: 0 standard, 1 compact.
 ghost use mathlib.Core.Path.{_≡_};
 ghost use mathlib.Core.Bool.{cond};
-ghost use lib.ListN.{length};
 ghost use Rattle.layout.specs.Problem.{problem};
-ghost use Rattle.layout.specs.Answers.{output, onRoute, routeOf, roomy, sizesRefusal, sizes as sizesOf, cutRefusal};
+ghost use Rattle.layout.specs.Answers.{onRoute, roomy, cutRefusal};
+ghost use Rattle.layout.specs.Calls.Sizes.{Sizes};
 
 // The length of each output of the cut, after checks 1 to 11. The blocks are counted once for check 10 and the lengths.
 pub fn sizes(
@@ -24,8 +24,9 @@ pub fn sizes(
     words: &[u32],
     out: &mut [u32],
 ) -> u32
-    ensures { λ r. ⌜ r ≡ onRoute route (λ rt. sizesRefusal rt (problem n m (now («p_starts» .entry)) (now («p_rows» .entry)) (now («p_values» .entry)) (now (q .entry)) (now («a_starts» .entry)) (now («a_rows» .entry)) (now («a_values» .entry)) (now (b .entry)) (now (cones .entry)) (now (alphas .entry)) count (now (words .entry))) (length (now (out .entry)))) ⌝ }
-    ensures { λ r. ⌜ now (out .exit) ≡ output r (sizesOf (routeOf route) (problem n m (now («p_starts» .entry)) (now («p_rows» .entry)) (now («p_values» .entry)) (now (q .entry)) (now («a_starts» .entry)) (now («a_rows» .entry)) (now («a_values» .entry)) (now (b .entry)) (now (cones .entry)) (now (alphas .entry)) count (now (words .entry)))) (now (out .entry)) ⌝ }
+    ensures { λ r.
+        let p = problem n m (now («p_starts» .entry)) (now («p_rows» .entry)) (now («p_values» .entry)) (now (q .entry)) (now («a_starts» .entry)) (now («a_rows» .entry)) (now («a_values» .entry)) (now (b .entry)) (now (cones .entry)) (now (alphas .entry)) count (now (words .entry)) in
+        ⌜ Sizes route p (now (out .entry)) (now (out .exit)) r ⌝ }
 {
     if 1 < route {
         return 1;
@@ -122,7 +123,9 @@ pub fn refuse_cut(
     words: &[u32],
     rooms: &[usize],
 ) -> u32
-    ensures { λ r. ⌜ r ≡ onRoute route (λ rt. cutRefusal rt (problem n m (now («p_starts» .entry)) (now («p_rows» .entry)) (now («p_values» .entry)) (now (q .entry)) (now («a_starts» .entry)) (now («a_rows» .entry)) (now («a_values» .entry)) (now (b .entry)) (now (cones .entry)) (now (alphas .entry)) count (now (words .entry))) (now (rooms .entry))) ⌝ }
+    ensures { λ r.
+        let p = problem n m (now («p_starts» .entry)) (now («p_rows» .entry)) (now («p_values» .entry)) (now (q .entry)) (now («a_starts» .entry)) (now («a_rows» .entry)) (now («a_values» .entry)) (now (b .entry)) (now (cones .entry)) (now (alphas .entry)) count (now (words .entry)) in
+        ⌜ r ≡ onRoute route (λ rt. cutRefusal rt p (now (rooms .entry))) ⌝ }
 {
     let mut needs = [0u32; 11];
     let r = sizes(

@@ -5,22 +5,24 @@ use mathlib.Core.Path.{_≡_, sym, ap, subst, _∙_}
 use mathlib.Core.List.{List}
 use lib.ListN.{length, getD, take}
 use lib.Ieee.{Float}
+use Rattle.layout.specs.Lists.{written}
 use Rattle.layout.specs.Problem.{Problem, Csc, compact}
 use Rattle.layout.specs.Blocks.{blockRowCount}
 use Rattle.layout.specs.Checks.{layout, refusal}
 use Rattle.layout.specs.Compact.{compactA, compactB}
 use Rattle.layout.specs.Equations.{AllFinite}
-use Rattle.layout.specs.Answers.{output, augmented, onRoute, cutRefusal}
+use Rattle.layout.specs.Answers.{Augmented, lengths}
+use Rattle.layout.specs.Calls.Cut.{Cut}
 use Rattle.layout.proofs.Buffers.{take-written}
 use Rattle.layout.proofs.Demand3.{demand3}
 use Rattle.layout.proofs.Sizes.{compact-sizes}
-use Rattle.decomp_augment.specs.Equations.{front, frontA, SameSolutionsAs}
+use Rattle.decomp_augment.specs.Equations.{writtenA, writtenB, SameSolutionsAs}
 use Rattle.decomp_augment.proofs.Rooms.{taken}
 
 module _ {A : Type 0} where
   -- the front of what was written
-  read : (new old out : List A) (r : ℕ) → r ≡ 0 → out ≡ output r new old → take (length new) out ≡ new
-  read new old out r e w = ap (take (length new)) (w ∙ ap (λ (k : ℕ). output k new old) e) ∙ take-written new old
+  read : (new old : List A) {out : List A} → out ≡ written new old → take (length new) out ≡ new
+  read new old w = ap (take (length new)) w ∙ take-written new old
 
 matrix-same : (M N : Csc) → M .starts ≡ N .starts → M .rows ≡ N .rows → M .values ≡ N .values → M ≡ N
 matrix-same M N e f g = λ i. record { starts = e i; rows = f i; values = g i }
@@ -37,20 +39,15 @@ defined p ok finite =
       reached = λ d z x s e g m. let some = h .reached d z x s e g m in (some .0, some .1 ∙ sym rows, some .2);
     }
 
--- What the contract of the cut says, for route 1 and the answer 0, gives demand 3 of the outputs.
-pub demand3-written : (p : Problem) (rooms : List ℕ) (starts starts₀ rows rows₀ : List ℕ) (values values₀ b b₀ : List Float)
-    (r : ℕ) → r ≡ onRoute 1 (λ rt. cutRefusal rt p rooms)
-    → starts ≡ output r (augmented compact p .A .starts) starts₀
-    → rows ≡ output r (augmented compact p .A .rows) rows₀
-    → values ≡ output r (augmented compact p .A .values) values₀
-    → b ≡ output r (augmented compact p .b) b₀
-    → r ≡ 0 → AllFinite p
-    → SameSolutionsAs p (frontA p starts rows values) (front p 7 b)
-demand3-written p rooms starts starts₀ rows rows₀ values values₀ b b₀ r answer e f g h done finite =
-    subst (λ (M : Csc). SameSolutionsAs p M (front p 7 b))
-    (sym (matrix-same (frontA p starts rows values) (compactA p)
-    (read (compactA p .starts) starts₀ starts r done e)
-    (read (compactA p .rows) rows₀ rows r done f)
-    (read (compactA p .values) values₀ values r done g)))
-    (subst (λ (v : List Float). SameSolutionsAs p (compactA p) v) (sym (read (compactB p) b₀ b r done h))
-    (defined p (taken 1 p rooms (sym answer ∙ done) .1 .0) finite))
+-- Demand 3 of what a compact cut that answers 0 leaves in its outputs.
+pub demand3-written : (p : Problem) (before after : Augmented) → Cut 1 p before after 0 → AllFinite p
+    → SameSolutionsAs p (writtenA p after) (writtenB p after)
+demand3-written p before after cut finite =
+    let t = cut .tables .constrained in
+    subst (λ (M : Csc). SameSolutionsAs p M (writtenB p after))
+    (sym (matrix-same (writtenA p after) (compactA p)
+    (read (compactA p .starts) (before .A .starts) (t .a-starts))
+    (read (compactA p .rows) (before .A .rows) (t .a-rows))
+    (read (compactA p .values) (before .A .values) (t .a-values))))
+    (subst (λ (v : List Float). SameSolutionsAs p (compactA p) v) (sym (read (compactB p) (before .b) (t .b)))
+    (defined p (taken 1 p (lengths before) (sym (cut .number)) .1 .0) finite))

@@ -3,20 +3,21 @@ use Prim.Native.Nat.{ℕ, zero, suc, _+_, _*_, _≤_, _<_}
 use native.Mathlib.Omega.{arith}
 use mathlib.Core.Path.{_≡_, refl, sym, ap, subst, _∙_}
 use mathlib.Core.Bool.{Bool, true, false, cond}
-use mathlib.Core.List.{List, [], _∷_, _++_}
-use lib.ListN.{length, getD, replicate}
+use mathlib.Core.List.{List, [], _∷_}
+use lib.ListN.{length, getD}
 use lib.Dec.{T, leb, lit<}
-use Rattle.layout.specs.Problem.{Problem, Csc, Route, standard, compact, zero64}
+use Rattle.layout.specs.Lists.{written}
+use Rattle.layout.specs.Problem.{Problem, Route, standard, compact}
 use Rattle.layout.specs.Blocks.{blockRowCount, overlapCount, coneCount}
 use Rattle.layout.specs.Checks.{startsRight, layout, refusal}
-use Rattle.layout.specs.Compact.{extendedP}
-use Rattle.layout.specs.Answers.{augmented, orElse, onRoute, routeOf, roomy, sizes, addedCount, slackCount, cutRefusal}
+use Rattle.layout.specs.Answers.{Augmented, lengths, augmented, orElse, onRoute, routeOf, roomy, sizes, addedCount, slackCount, cutRefusal}
+use Rattle.layout.specs.Calls.Cut.{Objective, objectiveOf, HoldsObjective, Constrained, constrainedOf, HoldsConstrained}
 use Rattle.layout.proofs.Tests.{and-iff, leb-iff}
 use Rattle.layout.proofs.Accepted.{accepted-checked}
-use Rattle.augment_standard.proofs.Constraints.{Asked}
 use Rattle.chordal_info.specs.Sizes.{routeSizes}
 use Rattle.chordal_info.proofs.Sizes.{route-sizes}
-use Rattle.augment_standard.specs.Constraints.{constraints}
+use Rattle.augment_standard.specs.Constraints.{constraints, Accepted}
+use Rattle.augment.specs.Fits.{extended, ObjectiveFits, ConstrainedFits}
 use Rattle.augment.proofs.Laws.{rooms-P}
 
 abbrev pub Taken : Route → Problem → List ℕ → Type 0
@@ -39,50 +40,26 @@ module _ (p : Problem) where
   abbrev pub only : Problem
   only = constraints (p .n) (p .m) (p .A .starts) (p .A .rows) (p .A .values) (p .b) (p .cones) (p .patternCount) (p .patternWords)
 
-  same : (route : Route) → (augmented route only .A ≡ augmented route p .A) × (augmented route only .b ≡ augmented route p .b)
-      × (augmented route only .cones ≡ augmented route p .cones) × (augmented route only .map ≡ augmented route p .map)
-  same standard = (refl, refl, refl, refl)
-  same compact = (refl, refl, refl, refl)
+  abbrev pub uncut : Objective
+  uncut = record { P = p .P; q = p .q; alphas = p .alphas }
 
-  extended : (route : Route) → (extendedP (addedCount route (layout p)) (p .P) ≡ augmented route p .P)
-      × (p .q ++ replicate (addedCount route (layout p)) zero64 ≡ augmented route p .q) × (p .alphas ≡ augmented route p .alphas)
-  extended standard = (refl, refl, refl)
-  extended compact = (refl, refl, refl)
+  by-added : (route : Route) → extended (addedCount route (layout p)) uncut ≡ objectiveOf (augmented route p)
+  by-added standard = refl
+  by-added compact = refl
 
-  module _ (route : Route) where
-    pub starts-A : augmented route only .A .starts ≡ augmented route p .A .starts
-    starts-A = ap (λ (M : Csc). M .starts) (same route .0)
+  pub objective-cut : (route : Route) (k : ℕ) → k ≡ addedCount route (layout p) → {before after : Objective}
+      → HoldsObjective 0 (extended k uncut) before after → HoldsObjective 0 (objectiveOf (augmented route p)) before after
+  objective-cut route k e {before} {after} h =
+      subst (λ (o : Objective). HoldsObjective 0 o before after) (ap (λ (j : ℕ). extended j uncut) e ∙ by-added route) h
 
-    pub rows-A : augmented route only .A .rows ≡ augmented route p .A .rows
-    rows-A = ap (λ (M : Csc). M .rows) (same route .0)
+  pub constrained-cut : (route : Route) {before after : Constrained}
+      → HoldsConstrained 0 (constrainedOf (augmented route only)) before after → HoldsConstrained 0 (constrainedOf (augmented route p)) before after
+  constrained-cut standard h = h
+  constrained-cut compact h = h
 
-    pub values-A : augmented route only .A .values ≡ augmented route p .A .values
-    values-A = ap (λ (M : Csc). M .values) (same route .0)
-
-    pub same-b : augmented route only .b ≡ augmented route p .b
-    same-b = same route .1
-
-    pub same-cones : augmented route only .cones ≡ augmented route p .cones
-    same-cones = same route .2
-
-    pub same-map : augmented route only .map ≡ augmented route p .map
-    same-map = same route .3
-
-    pub rows-P : p .P .rows ≡ augmented route p .P .rows
-    rows-P = ap (λ (M : Csc). M .rows) (extended route .0)
-
-    pub values-P : p .P .values ≡ augmented route p .P .values
-    values-P = ap (λ (M : Csc). M .values) (extended route .0)
-
-    pub same-alphas : p .alphas ≡ augmented route p .alphas
-    same-alphas = extended route .2
-
-    module _ (k : ℕ) (e : k ≡ addedCount route (layout p)) where
-      pub starts-P : extendedP k (p .P) .starts ≡ augmented route p .P .starts
-      starts-P = ap (λ (j : ℕ). extendedP j (p .P) .starts) e ∙ ap (λ (M : Csc). M .starts) (extended route .0)
-
-      pub costs-q : p .q ++ replicate k zero64 ≡ augmented route p .q
-      costs-q = ap (λ (j : ℕ). p .q ++ replicate j zero64) e ∙ extended route .1
+  pub map-cut : (route : Route) (before : List ℕ) {after : List ℕ} → after ≡ written (augmented route only .map) before → after ≡ written (augmented route p .map) before
+  map-cut standard before h = h
+  map-cut compact before h = h
 
 -- ---- the room of the eleven outputs
 
@@ -93,7 +70,7 @@ fits (k ∷ ks) (r ∷ rs) zero h l = leb-iff k r .0 (and-iff (leb k r) (roomy k
 fits (k ∷ ks) (r ∷ rs) (suc i) h l = fits ks rs i (and-iff (leb k r) (roomy ks rs) .0 h .1) (omega (arith, l))
 
 module _ (p : Problem) (rooms : List ℕ) where
-  abbrev room : ℕ → ℕ
+  abbrev pub room : ℕ → ℕ
   room i = getD rooms i 0
 
   -- what the outputs need, by the counts
@@ -106,7 +83,7 @@ module _ (p : Problem) (rooms : List ℕ) where
   counted route ok = subst (λ (ks : List ℕ). T (roomy ks rooms)) (route-sizes route p (ok .0)) (ok .1)
 
   -- for P, q and the exponents, and for A, b, the cones and the map, where k columns are added
-  abbrev Rooms : Route → ℕ → Type 0
+  abbrev pub Rooms : Route → ℕ → Type 0
   Rooms route k =
       ((suc (p .n + k) ≤ room 0) × (length (p .P .values) ≤ room 1) × (length (p .P .values) ≤ room 2) × (p .n + k ≤ room 3) × (length (p .alphas) ≤ room 9))
       × ((suc (p .n + k) ≤ room 4) × (length (p .A .values) + 2 * k ≤ room 5) × (length (p .A .values) + 2 * k ≤ room 6)
@@ -122,14 +99,28 @@ module _ (p : Problem) (rooms : List ℕ) where
       let g : (i : ℕ) → i < 11 → getD (sizes compact p) i 0 ≤ room i = λ i l. fits (sizes compact p) rooms i (ok .1) l in
       ((f 0 (lit< tt), f 1 (lit< tt), f 2 (lit< tt), f 3 (lit< tt), f 9 (lit< tt)), (f 4 (lit< tt), f 5 (lit< tt), f 6 (lit< tt), f 7 (lit< tt), g 8 (lit< tt), g 10 (lit< tt)))
 
-  -- what the writers ask
   module _ (route : Route) (ok : Taken route p rooms) (k : ℕ) (e : k ≡ addedCount route (layout p)) where
-    on-route : Rooms route k
+    pub on-route : Rooms route k
     on-route = subst (Rooms route) (sym e) (by-counts route ok)
+
+    pub accepted-constraints : Accepted route (only p)
+    accepted-constraints = record { P = p .P; q = p .q; alphas = p .alphas; accepted = ok .0 }
 
     pub objective-asked : T (startsRight (p .n) (p .P))
         × ((length (p .P .starts) + k ≤ room 0) × (length (p .P .rows) ≤ room 1) × (length (p .P .values) ≤ room 2) × (length (p .q) + k ≤ room 3) × (length (p .alphas) ≤ room 9))
     objective-asked = (accepted-checked route p (ok .0) .startsP, rooms-P route p (ok .0) k (room 0) (room 1) (room 2) (room 3) (room 9) (on-route .0))
 
-    pub constraints-asked : (rows : ℕ) → rows ≡ blockRowCount (layout p) → Asked (only p) rows k (room 4) (room 5) (room 6) (room 7) (room 8) (room 10) route
-    constraints-asked rows g = (record { P = p .P; q = p .q; alphas = p .alphas; accepted = ok .0 }, ((g, e), on-route .1))
+-- what the writers ask of the outputs
+module _ (p : Problem) (out : Augmented) (route : Route) (ok : Taken route p (lengths out)) (k : ℕ) (e : k ≡ addedCount route (layout p)) where
+  pub objective-fits : ObjectiveFits (p .n) k (uncut p) (objectiveOf out)
+  objective-fits =
+      let h = objective-asked p (lengths out) route ok k e in
+      record { right = h .0; starts = h .1 .0; rows = h .1 .1; values = h .1 .2; costs = h .1 .3; alphas = h .1 .4 }
+
+  pub constrained-fits : ConstrainedFits route (only p) k (constrainedOf out)
+  constrained-fits =
+      let room = on-route p (lengths out) route ok k e .1 in
+      record { accepted = accepted-constraints p (lengths out) route ok k e; added = e; starts = room .0; rows = room .1; values = room .2; slacks = room .3; cones = room .4 }
+
+  pub map-fits : length (augmented route (only p) .map) ≤ length (out .map)
+  map-fits = on-route p (lengths out) route ok k e .1 .5

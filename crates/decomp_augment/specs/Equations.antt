@@ -9,19 +9,22 @@ use Rattle.layout.specs.Problem.{Problem, Csc, compact}
 use Rattle.layout.specs.Blocks.{overlapCount}
 use Rattle.layout.specs.Checks.{layout}
 use Rattle.layout.specs.Equations.{count, unit, at, columnsTerm, MeetsOriginal, slackSums, ExactlyOne}
-use Rattle.layout.specs.Answers.{sizes}
+use Rattle.layout.specs.Answers.{sizes, Augmented}
 
 -- the front of an output, as long as the sizes say for the output with this number
 abbrev pub front : {A : Type 0} → Problem → ℕ → List A → List A
 front p i out = take (getD (sizes compact p) i 0) out
 
--- the written A: outputs 4, 5 and 6 are its starts, rows and values
-abbrev pub frontA : Problem → List ℕ → List ℕ → List Float → Csc
-frontA p starts rows values = record {
-  starts = front p 4 starts;
-  rows = front p 5 rows;
-  values = front p 6 values;
+-- the written A and b: outputs 4, 5 and 6 are the starts, rows and values of A, and 7 is b
+abbrev pub writtenA : Problem → Augmented → Csc
+writtenA p out = record {
+  starts = front p 4 (out .A .starts);
+  rows = front p 5 (out .A .rows);
+  values = front p 6 (out .A .values);
 }
+
+abbrev pub writtenB : Problem → Augmented → List Float
+writtenB p out = front p 7 (out .b)
 
 -- the equations of a matrix and a right side: the columns before n times x, those from n on times y, and the slack
 abbrev pub Meets : Csc → List Float → Problem → ℕ → List ℤ → List ℤ → List ℤ → Type 0

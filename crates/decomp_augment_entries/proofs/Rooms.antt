@@ -11,15 +11,18 @@ use Rattle.layout.specs.Lists.{written}
 use Rattle.layout.specs.Problem.{Problem, compact}
 use Rattle.layout.specs.Blocks.{blockRowCount, overlapCount}
 use Rattle.layout.specs.Checks.{Sound, layout, refusal}
-use Rattle.layout.specs.Compact.{MapEntry, wholeCone, blockOf, compactCones, coneMap, entryWords}
-use Rattle.layout.specs.Answers.{output, orElse, roomy, sizes, cutRefusal}
+use Rattle.layout.specs.Compact.{MapEntry, wholeCone, blockOf, coneMap, entryWords}
+use Rattle.layout.specs.Answers.{augmented, orElse, roomy, sizes, cutRefusal}
+use Rattle.layout.specs.Calls.Cut.{Objective, objectiveOf, HoldsObjective, Constrained, HoldsConstrained}
+use Rattle.layout.specs.Calls.CutEntries.{EntryTables, entryRooms}
 use Rattle.layout.proofs.Tests.{and-iff, leb-iff, ltb-iff, tested, cond-passed, cond-failed, passed}
 use Rattle.layout.proofs.Accepted.{accepted-sound}
 use Rattle.layout.proofs.Sizes.{compact-sizes}
 use Rattle.tables.proofs.Laws.{threes}
 use Rattle.chordal_info.proofs.Counts.{accepted-fitting}
-use Rattle.decomp_augment.proofs.Rooms.{Taken, taken, only, objective-asked, constraints-asked}
-use Rattle.decomp_augment_entries.specs.Rooms.{wordsOf, ConstraintsFit, ObjectiveFits}
+use Rattle.augment.specs.Fits.{extended, ObjectiveFits, ConstrainedFits}
+use Rattle.decomp_augment.proofs.Rooms.{Taken, taken, only, uncut, objective-cut, objective-asked, Rooms, on-route, accepted-constraints}
+use Rattle.decomp_augment_entries.specs.Rooms.{wordsOf}
 
 enough : (k entries : ℕ) → k ≤ 789504 → leb k (wordsOf entries) ≡ leb k (entries * 3)
 enough k entries few = elim (tested (ltb 263168 entries)) [
@@ -59,46 +62,43 @@ refused-entries p rs entries ten e words = e ∙ ap (λ (k : ℕ). cutRefusal co
 
 -- ---- what the writers ask and write
 
--- an output of a problem that is not refused, and the same output by lists that are equal where nothing is refused
-pub put : {A : Type 0} {r : ℕ} {out : List A} (new old : List A) → r ≡ 0 → out ≡ written new old → out ≡ output r new old
-put new old e w = w ∙ ap (λ (k : ℕ). output k new old) (sym e)
+-- what was written of a problem that is not refused
+pub objective-put : {r : ℕ} {new before after : Objective} → r ≡ 0 → HoldsObjective 0 new before after → HoldsObjective r new before after
+objective-put {r} {new} {before} {after} e h = subst (λ (k : ℕ). HoldsObjective k new before after) (sym e) h
 
-pub same-output : {A : Type 0} (r : ℕ) {xs ys : List A} (old : List A) → (r ≡ 0 → xs ≡ ys) → output r xs old ≡ output r ys old
-same-output zero old e = ap (λ zs. written zs old) (e refl)
-same-output (suc r) old e = refl
+pub constrained-put : {r : ℕ} {new before after : Constrained} → r ≡ 0 → HoldsConstrained 0 new before after → HoldsConstrained r new before after
+constrained-put {r} {new} {before} {after} e h = subst (λ (k : ℕ). HoldsConstrained k new before after) (sym e) h
 
--- room for A, b and the cones, by the counts
-pub fit-counted : (p : Problem) (starts rows values bs cones : ℕ) {r k : ℕ} → (r ≡ blockRowCount (layout p)) × (k ≡ overlapCount (layout p)) → ConstraintsFit p starts rows values bs cones
-    → (suc (p .n + k) ≤ starts) × (length (p .A .values) + 2 * k ≤ rows) × (length (p .A .values) + 2 * k ≤ values) × (r ≤ bs) × (length (compactCones p) ≤ cones)
-fit-counted p starts rows values bs cones e h = rw (e .0, e .1) (h .1)
+-- the columns are those that the route adds, where nothing is refused
+pub objective-cut-by : (p : Problem) (r k : ℕ) → (r ≡ 0 → k ≡ overlapCount (layout p)) → {before after : Objective}
+    → HoldsObjective r (extended k (uncut p)) before after → HoldsObjective r (objectiveOf (augmented compact p)) before after
+objective-cut-by p zero k e h = objective-cut p compact k (e refl) h
+objective-cut-by p (suc r) k e h = record { p-starts = h .p-starts; p-rows = h .p-rows; p-values = h .p-values; q = h .q; alphas = h .alphas }
+
+-- with the columns that were counted
+pub fit-counted : {p : Problem} {k : ℕ} {out : Constrained} → k ≡ overlapCount (layout p) → ConstrainedFits compact p (overlapCount (layout p)) out → ConstrainedFits compact p k out
+fit-counted {p} {k} {out} e h = subst (λ (j : ℕ). ConstrainedFits compact p j out) (sym e) h
 
 entry-words : (e : MapEntry) → length (entryWords e) ≡ 3
 entry-words (wholeCone i) = refl
 entry-words (blockOf i k c) = refl
 
-module _ (p : Problem) (rooms : List ℕ) (e : cutRefusal compact p rooms ≡ 0) where
-  ok : Taken compact p rooms
-  ok = taken 1 p rooms e .1
+module _ {E : Type 0} (p : Problem) (before : EntryTables E) (e : cutRefusal compact p (entryRooms before) ≡ 0) where
+  ok : Taken compact p (entryRooms before)
+  ok = taken 1 p (entryRooms before) e .1
 
-  abbrev room : ℕ → ℕ
-  room i = getD rooms i 0
+  there : Rooms p (entryRooms before) compact (overlapCount (layout p))
+  there = on-route p (entryRooms before) compact ok (overlapCount (layout p)) refl
 
-  pub constraints-fit : ConstraintsFit (only p) (room 4) (room 5) (room 6) (room 7) (room 8)
+  pub constraints-fit : ConstrainedFits compact (only p) (overlapCount (layout p)) (before .constrained)
   constraints-fit =
-      let h = constraints-asked p rooms compact ok (overlapCount (layout p)) refl (blockRowCount (layout p)) refl in
-      let fit = h .1 .1 in
-      (h .0, (fit .0, fit .1, fit .2, fit .3, fit .4))
+      let room = there .1 in
+      record { accepted = accepted-constraints p (entryRooms before) compact ok (overlapCount (layout p)) refl; added = refl; starts = room .0; rows = room .1; values = room .2; slacks = room .3; cones = room .4 }
 
-  pub objective-fits : (k : ℕ) → k ≡ overlapCount (layout p) → ObjectiveFits (p .n) (p .P) (p .q) (p .alphas) k (room 0) (room 1) (room 2) (room 3) (room 9)
-  objective-fits k f = objective-asked p rooms compact ok k f
+  pub objective-fits : (k : ℕ) → k ≡ overlapCount (layout p) → ObjectiveFits (p .n) k (uncut p) (before .objective)
+  objective-fits k f =
+      let h = objective-asked p (entryRooms before) compact ok k f in
+      record { right = h .0; starts = h .1 .0; rows = h .1 .1; values = h .1 .2; costs = h .1 .3; alphas = h .1 .4 }
 
-  pub map-fits : (entries : ℕ) → room 10 ≡ entries * 3 → Sound (p .m) (p .cones) (p .patternCount) (p .patternWords) × (length (coneMap (layout p)) ≤ entries)
-  map-fits entries f = (
-    accepted-sound compact p (ok .0),
-    omega (
-      arith,
-      constraints-asked p rooms compact ok (overlapCount (layout p)) refl (blockRowCount (layout p)) refl .1 .1 .5,
-      threes entryWords entry-words (coneMap (layout p)),
-      f,
-    ),
-  )
+  pub map-fits : Sound (p .m) (p .cones) (p .patternCount) (p .patternWords) × (length (coneMap (layout p)) ≤ length (before .map))
+  map-fits = (accepted-sound compact p (ok .0), omega (arith, there .1 .5, threes entryWords entry-words (coneMap (layout p))))

@@ -1,17 +1,17 @@
 // The cut on the compact route where the cone map is a slice of entries.
 ghost use mathlib.Core.Path.{_≡_};
-ghost use mathlib.Core.List.{[], _∷_, _++_, map};
+ghost use mathlib.Core.List.{[], _∷_};
 ghost use Prim.Native.Nat.{_*_};
-ghost use lib.ListN.{length, replicate};
-ghost use Rattle.layout.specs.Problem.{problem, compact, zero64};
+ghost use Rattle.layout.specs.Problem.{problem, compact};
 ghost use Rattle.layout.specs.Blocks.{overlapCount};
 ghost use Rattle.layout.specs.Checks.{layout};
-ghost use Rattle.layout.specs.Compact.{extendedP, compactA, compactB, compactCones, coneMap};
-ghost use Rattle.layout.specs.Answers.{output, joinedParts, augmented, cutRefusal};
-ghost use Rattle.csc.specs.Matrix.{matrix};
-ghost use Rattle.augment_standard.specs.Constraints.{constraints};
+ghost use Rattle.layout.specs.Answers.{augmented, cutRefusal};
+ghost use Rattle.layout.specs.Calls.Cut.{objective, HoldsObjective, constrained, constrainedOf, HoldsConstrained};
+ghost use Rattle.layout.specs.Calls.CutEntries.{entryOutputs, CutEntries};
 ghost use Rattle.cone_map.specs.Entries.{structOf};
-ghost use Rattle.decomp_augment_entries.specs.Rooms.{wordsOf, ConstraintsFit, ObjectiveFits};
+ghost use Rattle.augment_standard.specs.Constraints.{constraints};
+ghost use Rattle.augment.specs.Fits.{extended, ObjectiveFits, ConstrainedFits};
+ghost use Rattle.decomp_augment_entries.specs.Rooms.{wordsOf};
 use cone_map::ConeMapEntry;
 
 // The words of so many entries, or of the most that a problem has: entries of 1,024 cones and of 262,144 blocks.
@@ -52,7 +52,9 @@ fn refuse_cut_compact(
     alphas_room: usize,
     map_room: usize,
 ) -> u32
-    ensures { λ r. ⌜ r ≡ cutRefusal compact (problem n m (now («p_starts» .entry)) (now («p_rows» .entry)) (now («p_values» .entry)) (now (q .entry)) (now («a_starts» .entry)) (now («a_rows» .entry)) (now («a_values» .entry)) (now (b .entry)) (now (cones .entry)) (now (alphas .entry)) count (now (words .entry))) («p_starts_room» ∷ «p_rows_room» ∷ «p_values_room» ∷ «q_room» ∷ «a_starts_room» ∷ «a_rows_room» ∷ «a_values_room» ∷ «b_room» ∷ «cones_room» ∷ «alphas_room» ∷ «map_room» * 3 ∷ []) ⌝ }
+    ensures { λ r.
+        let p = problem n m (now («p_starts» .entry)) (now («p_rows» .entry)) (now («p_values» .entry)) (now (q .entry)) (now («a_starts» .entry)) (now («a_rows» .entry)) (now («a_values» .entry)) (now (b .entry)) (now (cones .entry)) (now (alphas .entry)) count (now (words .entry)) in
+        ⌜ r ≡ cutRefusal compact p («p_starts_room» ∷ «p_rows_room» ∷ «p_values_room» ∷ «q_room» ∷ «a_starts_room» ∷ «a_rows_room» ∷ «a_values_room» ∷ «b_room» ∷ «cones_room» ∷ «alphas_room» ∷ «map_room» * 3 ∷ []) ⌝ }
 {
     let rooms = [
         p_starts_room,
@@ -105,8 +107,14 @@ fn cut_constraints(
     b_out: &mut [f64],
     cones_out: &mut [u32],
 ) -> usize
-    requires { ⌜ (refused ≡ 0 → ConstraintsFit (constraints n m (now «a_starts») (now «a_rows») (now «a_values») (now b) (now cones) count (now words)) (length (now «a_starts_out»)) (length (now «a_rows_out»)) (length (now «a_values_out»)) (length (now «b_out»)) (length (now «cones_out»))) ⌝ }
-    ensures { λ r. ⌜ (refused ≡ 0 → r ≡ overlapCount (joinedParts (now (cones .entry)) count (now (words .entry)))) × (now («a_starts_out» .exit) ≡ output refused (compactA (constraints n m (now («a_starts» .entry)) (now («a_rows» .entry)) (now («a_values» .entry)) (now (b .entry)) (now (cones .entry)) count (now (words .entry))) .starts) (now («a_starts_out» .entry))) × (now («a_rows_out» .exit) ≡ output refused (compactA (constraints n m (now («a_starts» .entry)) (now («a_rows» .entry)) (now («a_values» .entry)) (now (b .entry)) (now (cones .entry)) count (now (words .entry))) .rows) (now («a_rows_out» .entry))) × (now («a_values_out» .exit) ≡ output refused (compactA (constraints n m (now («a_starts» .entry)) (now («a_rows» .entry)) (now («a_values» .entry)) (now (b .entry)) (now (cones .entry)) count (now (words .entry))) .values) (now («a_values_out» .entry))) × (now («b_out» .exit) ≡ output refused (compactB (constraints n m (now («a_starts» .entry)) (now («a_rows» .entry)) (now («a_values» .entry)) (now (b .entry)) (now (cones .entry)) count (now (words .entry)))) (now («b_out» .entry))) × (now («cones_out» .exit) ≡ output refused (compactCones (constraints n m (now («a_starts» .entry)) (now («a_rows» .entry)) (now («a_values» .entry)) (now (b .entry)) (now (cones .entry)) count (now (words .entry)))) (now («cones_out» .entry))) ⌝ }
+    requires { let p = constraints n m (now «a_starts») (now «a_rows») (now «a_values») (now b) (now cones) count (now words) in
+        let out = constrained (now «a_starts_out») (now «a_rows_out») (now «a_values_out») (now «b_out») (now «cones_out») in
+        ⌜ (refused ≡ 0 → ConstrainedFits compact p (overlapCount (layout p)) out) ⌝ }
+    ensures { λ r.
+        let p = constraints n m (now («a_starts» .entry)) (now («a_rows» .entry)) (now («a_values» .entry)) (now (b .entry)) (now (cones .entry)) count (now (words .entry)) in
+        let before = constrained (now («a_starts_out» .entry)) (now («a_rows_out» .entry)) (now («a_values_out» .entry)) (now («b_out» .entry)) (now («cones_out» .entry)) in
+        let after = constrained (now («a_starts_out» .exit)) (now («a_rows_out» .exit)) (now («a_values_out» .exit)) (now («b_out» .exit)) (now («cones_out» .exit)) in
+        ⌜ (refused ≡ 0 → r ≡ overlapCount (layout p)) × HoldsConstrained refused (constrainedOf (augmented compact p)) before after ⌝ }
 {
     if refused != 0 {
         return 0;
@@ -149,8 +157,14 @@ fn cut_objective(
     q_out: &mut [f64],
     alphas_out: &mut [f64],
 )
-    requires { ⌜ (refused ≡ 0 → ObjectiveFits n (matrix (now «p_starts») (now «p_rows») (now «p_values»)) (now q) (now alphas) columns (length (now «p_starts_out»)) (length (now «p_rows_out»)) (length (now «p_values_out»)) (length (now «q_out»)) (length (now «alphas_out»))) ⌝ }
-    ensures { λ _. ⌜ (now («p_starts_out» .exit) ≡ output refused (extendedP columns (matrix (now («p_starts» .entry)) (now («p_rows» .entry)) (now («p_values» .entry))) .starts) (now («p_starts_out» .entry))) × (now («p_rows_out» .exit) ≡ output refused (now («p_rows» .entry)) (now («p_rows_out» .entry))) × (now («p_values_out» .exit) ≡ output refused (now («p_values» .entry)) (now («p_values_out» .entry))) × (now («q_out» .exit) ≡ output refused (now (q .entry) ++ replicate columns zero64) (now («q_out» .entry))) × (now («alphas_out» .exit) ≡ output refused (now (alphas .entry)) (now («alphas_out» .entry))) ⌝ }
+    requires { let o = objective (now «p_starts») (now «p_rows») (now «p_values») (now q) (now alphas) in
+        let out = objective (now «p_starts_out») (now «p_rows_out») (now «p_values_out») (now «q_out») (now «alphas_out») in
+        ⌜ (refused ≡ 0 → ObjectiveFits n columns o out) ⌝ }
+    ensures { λ _.
+        let o = objective (now («p_starts» .entry)) (now («p_rows» .entry)) (now («p_values» .entry)) (now (q .entry)) (now (alphas .entry)) in
+        let before = objective (now («p_starts_out» .entry)) (now («p_rows_out» .entry)) (now («p_values_out» .entry)) (now («q_out» .entry)) (now («alphas_out» .entry)) in
+        let after = objective (now («p_starts_out» .exit)) (now («p_rows_out» .exit)) (now («p_values_out» .exit)) (now («q_out» .exit)) (now («alphas_out» .exit)) in
+        ⌜ HoldsObjective refused (extended columns o) before after ⌝ }
 {
     if refused != 0 {
         return;
@@ -199,18 +213,11 @@ pub fn cut_compact_entries(
     alphas_out: &mut [f64],
     map_out: &mut [ConeMapEntry],
 ) -> u32
-    ensures { λ r. ⌜ r ≡ cutRefusal compact (problem n m (now («p_starts» .entry)) (now («p_rows» .entry)) (now («p_values» .entry)) (now (q .entry)) (now («a_starts» .entry)) (now («a_rows» .entry)) (now («a_values» .entry)) (now (b .entry)) (now (cones .entry)) (now (alphas .entry)) count (now (words .entry))) (length (now («p_starts_out» .entry)) ∷ length (now («p_rows_out» .entry)) ∷ length (now («p_values_out» .entry)) ∷ length (now («q_out» .entry)) ∷ length (now («a_starts_out» .entry)) ∷ length (now («a_rows_out» .entry)) ∷ length (now («a_values_out» .entry)) ∷ length (now («b_out» .entry)) ∷ length (now («cones_out» .entry)) ∷ length (now («alphas_out» .entry)) ∷ length (now («map_out» .entry)) * 3 ∷ []) ⌝ }
-    ensures { λ r. ⌜ now («p_starts_out» .exit) ≡ output r (augmented compact (problem n m (now («p_starts» .entry)) (now («p_rows» .entry)) (now («p_values» .entry)) (now (q .entry)) (now («a_starts» .entry)) (now («a_rows» .entry)) (now («a_values» .entry)) (now (b .entry)) (now (cones .entry)) (now (alphas .entry)) count (now (words .entry))) .P .starts) (now («p_starts_out» .entry)) ⌝ }
-    ensures { λ r. ⌜ now («p_rows_out» .exit) ≡ output r (augmented compact (problem n m (now («p_starts» .entry)) (now («p_rows» .entry)) (now («p_values» .entry)) (now (q .entry)) (now («a_starts» .entry)) (now («a_rows» .entry)) (now («a_values» .entry)) (now (b .entry)) (now (cones .entry)) (now (alphas .entry)) count (now (words .entry))) .P .rows) (now («p_rows_out» .entry)) ⌝ }
-    ensures { λ r. ⌜ now («p_values_out» .exit) ≡ output r (augmented compact (problem n m (now («p_starts» .entry)) (now («p_rows» .entry)) (now («p_values» .entry)) (now (q .entry)) (now («a_starts» .entry)) (now («a_rows» .entry)) (now («a_values» .entry)) (now (b .entry)) (now (cones .entry)) (now (alphas .entry)) count (now (words .entry))) .P .values) (now («p_values_out» .entry)) ⌝ }
-    ensures { λ r. ⌜ now («q_out» .exit) ≡ output r (augmented compact (problem n m (now («p_starts» .entry)) (now («p_rows» .entry)) (now («p_values» .entry)) (now (q .entry)) (now («a_starts» .entry)) (now («a_rows» .entry)) (now («a_values» .entry)) (now (b .entry)) (now (cones .entry)) (now (alphas .entry)) count (now (words .entry))) .q) (now («q_out» .entry)) ⌝ }
-    ensures { λ r. ⌜ now («a_starts_out» .exit) ≡ output r (augmented compact (problem n m (now («p_starts» .entry)) (now («p_rows» .entry)) (now («p_values» .entry)) (now (q .entry)) (now («a_starts» .entry)) (now («a_rows» .entry)) (now («a_values» .entry)) (now (b .entry)) (now (cones .entry)) (now (alphas .entry)) count (now (words .entry))) .A .starts) (now («a_starts_out» .entry)) ⌝ }
-    ensures { λ r. ⌜ now («a_rows_out» .exit) ≡ output r (augmented compact (problem n m (now («p_starts» .entry)) (now («p_rows» .entry)) (now («p_values» .entry)) (now (q .entry)) (now («a_starts» .entry)) (now («a_rows» .entry)) (now («a_values» .entry)) (now (b .entry)) (now (cones .entry)) (now (alphas .entry)) count (now (words .entry))) .A .rows) (now («a_rows_out» .entry)) ⌝ }
-    ensures { λ r. ⌜ now («a_values_out» .exit) ≡ output r (augmented compact (problem n m (now («p_starts» .entry)) (now («p_rows» .entry)) (now («p_values» .entry)) (now (q .entry)) (now («a_starts» .entry)) (now («a_rows» .entry)) (now («a_values» .entry)) (now (b .entry)) (now (cones .entry)) (now (alphas .entry)) count (now (words .entry))) .A .values) (now («a_values_out» .entry)) ⌝ }
-    ensures { λ r. ⌜ now («b_out» .exit) ≡ output r (augmented compact (problem n m (now («p_starts» .entry)) (now («p_rows» .entry)) (now («p_values» .entry)) (now (q .entry)) (now («a_starts» .entry)) (now («a_rows» .entry)) (now («a_values» .entry)) (now (b .entry)) (now (cones .entry)) (now (alphas .entry)) count (now (words .entry))) .b) (now («b_out» .entry)) ⌝ }
-    ensures { λ r. ⌜ now («cones_out» .exit) ≡ output r (augmented compact (problem n m (now («p_starts» .entry)) (now («p_rows» .entry)) (now («p_values» .entry)) (now (q .entry)) (now («a_starts» .entry)) (now («a_rows» .entry)) (now («a_values» .entry)) (now (b .entry)) (now (cones .entry)) (now (alphas .entry)) count (now (words .entry))) .cones) (now («cones_out» .entry)) ⌝ }
-    ensures { λ r. ⌜ now («alphas_out» .exit) ≡ output r (augmented compact (problem n m (now («p_starts» .entry)) (now («p_rows» .entry)) (now («p_values» .entry)) (now (q .entry)) (now («a_starts» .entry)) (now («a_rows» .entry)) (now («a_values» .entry)) (now (b .entry)) (now (cones .entry)) (now (alphas .entry)) count (now (words .entry))) .alphas) (now («alphas_out» .entry)) ⌝ }
-    ensures { λ r. ⌜ now («map_out» .exit) ≡ output r (map structOf (coneMap (layout (problem n m (now («p_starts» .entry)) (now («p_rows» .entry)) (now («p_values» .entry)) (now (q .entry)) (now («a_starts» .entry)) (now («a_rows» .entry)) (now («a_values» .entry)) (now (b .entry)) (now (cones .entry)) (now (alphas .entry)) count (now (words .entry)))))) (now («map_out» .entry)) ⌝ }
+    ensures { λ r.
+        let p = problem n m (now («p_starts» .entry)) (now («p_rows» .entry)) (now («p_values» .entry)) (now (q .entry)) (now («a_starts» .entry)) (now («a_rows» .entry)) (now («a_values» .entry)) (now (b .entry)) (now (cones .entry)) (now (alphas .entry)) count (now (words .entry)) in
+        let before = entryOutputs (now («p_starts_out» .entry)) (now («p_rows_out» .entry)) (now («p_values_out» .entry)) (now («q_out» .entry)) (now («a_starts_out» .entry)) (now («a_rows_out» .entry)) (now («a_values_out» .entry)) (now («b_out» .entry)) (now («cones_out» .entry)) (now («alphas_out» .entry)) (now («map_out» .entry)) in
+        let after = entryOutputs (now («p_starts_out» .exit)) (now («p_rows_out» .exit)) (now («p_values_out» .exit)) (now («q_out» .exit)) (now («a_starts_out» .exit)) (now («a_rows_out» .exit)) (now («a_values_out» .exit)) (now («b_out» .exit)) (now («cones_out» .exit)) (now («alphas_out» .exit)) (now («map_out» .exit)) in
+        ⌜ CutEntries structOf p before after r ⌝ }
 {
     let refused = refuse_cut_compact(
         n,

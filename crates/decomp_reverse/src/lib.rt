@@ -9,7 +9,8 @@ ghost use Rattle.layout.specs.Lists.{below, sameNumbers, written};
 ghost use Rattle.layout.specs.Problem.{solution};
 ghost use Rattle.layout.specs.Checks.{Sound};
 ghost use Rattle.layout.specs.Compact.{blockOf, coneMap, mapWords};
-ghost use Rattle.layout.specs.Answers.{output, roomy, onRoute, routeOf, joinedParts, joinRefusal, joined, scalars as scalarsOf};
+ghost use Rattle.layout.specs.Answers.{roomy, routeOf, joinedParts};
+ghost use Rattle.layout.specs.Calls.Join.{rejoined, Join};
 ghost use Rattle.decomp_reverse.specs.Begins.{begins};
 ghost use Rattle.decomp_reverse.specs.Fits.{lengthsFit, countedRefusal, refusalBy};
 use parts::Met;
@@ -249,11 +250,11 @@ pub fn join(
     z_out: &mut [f64],
     scalars_out: &mut [f64],
 ) -> u32
-    ensures { λ r. ⌜ r ≡ onRoute route (λ rt. joinRefusal rt n m (now (cones .entry)) count (now (words .entry)) (solution (now (x .entry)) (now (s .entry)) (now (z .entry)) tau kappa) (now (map .entry)) (length (now («x_out» .entry)) ∷ length (now («s_out» .entry)) ∷ length (now («z_out» .entry)) ∷ length (now («scalars_out» .entry)) ∷ [])) ⌝ }
-    ensures { λ r. ⌜ now («x_out» .exit) ≡ output r (joined (routeOf route) n m (joinedParts (now (cones .entry)) count (now (words .entry))) (solution (now (x .entry)) (now (s .entry)) (now (z .entry)) tau kappa) .x) (now («x_out» .entry)) ⌝ }
-    ensures { λ r. ⌜ now («s_out» .exit) ≡ output r (joined (routeOf route) n m (joinedParts (now (cones .entry)) count (now (words .entry))) (solution (now (x .entry)) (now (s .entry)) (now (z .entry)) tau kappa) .s) (now («s_out» .entry)) ⌝ }
-    ensures { λ r. ⌜ now («z_out» .exit) ≡ output r (joined (routeOf route) n m (joinedParts (now (cones .entry)) count (now (words .entry))) (solution (now (x .entry)) (now (s .entry)) (now (z .entry)) tau kappa) .z) (now («z_out» .entry)) ⌝ }
-    ensures { λ r. ⌜ now («scalars_out» .exit) ≡ output r (scalarsOf (joined (routeOf route) n m (joinedParts (now (cones .entry)) count (now (words .entry))) (solution (now (x .entry)) (now (s .entry)) (now (z .entry)) tau kappa))) (now («scalars_out» .entry)) ⌝ }
+    ensures { λ r.
+        let sol = solution (now (x .entry)) (now (s .entry)) (now (z .entry)) tau kappa in
+        let before = rejoined (now («x_out» .entry)) (now («s_out» .entry)) (now («z_out» .entry)) (now («scalars_out» .entry)) in
+        let after = rejoined (now («x_out» .exit)) (now («s_out» .exit)) (now («z_out» .exit)) (now («scalars_out» .exit)) in
+        ⌜ Join route n m (now (cones .entry)) count (now (words .entry)) sol (now (map .entry)) before after r ⌝ }
 {
     if 1 < route {
         return 1;

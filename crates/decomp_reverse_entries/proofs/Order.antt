@@ -10,8 +10,8 @@ use Rattle.layout.specs.Lists.{sameNumbers}
 use Rattle.layout.specs.Problem.{Solution, compact}
 use Rattle.layout.specs.Compact.{MapEntry, coneMap, mapWords}
 use Rattle.layout.specs.Answers.{orElse, roomy, joinedParts, solutionFits, joinChecks, joinRefusal}
-use Rattle.cone_map.specs.Entries.{sameMap}
-use Rattle.decomp_reverse_entries.specs.Refusals.{refusalBy, refusalAs, entriesRefusal}
+use Rattle.layout.specs.Calls.JoinEntries.{sameMap, refusalAs, entriesRefusal}
+use Rattle.decomp_reverse_entries.specs.Refusals.{refusalBy}
 
 numbers-same : (xs : List ℕ) → sameNumbers xs xs ≡ true
 numbers-same [] = refl

@@ -1,11 +1,12 @@
 // The joining on the compact route where the cone map is a slice of entries.
 ghost use mathlib.Core.Path.{_≡_};
 ghost use mathlib.Core.List.{[], _∷_, map as mapped};
-ghost use lib.ListN.{length};
 ghost use Rattle.layout.specs.Problem.{compact, solution};
-ghost use Rattle.layout.specs.Answers.{output, joinedParts, joinChecks, joined, scalars as scalarsOf};
+ghost use Rattle.layout.specs.Answers.{joinedParts, joinChecks, joined};
+ghost use Rattle.layout.specs.Calls.Join.{rejoined, rejoinedOf, rooms, HoldsRejoined};
+ghost use Rattle.layout.specs.Calls.JoinEntries.{refusalAs, JoinEntries};
 ghost use Rattle.cone_map.specs.Entries.{meant};
-ghost use Rattle.decomp_reverse_entries.specs.Refusals.{refusalBy, refusalAs, entriesRefusal};
+ghost use Rattle.decomp_reverse_entries.specs.Refusals.{refusalBy};
 use cone_map::ConeMapEntry;
 use reverse_standard::Scalars;
 
@@ -77,7 +78,12 @@ fn join_as(
     scalars_out: &mut [f64],
 ) -> u32
     requires { ⌜ refused ≡ joinChecks compact n m (now cones) count (now words) ⌝ }
-    ensures { λ r. ⌜ (r ≡ refusalAs same n m (now (cones .entry)) count (now (words .entry)) (solution (now (x .entry)) (now (s .entry)) (now (z .entry)) tau kappa) (length (now («x_out» .entry)) ∷ length (now («s_out» .entry)) ∷ length (now («z_out» .entry)) ∷ length (now («scalars_out» .entry)) ∷ [])) × (now («x_out» .exit) ≡ output r (joined compact n m (joinedParts (now (cones .entry)) count (now (words .entry))) (solution (now (x .entry)) (now (s .entry)) (now (z .entry)) tau kappa) .x) (now («x_out» .entry))) × (now («s_out» .exit) ≡ output r (joined compact n m (joinedParts (now (cones .entry)) count (now (words .entry))) (solution (now (x .entry)) (now (s .entry)) (now (z .entry)) tau kappa) .s) (now («s_out» .entry))) × (now («z_out» .exit) ≡ output r (joined compact n m (joinedParts (now (cones .entry)) count (now (words .entry))) (solution (now (x .entry)) (now (s .entry)) (now (z .entry)) tau kappa) .z) (now («z_out» .entry))) × (now («scalars_out» .exit) ≡ output r (scalarsOf (joined compact n m (joinedParts (now (cones .entry)) count (now (words .entry))) (solution (now (x .entry)) (now (s .entry)) (now (z .entry)) tau kappa))) (now («scalars_out» .entry))) ⌝ }
+    ensures { λ r.
+        let sol = solution (now (x .entry)) (now (s .entry)) (now (z .entry)) tau kappa in
+        let before = rejoined (now («x_out» .entry)) (now («s_out» .entry)) (now («z_out» .entry)) (now («scalars_out» .entry)) in
+        let after = rejoined (now («x_out» .exit)) (now («s_out» .exit)) (now («z_out» .exit)) (now («scalars_out» .exit)) in
+        let new = rejoinedOf (joined compact n m (joinedParts (now (cones .entry)) count (now (words .entry))) sol) in
+        ⌜ (r ≡ refusalAs same n m (now (cones .entry)) count (now (words .entry)) sol (rooms before)) × HoldsRejoined r new before after ⌝ }
 {
     let r = refuse_as(
         refused,
@@ -126,11 +132,11 @@ pub fn join_compact_entries(
     z_out: &mut [f64],
     scalars_out: &mut [f64],
 ) -> u32
-    ensures { λ r. ⌜ r ≡ entriesRefusal n m (now (cones .entry)) count (now (words .entry)) (solution (now (x .entry)) (now (s .entry)) (now (z .entry)) tau kappa) (mapped meant (now (map .entry))) (length (now («x_out» .entry)) ∷ length (now («s_out» .entry)) ∷ length (now («z_out» .entry)) ∷ length (now («scalars_out» .entry)) ∷ []) ⌝ }
-    ensures { λ r. ⌜ now («x_out» .exit) ≡ output r (joined compact n m (joinedParts (now (cones .entry)) count (now (words .entry))) (solution (now (x .entry)) (now (s .entry)) (now (z .entry)) tau kappa) .x) (now («x_out» .entry)) ⌝ }
-    ensures { λ r. ⌜ now («s_out» .exit) ≡ output r (joined compact n m (joinedParts (now (cones .entry)) count (now (words .entry))) (solution (now (x .entry)) (now (s .entry)) (now (z .entry)) tau kappa) .s) (now («s_out» .entry)) ⌝ }
-    ensures { λ r. ⌜ now («z_out» .exit) ≡ output r (joined compact n m (joinedParts (now (cones .entry)) count (now (words .entry))) (solution (now (x .entry)) (now (s .entry)) (now (z .entry)) tau kappa) .z) (now («z_out» .entry)) ⌝ }
-    ensures { λ r. ⌜ now («scalars_out» .exit) ≡ output r (scalarsOf (joined compact n m (joinedParts (now (cones .entry)) count (now (words .entry))) (solution (now (x .entry)) (now (s .entry)) (now (z .entry)) tau kappa))) (now («scalars_out» .entry)) ⌝ }
+    ensures { λ r.
+        let sol = solution (now (x .entry)) (now (s .entry)) (now (z .entry)) tau kappa in
+        let before = rejoined (now («x_out» .entry)) (now («s_out» .entry)) (now («z_out» .entry)) (now («scalars_out» .entry)) in
+        let after = rejoined (now («x_out» .exit)) (now («s_out» .exit)) (now («z_out» .exit)) (now («scalars_out» .exit)) in
+        ⌜ JoinEntries n m (now (cones .entry)) count (now (words .entry)) sol (mapped meant (now (map .entry))) before after r ⌝ }
 {
     let refused = check_join(n, m, cones, count, words);
     let same = cone_maps::same_map(refused, m, cones, count, words, map);

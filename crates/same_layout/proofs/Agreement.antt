@@ -1,12 +1,13 @@
 -- The order of a same layout's refusals.
 use Prim.Native.Nat.{ℕ, zero, suc, _≤_, _<_}
 use mathlib.Core.Path.{_≡_, refl, sym, ap, _∙_}
-use mathlib.Core.List.{List, [], _∷_}
+use mathlib.Core.Bool.{cond}
+use mathlib.Core.List.{List, []}
 use lib.ListN.{length, set}
 use borrow.Author.Tests.{le-leb, lt-leb}
-use Rattle.layout.specs.Lists.{written}
 use Rattle.layout.specs.Problem.{Problem}
-use Rattle.layout.specs.Answers.{output, orElse, roomRefusal, problemRefusal, sameLayoutRefusal}
+use Rattle.layout.specs.Answers.{output, orElse, roomRefusal, problemRefusal, sameLayout, sameLayoutWords}
+use Rattle.layout.specs.Calls.SameLayout.{SameLayout}
 use Rattle.layout.proofs.Buffers.{output-kept, set-written}
 use Rattle.checks.proofs.Order.{first-given}
 
@@ -24,23 +25,20 @@ in-turn (suc a) b c = refl
 
 -- ---- the three ends of the call
 
-module _ (p q : Problem) (new old : List ℕ) (k : ℕ) (e : k ≡ orElse (problemRefusal p) (problemRefusal q)) where
-  abbrev Ends : ℕ → List ℕ → Type 0
-  Ends r out = (r ≡ sameLayoutRefusal p q (length old)) × (out ≡ output (sameLayoutRefusal p q (length old)) new old)
+module _ (p q : Problem) (old : List ℕ) (k : ℕ) (e : k ≡ orElse (problemRefusal p) (problemRefusal q)) where
+  ends : (r : ℕ) (out : List ℕ) → orElse k (roomRefusal 1 (length old)) ≡ r → out ≡ output r (sameLayoutWords p q) old → SameLayout p q old out r
+  ends r out h o = record {
+    number = sym (in-turn (problemRefusal p) (problemRefusal q) (roomRefusal 1 (length old)) ∙ ap (λ (j : ℕ). orElse j (roomRefusal 1 (length old))) (sym e) ∙ h);
+    out = o;
+  }
 
-  ends : (r : ℕ) (out : List ℕ) → orElse k (roomRefusal 1 (length old)) ≡ r → out ≡ output r new old → Ends r out
-  ends r out h o =
-      let s : sameLayoutRefusal p q (length old) ≡ r =
-      in-turn (problemRefusal p) (problemRefusal q) (roomRefusal 1 (length old)) ∙ ap (λ (j : ℕ). orElse j (roomRefusal 1 (length old))) (sym e) ∙ h in
-      (sym s, o ∙ ap (λ (j : ℕ). output j new old) (sym s))
+  pub refused : (k ≡ 0 → ⊥) → SameLayout p q old old k
+  refused h = ends k old (first-given k (roomRefusal 1 (length old)) h) (output-kept k (sameLayoutWords p q) old h)
 
-  pub refused : (k ≡ 0 → ⊥) → Ends k old
-  refused h = ends k old (first-given k (roomRefusal 1 (length old)) h) (output-kept k new old h)
-
-  pub no-room : k ≡ 0 → length old < 1 → Ends 11 old
+  pub no-room : k ≡ 0 → length old < 1 → SameLayout p q old old 11
   no-room z l = ends 11 old (rw (z, lt-leb 1 (length old) l)) refl
 
-  pub answered : k ≡ 0 → 1 ≤ length old → (v w : ℕ) → v ≡ w → new ≡ w ∷ [] → Ends k (set old 0 v)
-  answered z l v w g n =
-      let o : set old 0 v ≡ output 0 new old = ap (λ (u : ℕ). set old 0 u) g ∙ set-written [] old w 0 refl l ∙ ap (λ (ws : List ℕ). written ws old) (sym n) in
-      ends k (set old 0 v) (rw (z, le-leb 1 (length old) l)) (o ∙ ap (λ (j : ℕ). output j new old) (sym z))
+  pub answered : k ≡ 0 → 1 ≤ length old → (v : ℕ) → v ≡ cond (sameLayout p q) 1 0 → SameLayout p q old (set old 0 v) k
+  answered z l v g =
+      let o : set old 0 v ≡ output 0 (sameLayoutWords p q) old = ap (λ (u : ℕ). set old 0 u) g ∙ set-written [] old (cond (sameLayout p q) 1 0) 0 refl l in
+      ends k (set old 0 v) (rw (z, le-leb 1 (length old) l)) (o ∙ ap (λ (j : ℕ). output j (sameLayoutWords p q) old) (sym z))

@@ -1,11 +1,10 @@
 // Same layout: whether two problems agree in n, m, cone records and pattern words.
 ghost use mathlib.Core.Path.{_≡_};
 ghost use mathlib.Core.Bool.{_&&_, cond};
-ghost use lib.ListN.{length};
 ghost use lib.Dec.{eqb};
 ghost use Rattle.layout.specs.Lists.{sameNumbers};
 ghost use Rattle.layout.specs.Problem.{problem};
-ghost use Rattle.layout.specs.Answers.{output, sameLayoutRefusal, sameLayoutWords};
+ghost use Rattle.layout.specs.Calls.SameLayout.{SameLayout};
 
 // The same numbers in the same order.
 pub fn same_numbers(xs: &[u32], ys: &[u32]) -> bool
@@ -91,8 +90,10 @@ pub fn same_layout(
     words2: &[u32],
     out: &mut [u32],
 ) -> u32
-    ensures { λ r. ⌜ r ≡ sameLayoutRefusal (problem n m (now («p_starts» .entry)) (now («p_rows» .entry)) (now («p_values» .entry)) (now (q .entry)) (now («a_starts» .entry)) (now («a_rows» .entry)) (now («a_values» .entry)) (now (b .entry)) (now (cones .entry)) (now (alphas .entry)) count (now (words .entry))) (problem n2 m2 (now («p_starts2» .entry)) (now («p_rows2» .entry)) (now («p_values2» .entry)) (now (q2 .entry)) (now («a_starts2» .entry)) (now («a_rows2» .entry)) (now («a_values2» .entry)) (now (b2 .entry)) (now (cones2 .entry)) (now (alphas2 .entry)) count2 (now (words2 .entry))) (length (now (out .entry))) ⌝ }
-    ensures { λ _. ⌜ now (out .exit) ≡ output (sameLayoutRefusal (problem n m (now («p_starts» .entry)) (now («p_rows» .entry)) (now («p_values» .entry)) (now (q .entry)) (now («a_starts» .entry)) (now («a_rows» .entry)) (now («a_values» .entry)) (now (b .entry)) (now (cones .entry)) (now (alphas .entry)) count (now (words .entry))) (problem n2 m2 (now («p_starts2» .entry)) (now («p_rows2» .entry)) (now («p_values2» .entry)) (now (q2 .entry)) (now («a_starts2» .entry)) (now («a_rows2» .entry)) (now («a_values2» .entry)) (now (b2 .entry)) (now (cones2 .entry)) (now (alphas2 .entry)) count2 (now (words2 .entry))) (length (now (out .entry)))) (sameLayoutWords (problem n m (now («p_starts» .entry)) (now («p_rows» .entry)) (now («p_values» .entry)) (now (q .entry)) (now («a_starts» .entry)) (now («a_rows» .entry)) (now («a_values» .entry)) (now (b .entry)) (now (cones .entry)) (now (alphas .entry)) count (now (words .entry))) (problem n2 m2 (now («p_starts2» .entry)) (now («p_rows2» .entry)) (now («p_values2» .entry)) (now (q2 .entry)) (now («a_starts2» .entry)) (now («a_rows2» .entry)) (now («a_values2» .entry)) (now (b2 .entry)) (now (cones2 .entry)) (now (alphas2 .entry)) count2 (now (words2 .entry)))) (now (out .entry)) ⌝ }
+    ensures { λ r.
+        let p = problem n m (now («p_starts» .entry)) (now («p_rows» .entry)) (now («p_values» .entry)) (now (q .entry)) (now («a_starts» .entry)) (now («a_rows» .entry)) (now («a_values» .entry)) (now (b .entry)) (now (cones .entry)) (now (alphas .entry)) count (now (words .entry)) in
+        let other = problem n2 m2 (now («p_starts2» .entry)) (now («p_rows2» .entry)) (now («p_values2» .entry)) (now (q2 .entry)) (now («a_starts2» .entry)) (now («a_rows2» .entry)) (now («a_values2» .entry)) (now (b2 .entry)) (now (cones2 .entry)) (now (alphas2 .entry)) count2 (now (words2 .entry)) in
+        ⌜ SameLayout p other (now (out .entry)) (now (out .exit)) r ⌝ }
 {
     let mut refusal = checks::check_problem(
         n,

@@ -5,9 +5,9 @@ mod column_starts;
 
 ghost use mathlib.Core.Path.{_≡_};
 ghost use Prim.Native.Nat.{_+_, _*_, _≤_, _<_};
-ghost use lib.ListN.{length};
 ghost use Rattle.layout.specs.Triangle.{triangle, pairIndex, indexRow, indexColumn};
-ghost use Rattle.layout.specs.Answers.{output, pairRefusal, pairWords, backRefusal, backWords};
+ghost use Rattle.layout.specs.Calls.PairIndex.{PairIndex};
+ghost use Rattle.layout.specs.Calls.PairBack.{PairBack};
 
 // The number of pairs i <= j < k, which is also where column k starts.
 pub fn triangular_number(k: u32) -> u32
@@ -65,8 +65,7 @@ pub fn upper_triangular_index_to_coord(index: u32) -> Coord
 
 // The public call: the place of the pair (i, j) to out[0].
 pub fn pair_index(i: u32, j: u32, out: &mut [u32]) -> u32
-    ensures { λ r. ⌜ r ≡ pairRefusal i j (length (now (out .entry))) ⌝ }
-    ensures { λ _. ⌜ now (out .exit) ≡ output (pairRefusal i j (length (now (out .entry)))) (pairWords i j) (now (out .entry)) ⌝ }
+    ensures { λ r. ⌜ PairIndex i j (now (out .entry)) (now (out .exit)) r ⌝ }
 {
     if 255 < i {
         return 1;
@@ -83,8 +82,7 @@ pub fn pair_index(i: u32, j: u32, out: &mut [u32]) -> u32
 
 // The public call: the row of the place index to out[0], its column to out[1].
 pub fn pair_back(index: u32, out: &mut [u32]) -> u32
-    ensures { λ r. ⌜ r ≡ backRefusal index (length (now (out .entry))) ⌝ }
-    ensures { λ _. ⌜ now (out .exit) ≡ output (backRefusal index (length (now (out .entry)))) (backWords index) (now (out .entry)) ⌝ }
+    ensures { λ r. ⌜ PairBack index (now (out .entry)) (now (out .exit)) r ⌝ }
 {
     if 32895 < index {
         return 1;

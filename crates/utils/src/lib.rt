@@ -6,7 +6,7 @@ ghost use lib.ListN.{length, replicate};
 ghost use lib.Dec.{ltb};
 ghost use Rattle.layout.specs.Lists.{all, Below};
 ghost use Rattle.layout.specs.Checks.{isPermutation};
-ghost use Rattle.layout.specs.Answers.{output, inverse as inverseOf, inverseRefusal};
+ghost use Rattle.layout.specs.Calls.Inverse.{Inverse};
 ghost use Rattle.utils.specs.Windows.{MarksMore};
 ghost use Rattle.utils.specs.Scattered.{scattered};
 
@@ -126,8 +126,7 @@ fn scatter(words: &[u32], out: &mut [u32])
 // The place of each number in a permutation of the numbers below its length, or a refusal: 5 for what is no such
 // permutation, 11 for too short an output.
 pub fn inverse(p: &[u32], out: &mut [u32]) -> u32
-    ensures { λ r. ⌜ r ≡ inverseRefusal (now (p .entry)) (length (now (out .entry))) ⌝ }
-    ensures { λ _. ⌜ now (out .exit) ≡ output (inverseRefusal (now (p .entry)) (length (now (out .entry)))) (inverseOf (now (p .entry))) (now (out .entry)) ⌝ }
+    ensures { λ r. ⌜ Inverse (now (p .entry)) (now (out .entry)) (now (out .exit)) r ⌝ }
 {
     if !is_permutation(p) {
         return 5;

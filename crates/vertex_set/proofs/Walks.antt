@@ -1,20 +1,20 @@
 -- Walks over the members of a list.
-use Prim.Native.Nat.{ℕ, _+_, _-_, _≤_, _<_}
+use Prim.Native.Nat.{ℕ, suc, _+_, _≤_, _<_}
 use native.Mathlib.Numerals.{add-one}
 use native.Mathlib.Omega.{arith}
-use mathlib.Core.Bool.{true, false}
+use mathlib.Core.Bool.{Bool, true, false, _&&_}
 use mathlib.Core.Logic.{⊎-elim}
-use mathlib.Core.Path.{_≡_, sym, ap, subst, _∙_}
-use mathlib.Core.List.{List, [], _∷_, _++_}
+use mathlib.Core.Path.{_≡_, refl, sym, ap, _∙_}
+use mathlib.Core.List.{List, [], _∷_}
 use lib.ListN.{length, getD, drop, drop-of-length-le}
 use lib.Seq.{drop-cons}
-use lib.Dec.{T}
-use borrow.Author.Tests.{eq-eqb, ne-eqb}
+use lib.Dec.{T, leb, ltb, leb→le}
+use borrow.Author.Tests.{eq-eqb, ne-eqb, lt-ltb, le-ltb, le-leb, lt-leb}
 use Rattle.layout.specs.Lists.{has, all, distinct}
-use Rattle.layout.proofs.Tests.{and-iff, passed}
-use Rattle.layout.proofs.Members.{has-cons, has-append, has-getD, all-has}
-use Rattle.layout.proofs.Distinct.{distinct-append}
-use Rattle.vertex_set.specs.OnceIn.{onceIn}
+use Rattle.layout.proofs.Tests.{and-iff, and-true, and-false, and-right, differ}
+use Rattle.layout.proofs.Members.{has-cons}
+use Rattle.layout.proofs.Distinct.{distinct-cons}
+use Rattle.vertex_set.specs.OnceIn.{risesBelow, onceBelow, onceBelowIn}
 
 pub has-step : (x : ℕ) (b : List ℕ) (k : ℕ) → k < length b → (x ≡ getD b k 0 → ⊥) → has x (drop k b) ≡ has x (drop (k + 1) b)
 has-step x b k h n = rw (add-one, drop-cons b k 0, ne-eqb x (getD b k 0) n)
@@ -34,28 +34,49 @@ distinct-not a k h e = ap distinct (drop-cons a k 0 h ∙ ap (λ (n : ℕ). getD
 pub distinct-done : (a : List ℕ) (k : ℕ) → length a ≤ k → distinct (drop k a) ≡ true
 distinct-done a k h = rw (drop-of-length-le a h)
 
--- ---- members found in order
+-- ---- numbers that rise, below n
 
--- those found so far: none stands twice, and each is below `least` and in ms
-abbrev pub Climbed : List ℕ → ℕ → List ℕ → Type 0
-Climbed ms least met = T (distinct met) × ((y : ℕ) → T (has y met) → (y < least) × T (has y ms))
+module _ (least n : ℕ) (us : List ℕ) (i : ℕ) where
+  module _ (h : i < length us) where
+    pub rises-falls : getD us i 0 < least → risesBelow least n (drop i us) ≡ false
+    rises-falls l = rw (drop-cons us i 0 h, lt-leb least (getD us i 0) l)
 
-pub climb-none : (ms : List ℕ) → Climbed ms 0 []
-climb-none ms = (tt, λ y h. absurd h)
+    pub rises-above : n ≤ getD us i 0 → risesBelow least n (drop i us) ≡ false
+    rises-above l = rw (drop-cons us i 0 h, le-ltb (getD us i 0) n l) (and-right (leb least (getD us i 0)) false refl)
 
-pub climb-more : (ms met : List ℕ) (least x j : ℕ) → least ≤ x → j < length ms → x ≡ getD ms j 0 → Climbed ms least met
-    → Climbed ms (x + 1) (met ++ (x ∷ []))
-climb-more ms met least x j l h e (d, a) = (
-  distinct-append met (x ∷ []) .1 (d, tt, λ y m k. omega (arith, a y m .0, only y k)),
-  λ y m. ⊎-elim
-      (λ k. (omega (arith, a y k .0), a y k .1))
-      (λ k. (omega (arith, only y k), subst (λ (z : ℕ). T (has z ms)) (sym (only y k ∙ e)) (has-getD ms j 0 h)))
-      (has-append y met (x ∷ []) .0 m),
-)
+    pub rises-step : least ≤ getD us i 0 → getD us i 0 < n → risesBelow least n (drop i us) ≡ risesBelow (getD us i 0 + 1) n (drop (i + 1) us)
+    rises-step k l = rw (add-one (getD us i 0), add-one i, drop-cons us i 0 h, le-leb least (getD us i 0) k, lt-ltb (getD us i 0) n l)
+
+  pub rises-done : length us ≤ i → risesBelow least n (drop i us) ≡ true
+  rises-done h = rw (drop-of-length-le us h)
+
+-- they are below n, and none stands twice
+pub rises-once : (least n : ℕ) (us : List ℕ) → T (risesBelow least n us) → T (onceBelow n us) × ((y : ℕ) → T (has y us) → least ≤ y)
+rises-once least n [] h = (tt, λ y k. absurd k)
+rises-once least n (x ∷ xs) h =
+    let (low, more) = and-iff (leb least x) (ltb x n && risesBelow (suc x) n xs) .0 h in
+    let (high, rest) = and-iff (ltb x n) (risesBelow (suc x) n xs) .0 more in
+    let (once, above) = rises-once (suc x) n xs rest in
+    let (below, distinct′) = and-iff (all (λ y. ltb y n) xs) (distinct xs) .0 once in
+    let l : least ≤ x = leb→le least x low in (
+      and-iff (ltb x n && all (λ y. ltb y n) xs) (distinct (x ∷ xs)) .1 (
+        and-iff (ltb x n) (all (λ y. ltb y n) xs) .1 (high, below),
+        distinct-cons x xs .1 (λ k. omega (arith, above x k), distinct′),
+      ),
+      λ y k. ⊎-elim (λ e. omega arith) (λ m. omega (arith, above y m)) (has-cons y x xs .0 k),
+    )
+
+-- those that are below n and once, in others
+pub once-in-falls : (n : ℕ) (ms us : List ℕ) → onceBelow n us ≡ false → onceBelowIn n ms us ≡ false
+once-in-falls n ms us = go (all (λ x. ltb x n) us) (distinct us) (all (λ u. has u ms) us)
   where
-    only : (y : ℕ) → T (has y (x ∷ [])) → y ≡ x
-    only y k = ⊎-elim (λ q. q) (λ z. absurd z) (has-cons y x [] .0 k)
+    go : (a d h : Bool) → (a && d) ≡ false → (a && (d && h)) ≡ false
+    go true d h e = and-false d h e
+    go false d h e = refl
 
-pub climb-all : (ms us : List ℕ) (least : ℕ) → Climbed ms least us → onceIn ms us ≡ true
-climb-all ms us least (d, a) =
-    passed (onceIn ms us) (and-iff (distinct us) (all (λ u. has u ms) us) .1 (d, all-has (λ u. has u ms) us .1 (λ y h. a y h .1)))
+pub once-in-rest : (n : ℕ) (ms us : List ℕ) → onceBelow n us ≡ true → onceBelowIn n ms us ≡ all (λ u. has u ms) us
+once-in-rest n ms us = go (all (λ x. ltb x n) us) (distinct us) (all (λ u. has u ms) us)
+  where
+    go : (a d h : Bool) → (a && d) ≡ true → (a && (d && h)) ≡ h
+    go true d h e = and-true d h e
+    go false d h e = absurd (differ false e refl)

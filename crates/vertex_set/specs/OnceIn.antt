@@ -1,15 +1,29 @@
 -- Members that stand once, and are members of another list.
-use Prim.Native.Nat.{ℕ}
+use Prim.Native.Nat.{ℕ, suc}
 use mathlib.Core.Path.{_≡_}
-use mathlib.Core.Bool.{Bool, _&&_}
-use mathlib.Core.List.{List}
+use mathlib.Core.Bool.{Bool, true, _&&_}
+use mathlib.Core.List.{List, [], _∷_}
 use lib.ListN.{length}
+use lib.Dec.{leb, ltb}
 use Rattle.layout.specs.Lists.{has, all, keep, distinct}
 use Rattle.utils.specs.Windows.{within, Marked}
 
 -- no number of us stands twice, and each is in ms
 abbrev pub onceIn : List ℕ → List ℕ → Bool
 onceIn ms us = distinct us && all (λ u. has u ms) us
+
+-- each number is below n, and none stands twice
+abbrev pub onceBelow : ℕ → List ℕ → Bool
+onceBelow n us = all (λ x. ltb x n) us && distinct us
+
+-- and each is in ms
+abbrev pub onceBelowIn : ℕ → List ℕ → List ℕ → Bool
+onceBelowIn n ms us = all (λ x. ltb x n) us && onceIn ms us
+
+-- each number is above the one before it, the first is not below `least`, and all are below n
+abbrev pub risesBelow : ℕ → ℕ → List ℕ → Bool
+risesBelow least n [] = true
+risesBelow least n (x ∷ xs) = leb least x && (ltb x n && risesBelow (suc x) n xs)
 
 -- with marks for the numbers of ms: the answer is whether the words in the window are once in ms
 abbrev pub Unmarks : ℕ → List Bool → List ℕ → Bool → Type 0

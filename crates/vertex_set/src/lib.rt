@@ -6,7 +6,7 @@ ghost use lib.ListN.{length, drop};
 ghost use lib.Dec.{ltb};
 ghost use Rattle.layout.specs.Lists.{all, distinct, has};
 ghost use Rattle.utils.specs.Windows.{Marked};
-ghost use Rattle.vertex_set.specs.OnceIn.{onceIn, Unmarks};
+ghost use Rattle.vertex_set.specs.OnceIn.{onceIn, risesBelow, onceBelow, onceBelowIn, Unmarks};
 
 // ---- by walks
 
@@ -39,64 +39,79 @@ pub fn is_distinct(a: &[u32]) -> bool
     true
 }
 
-// Each member of a is in b.
-pub fn held(a: &[u32], b: &[u32]) -> bool
-    ensures { λ r. ⌜ r ≡ all (λ u. has u (now (b .entry))) (now (a .entry)) ⌝ }
+// Each number is above the one before it, and below n: a clique's members are as a rule.
+fn rises_below(us: &[u32], n: usize) -> bool
+    ensures { λ r. ⌜ r ≡ risesBelow 0 n (now (us .entry)) ⌝ }
+{
+    let mut least = 0;
+    let mut i = 0;
+    while i < us.len() {
+        let v = us[i] as usize;
+        if v < least {
+            return false;
+        }
+        if n <= v {
+            return false;
+        }
+        least = v + 1;
+        i += 1;
+    }
+    true
+}
+
+// Each number is below n, and none stands twice.
+fn once_below(us: &[u32], n: usize) -> bool
+    ensures { λ r. ⌜ r ≡ onceBelow n (now (us .entry)) ⌝ }
+{
+    if rises_below(us, n) {
+        return true;
+    }
+    if !utils::all_below(us, n) {
+        return false;
+    }
+    is_distinct(us)
+}
+
+// Each member of us is in ms. It is looked for after the one before it, and then from the first on, so that members in their order
+// cost one walk over ms.
+pub fn held(us: &[u32], ms: &[u32]) -> bool
+    ensures { λ r. ⌜ r ≡ all (λ u. has u (now (ms .entry))) (now (us .entry)) ⌝ }
 {
     let mut ok = true;
+    let mut j = 0;
     let mut i = 0;
-    'walk: while i < a.len() {
-        let x = a[i];
-        let mut j = 0;
+    'walk: while i < us.len() {
+        let x = us[i];
+        let mut around = false;
         loop {
-            if b.len() <= j {
-                ok = false;
-                break 'walk;
+            if ms.len() <= j {
+                if around {
+                    ok = false;
+                    break 'walk;
+                }
+                around = true;
+                j = 0;
+                continue;
             }
-            if x == b[j] {
+            if x == ms[j] {
                 break;
             }
             j += 1;
         }
+        j += 1;
         i += 1;
     }
     ok
 }
 
-// No number of us stands twice, and each is in ms: by walks over both.
-fn once_in_walk(us: &[u32], ms: &[u32]) -> bool
-    ensures { λ r. ⌜ r ≡ onceIn (now (ms .entry)) (now (us .entry)) ⌝ }
+// No number of us stands twice, and each is below n and in ms: by walks over both.
+fn once_in_walk(us: &[u32], ms: &[u32], n: usize) -> bool
+    ensures { λ r. ⌜ r ≡ onceBelowIn n (now (ms .entry)) (now (us .entry)) ⌝ }
 {
-    if !is_distinct(us) {
+    if !once_below(us, n) {
         return false;
     }
     held(us, ms)
-}
-
-// One walk over both finds the numbers of us in ms, in their order, and they rise: a clique's members do as a rule. Only a true
-// answer says something.
-fn in_order(us: &[u32], ms: &[u32]) -> bool
-    ensures { λ r. ⌜ (r ≡ true → onceIn (now (ms .entry)) (now (us .entry)) ≡ true) ⌝ }
-{
-    let mut least = 0;
-    let mut i = 0;
-    let mut j = 0;
-    while i < us.len() {
-        if ms.len() <= j {
-            return false;
-        }
-        let x = us[i];
-        if x == ms[j] {
-            let v = x as usize;
-            if v < least {
-                return false;
-            }
-            least = v + 1;
-            i += 1;
-        }
-        j += 1;
-    }
-    true
 }
 
 // ---- by marks
@@ -164,22 +179,18 @@ fn once_in_by(us: &[u32], ms: &[u32], n: usize, marks: &mut [bool]) -> bool
     }
 }
 
-// No number of us stands twice, and each is in ms. Where one walk over both does not show it: by walks over all pairs where both are
-// short, since then they cost no more than the marks do, and where a number of us is not below n; else by marks.
+// No number of us stands twice, and each is below n and in ms: by walks over both where they are short, else by marks.
 pub fn once_in(us: &[u32], ms: &[u32], n: usize, marks: &mut [bool]) -> bool
     requires { ⌜ 0 < length (now marks) ⌝ }
-    ensures { λ r. ⌜ r ≡ onceIn (now (ms .entry)) (now (us .entry)) ⌝ }
+    ensures { λ r. ⌜ r ≡ onceBelowIn n (now (ms .entry)) (now (us .entry)) ⌝ }
 {
-    if in_order(us, ms) {
-        return true;
-    }
-    if us.len() <= 16 {
-        if ms.len() <= 16 {
-            return once_in_walk(us, ms);
+    if us.len() <= 256 {
+        if ms.len() <= 256 {
+            return once_in_walk(us, ms, n);
         }
     }
     if !utils::all_below(us, n) {
-        return once_in_walk(us, ms);
+        return false;
     }
     once_in_by(us, ms, n, marks)
 }

@@ -1,11 +1,13 @@
 use native.Mathlib.Omega.{arith}
-use mathlib.Core.Bool.{false}
-use mathlib.Core.Path.{refl, sym, subst, _∙_}
+use mathlib.Core.Bool.{not}
+use mathlib.Core.Path.{sym, ap, subst, _∙_}
 use lib.ListN.{length}
-use Rattle.layout.proofs.Tests.{differ}
-use Rattle.supernode_tree.specs.Reads.{CliqueInside}
+use borrow.Author.Tests.{eq-eqb, ne-eqb}
+use Rattle.layout.proofs.Tests.{and-true, and-false}
+use Rattle.supernode_tree.specs.Reads.{cliqueRead, CliqueInside}
 use Rattle.supernode_tree.proofs.Words.{clique-found}
-use Rattle.accepted.proofs.Walked.{clique-holds}
+use Rattle.accepted.specs.Accepted.{cliqueRight}
+use Rattle.accepted.proofs.Walked.{clique-is}
 use Rattle.accepted.proofs.clique_holds.Statement.{statement}
 use Rattle.accepted.proofs.clique_holds.Tie as tie
 
@@ -19,10 +21,19 @@ enum-told : tie.Need-enum-told
 enum-told c = omega arith
 
 returns : tie.Need-returns
-returns c = λ z. absurd (differ false z refl)
+returns c =
+    let s = c .before .before .before .before .args in
+    ap (cliqueRight (s .count) (s .c)) (ap (cliqueRead (s .words .now)) (sym (c .enum-told .given .1)) ∙ c .before .before .read .ensures .0)
 
 returns-2 : tie.Need-returns-2
-returns-2 c = λ z. absurd (differ false z refl)
+returns-2 c =
+    let g = c .before .before .before .q .given in
+    let q = g .0 .0 in
+    let r = c .before .before .before .before .before .read in
+    let s = c .before .before .before .before .before .before .before .args in
+    let ws = s .words .now in
+    sym (clique-is ws (s .at) (s .c) (s .count) q (clique-found ws (s .at) _ q (r .ensures .0) (g .1)) (subst (CliqueInside (length ws) (s .at)) (g .1) (r .ensures .1))
+    ∙ and-false _ _ (ap not (eq-eqb (q .«snode_count») 0 (c .if1 .taken))))
 
 parent-right-requires : tie.Need-parent-right-requires
 parent-right-requires c κs = c .before .before .before .before .before .before .before .pre
@@ -34,8 +45,8 @@ returns-3 c =
     let r = c .before .before .before .before .before .before .read in
     let s = c .before .before .before .before .before .before .before .before .args in
     let ws = s .words .now in
-    λ z. clique-holds ws (s .at) (s .c) (s .count) q (clique-found ws (s .at) _ q (r .ensures .0) (g .1)) (subst (CliqueInside (length ws) (s .at)) (g .1) (r .ensures .1))
-    (c .before .if1 .left) (sym (c .parent-right .ensures) ∙ z)
+    c .parent-right .ensures ∙ sym (clique-is ws (s .at) (s .c) (s .count) q (clique-found ws (s .at) _ q (r .ensures .0) (g .1)) (subst (CliqueInside (length ws) (s .at)) (g .1) (r .ensures .1))
+    ∙ and-true _ _ (ap not (ne-eqb (q .«snode_count») 0 (c .before .if1 .left))))
 
 pub clique-holds-spec : {M : Type 1} → statement M
 clique-holds-spec =

@@ -2,12 +2,13 @@ use Prim.Native.Nat.{ℕ, _+_, _-_, _≤_}
 use native.Mathlib.Nat.{le-refl, le-of-eq, le-trans}
 use native.Mathlib.Omega.{arith}
 use mathlib.Core.Bool.{false}
+use mathlib.Core.Logic.{inl, inr}
 use mathlib.Core.Path.{_≡_, refl, subst, sym, _∙_}
 use mathlib.Core.List.{List, _++_}
 use lib.ListN.{length, take, drop, getD, length-set}
 use Rattle.layout.proofs.Tests.{differ}
 use Rattle.accepted.specs.Accepted.{Met}
-use Rattle.accepted.proofs.Marks.{beq-differ, met-more, part-none, part-more}
+use Rattle.accepted.proofs.Marks.{beq-differ, beq-same, met-more, met-once, met-has, part-none, part-more, part-not-once}
 use Rattle.accepted.proofs.mark_all.Statement.{statement}
 use Rattle.accepted.proofs.mark_all.Tie as tie
 
@@ -37,7 +38,13 @@ same-length : tie.Need-same-length Inv-loop μ-loop
 same-length c = c .before .before .before .loop .inv .2
 
 returns : tie.Need-returns Inv-loop μ-loop
-returns c = λ z. absurd (differ false z refl)
+returns c =
+    let l = c .before .before .before in
+    let s = l .before in
+    λ met m. (
+      part-not-once (s .args .n) met (s .args .words .now) (s .args .a) (s .args .e) (l .loop .i) (l .loop .inv .0) (c .before .before .loop-test .taken) (s .pre .1) (inl (c .if1 .taken)),
+      λ z. absurd (differ false z refl),
+    )
 
 slice-read-if2 : tie.Need-slice-read-if2 Inv-loop μ-loop
 slice-read-if2 c = omega (arith, c .before .if1 .left, c .before .before .before .before .before .pre .2, c .before .before .before .before .loop .inv .2)
@@ -46,7 +53,15 @@ same-length-2 : tie.Need-same-length-2 Inv-loop μ-loop
 same-length-2 c = c .before .before .before .before .before .loop .inv .2
 
 returns-2 : tie.Need-returns-2 Inv-loop μ-loop
-returns-2 c = λ z. absurd (differ false z refl)
+returns-2 c =
+    let l = c .before .before .before .before .before in
+    let s = l .before in
+    let ws = s .args .words .now in
+    λ met m. (
+      part-not-once (s .args .n) met ws (s .args .a) (s .args .e) (l .loop .i) (l .loop .inv .0) (c .before .before .before .before .loop-test .taken) (s .pre .1)
+          (inr (met-has (s .args .b) (s .args .n) (l .loop .marks) (met ++ take (l .loop .i - s .args .a) (drop (s .args .a) ws)) _ (l .loop .inv .3 met m) (c .before .before .if1 .left) (beq-same _ _ (c .if2 .taken)))),
+      λ z. absurd (differ false z refl),
+    )
 
 slice-write-marks : tie.Need-slice-write-marks Inv-loop μ-loop
 slice-write-marks c = omega (arith, c .before .before .if1 .left, c .before .before .before .before .before .before .pre .2, c .before .before .before .before .before .loop .inv .2)
@@ -80,7 +95,9 @@ returns-3 c =
     let l = c .before in
     let s = l .before .args in
     let e : l .loop .i ≡ s .e = omega (arith, c .loop-test .left, l .loop .inv .1) in
-    λ _ met m. subst (λ (i : ℕ). Met (s .b) (s .n) (l .loop .marks) (met ++ take (i - s .a) (drop (s .a) (s .words .now)))) e (l .loop .inv .3 met m)
+    λ met m.
+    let all = subst (λ (i : ℕ). Met (s .b) (s .n) (l .loop .marks) (met ++ take (i - s .a) (drop (s .a) (s .words .now)))) e (l .loop .inv .3 met m) in
+    (sym (met-once (s .b) (s .n) (l .loop .marks) (met ++ take (s .e - s .a) (drop (s .a) (s .words .now))) all), λ _. all)
 
 pub mark-all-spec : {M : Type 1} → statement M
 mark-all-spec =

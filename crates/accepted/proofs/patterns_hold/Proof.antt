@@ -1,19 +1,20 @@
-use Prim.Native.Nat.{ℕ, _<_}
+use Prim.Native.Nat.{ℕ, _≤_, _<_}
 use native.Mathlib.Nat.{le-of-eq}
 use native.Mathlib.Omega.{arith}
 use mathlib.Core.Path.{_≡_, refl, sym, _∙_}
 use lib.ListN.{length}
-use borrow.Author.Tests.{eqb-true}
+use borrow.Author.Tests.{eqb-true, le-ltb}
 use Rattle.layout.proofs.Tests.{differ}
 use Rattle.utils.proofs.Windows.{clear-all}
 use Rattle.accepted.specs.Accepted.{AllClear, PatternHolds}
-use Rattle.accepted.proofs.Patterns.{Going, Bounded, going-start, going-on, going-done, bounded-start, bounded-more, bounded-done, fits-all}
+use Rattle.accepted.proofs.Patterns.{Going, Coming, coming-stops, coming-on, coming-done, next-inside, Bounded, going-start, going-on, going-done, bounded-start, bounded-more, bounded-done, fits-all}
 use Rattle.accepted.proofs.patterns_hold.Statement.{statement}
 use Rattle.accepted.proofs.patterns_hold.Tie as tie
 
 abbrev Inv-loop : tie.InvT-loop
 Inv-loop cones count words marks₀ offsets₀ others₀ w₀ left₀ marks offsets others w left =
     (length marks ≡ 256) × (length offsets ≡ 256) × (length others ≡ 256) × AllClear marks × Bounded count w left × Going cones count words w left
+    × (w .next ≤ length words) × Coming cones count words w left
 
 abbrev μ-loop : tie.MeasureT-loop
 μ-loop cones count words marks₀ offsets₀ others₀ w₀ left₀ marks offsets others w left = left
@@ -24,10 +25,10 @@ some n h = omega arith
 -- the pattern was found right
 found : (c : tie.Else1 Inv-loop μ-loop) → let s = c .before .before .before .before .before .before .before .before .before .before .before .before .before .args in
     PatternHolds (s .cones .now) (s .words .now) (c .before .before .before .before .before .before .before .before .before .before .loop .w) (c .before .before .before .before .before .pattern-holds .result)
-found c = c .before .before .before .before .before .pattern-holds .ensures (some (c .before .before .before .before .before .pattern-holds .result .next) (c .if1 .left)) .0
+found c = c .before .before .before .before .before .pattern-holds .ensures .1 (some (c .before .before .before .before .before .pattern-holds .result .next) (c .if1 .left)) .0
 
 loop-holds : tie.Need-loop-holds Inv-loop μ-loop
-loop-holds c = (refl, refl, refl, clear-all 256, bounded-start (c .before .before .args .count), going-start (c .before .before .args .cones .now) (c .before .before .args .count) (c .before .before .args .words .now))
+loop-holds c = (refl, refl, refl, clear-all 256, bounded-start (c .before .before .args .count), going-start (c .before .before .args .cones .now) (c .before .before .args .count) (c .before .before .args .words .now), omega arith, λ all. all)
 
 slice-aggregate-pattern-holds : tie.Need-slice-aggregate-pattern-holds Inv-loop μ-loop
 slice-aggregate-pattern-holds c = omega (arith, c .before .before .loop .inv .0)
@@ -39,13 +40,21 @@ slice-aggregate-pattern-holds-3 : tie.Need-slice-aggregate-pattern-holds-3 Inv-l
 slice-aggregate-pattern-holds-3 c = omega (arith, c .before .before .before .before .loop .inv .2)
 
 pattern-holds-requires : tie.Need-pattern-holds-requires Inv-loop μ-loop
-pattern-holds-requires c κs = let i = c .before .before .before .before .loop .inv in ((le-of-eq (sym (i .0)), le-of-eq (sym (i .1)), i .3), omega (arith, i .2))
+pattern-holds-requires c κs = let i = c .before .before .before .before .loop .inv in ((le-of-eq (sym (i .0)), le-of-eq (sym (i .1)), i .3), (omega (arith, i .2), c .before .before .before .before .before .before .before .pre))
 
 answer-requires : tie.Need-answer-requires Inv-loop μ-loop
 answer-requires c κs = tt
 
 returns : tie.Need-returns Inv-loop μ-loop
-returns c = λ z. absurd (differ _ z (c .answer .ensures .0))
+returns c =
+    let l = c .before .before .before .before .before .before .before .before .before .before .before .loop in
+    let s = c .before .before .before .before .before .before .before .before .before .before .before .before .before .before .args in
+    let k = c .before .before .before .before .before .before .pattern-holds in (
+      c .answer .ensures .0
+          ∙ coming-stops (s .cones .now) (s .count) (s .words .now) (l .w) (l .left) (c .before .before .before .before .before .before .before .before .before .before .loop-test .taken) (l .inv .7)
+          (sym (k .ensures .0) ∙ le-ltb 0 (k .result .next) (le-of-eq (c .before .if1 .taken))),
+      λ z. absurd (differ _ z (c .answer .ensures .0)),
+    )
 
 with-pattern-requires : tie.Need-with-pattern-requires Inv-loop μ-loop
 with-pattern-requires c κs =
@@ -71,9 +80,11 @@ loop-again c =
       k .kept .1 .1 .1 .0 ∙ l .inv .0,
       k .kept .1 .1 .1 .1 .0 ∙ l .inv .1,
       k .kept .1 .1 .1 .1 .1 .0 ∙ l .inv .2,
-      k .ensures (some (k .result .next) (c .before .if1 .left)) .1,
+      k .ensures .1 (some (k .result .next) (c .before .if1 .left)) .1,
       bounded-more (s .cones .now) (s .words .now) (s .count) (l .w) (k .result) (l .left) more h (r .result) (r .ensures) (l .inv .4),
       λ left. going-on (s .cones .now) (s .words .now) (s .count) (l .w) (k .result) (l .left) more h (r .result) (r .ensures) left (l .inv .5),
+      next-inside (s .cones .now) (s .words .now) (s .count) (l .w) (k .result) (l .left) more h (r .result) (r .ensures),
+      coming-on (s .cones .now) (s .words .now) (s .count) (l .w) (k .result) (l .left) more h (r .result) (r .ensures) (l .inv .7),
     )
 
 answer-requires-2 : tie.Need-answer-requires-2 Inv-loop μ-loop
@@ -84,10 +95,12 @@ returns-2 c =
     let l = c .before .before .before .loop in
     let s = c .before .before .before .before .before .before .args in
     let a = c .answer2 .ensures in
-    let end = c .before .before .loop-test .left in
-    λ z.
-    let all = going-done (s .cones .now) (s .count) (s .words .now) (l .w) (l .left) (c .answer2 .result) end (l .inv .5) (eqb-true _ _ (sym (a .0) ∙ z)) (a .1) (a .2) (a .3) in
-    (all .0, all .1, bounded-done (s .count) (l .w) (l .left) (l .inv .4) (c .answer2 .result .dim) (a .1))
+    let end = c .before .before .loop-test .left in (
+      a .0 ∙ coming-done (s .cones .now) (s .count) (s .words .now) (l .w) (l .left) end (l .inv .6) (l .inv .5) (l .inv .7),
+      λ z.
+          let all = going-done (s .cones .now) (s .count) (s .words .now) (l .w) (l .left) (c .answer2 .result) end (l .inv .5) (eqb-true _ _ (sym (a .0) ∙ z)) (a .1) (a .2) (a .3) in
+          (all .1, bounded-done (s .count) (l .w) (l .left) (l .inv .4) (c .answer2 .result .dim) (a .1)),
+    )
 
 pub patterns-hold-spec : {M : Type 1} → statement M
 patterns-hold-spec =

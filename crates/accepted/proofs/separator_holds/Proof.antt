@@ -1,16 +1,21 @@
-use Prim.Native.Nat.{ℕ, suc, _+_, _-_, _*_, _≤_}
+use Prim.Native.Nat.{ℕ, suc, _+_, _-_, _*_, _≤_, _<_}
 use mathlib.Core.Bool.{true, false}
 use mathlib.Core.Path.{_≡_, refl, sym, ap, _∙_}
-use mathlib.Core.List.{List}
-use lib.ListN.{getD, take, drop}
+use mathlib.Core.List.{List, [], _∷_}
+use lib.ListN.{length, getD, take, drop, List·getD-eq-default}
+use lib.Dec.{leb, ltb}
+use borrow.Author.Tests.{le-leb, lt-leb}
+use Rattle.layout.specs.Lists.{all, distinct}
 use native.Mathlib.Nat.{le-trans}
 use native.Mathlib.Omega.{arith}
-use Rattle.layout.specs.Patterns.{read, readClique, members, noClique}
-use Rattle.layout.proofs.Tests.{differ}
+use Rattle.layout.specs.Patterns.{Clique, read, readClique, members, noClique}
+use Rattle.layout.proofs.Tests.{and-true, and-false, and-right}
 use Rattle.supernode_tree.specs.Reads.{cliqueOf, cliquesFrom, valueOr, whole}
 use Rattle.supernode_tree.proofs.Cliques.{members-part}
+use Rattle.supernode_tree.proofs.Many.{many-length}
+use Rattle.supernode_tree.proofs.Words.{length-part}
 use Rattle.supernode_tree.proofs.Offsets.{after, after-clique}
-use Rattle.vertex_set.specs.OnceIn.{onceIn}
+use Rattle.vertex_set.specs.OnceIn.{onceBelowIn}
 use Rattle.accepted.proofs.separator_holds.Statement.{statement}
 use Rattle.accepted.proofs.separator_holds.Tie as tie
 
@@ -19,8 +24,19 @@ members-rise : (start separator next a b : ℕ) → separator ≡ start + a → 
 members-rise start separator next a b p q = omega arith
 
 -- a separator that ends where it starts is empty
-none : (ms ws : List ℕ) (a e : ℕ) → a ≡ e → onceIn ms (take (e - a) (drop a ws)) ≡ true
-none ms ws a e s = let z : e - a ≡ 0 = omega arith in ap (λ (k : ℕ). onceIn ms (take k (drop a ws))) z
+none : (n : ℕ) (ms ws : List ℕ) (a e : ℕ) → a ≡ e → onceBelowIn n ms (take (e - a) (drop a ws)) ≡ true
+none n ms ws a e s = let z : e - a ≡ 0 = omega arith in ap (λ (k : ℕ). onceBelowIn n ms (take k (drop a ws))) z
+
+-- a member that the parent's clique, which is none, does not hold
+outside : (n : ℕ) (cs : List Clique) (ws : List ℕ) (parent a e : ℕ) → length cs ≤ parent → a ≤ e → e ≤ length ws → (a ≡ e → ⊥)
+    → onceBelowIn n (members (getD cs parent noClique)) (take (e - a) (drop a ws)) ≡ false
+outside n cs ws parent a e h l k some =
+    ap (λ (q : Clique). onceBelowIn n (members q) (take (e - a) (drop a ws))) (List·getD-eq-default cs noClique h)
+    ∙ go (take (e - a) (drop a ws)) (omega (arith, length-part a (e - a) ws (omega arith)))
+  where
+    go : (us : List ℕ) → 0 < length us → onceBelowIn n [] us ≡ false
+    go [] h = absurd (omega arith)
+    go (u ∷ us) h = and-right (all (λ x. ltb x n) (u ∷ us)) _ (and-right (distinct (u ∷ us)) _ refl)
 
 small : (c : tie.Else1) → let q = c .before .before .before .before .before .args .q in
     q .«snode_count» + q .«separator_count» ≤ 256
@@ -43,7 +59,7 @@ get-nblk-requires : tie.Need-get-nblk-requires
 get-nblk-requires c κs = c .before .before .before .pre .1 .1 .0
 
 returns : tie.Need-returns
-returns c = λ z. absurd (differ false z refl)
+returns c = let q = c .before .before .before .before .before .args .q in sym (and-false _ _ (lt-leb (q .«snode_count» + q .«separator_count») 256 (omega (arith, c .if1 .taken, c .before .get-nblk .ensures))))
 
 returns-2 : tie.Need-returns-2
 returns-2 c =
@@ -51,13 +67,17 @@ returns-2 c =
     let ws = s .args .words .now in
     let q = s .args .q in
     let p = s .args .p in
-    λ _. (
-      small (c .before .before),
-      none (members (getD (cliquesFrom ws (p .cliques) (p .«clique_count»)) (q .parent) noClique)) ws (q .separator) (q .next) (c .if2 .taken),
-    )
+    sym (and-true _ _ (le-leb _ 256 (small (c .before .before))) ∙
+    none (p .«vertex_count») (members (getD (cliquesFrom ws (p .cliques) (p .«clique_count»)) (q .parent) noClique)) ws (q .separator) (q .next) (c .if2 .taken))
 
 returns-3 : tie.Need-returns-3
-returns-3 c = λ z. absurd (differ false z refl)
+returns-3 c =
+    let s = c .before .before .before .before .before .before .before .before .before .before in
+    let ws = s .args .words .now in
+    let q = s .args .q in
+    let p = s .args .p in
+    sym (and-right (leb (q .«snode_count» + q .«separator_count») 256) _ (outside (p .«vertex_count») (cliquesFrom ws (p .cliques) (p .«clique_count»)) ws (q .parent) (q .separator) (q .next)
+    (omega (arith, many-length readClique (p .«clique_count») (drop (p .cliques) ws) (s .pre .0 .0), c .if3 .taken)) (s .pre .1 .0 .0) (s .pre .1 .0 .1) (c .before .before .before .if2 .left)))
 
 cast-at : tie.Need-cast-at
 cast-at c = omega arith
@@ -93,7 +113,8 @@ returns-4 c =
     let us = take (q .next - q .separator) (drop (q .separator) ws) in
     let same : cliqueOf ws m ≡ getD (cliquesFrom ws (p .cliques) (p .«clique_count»)) (q .parent) noClique =
     ap (valueOr noClique) (h .here .ensures .0 ∙ parent-read (h .before)) in
-    λ z. (small (c .before .before .before .before .before .before .before .before .before .before .before .before), ap (λ (ms : List ℕ). onceIn ms us) (sym (members-part ws at m (h .here .ensures .1) ∙ ap members same)) ∙ sym (c .before .before .separator-right .ensures) ∙ z)
+    c .before .before .separator-right .ensures ∙ ap (λ (ms : List ℕ). onceBelowIn (p .«vertex_count») ms us) (members-part ws at m (h .here .ensures .1) ∙ ap members same)
+    ∙ sym (and-true _ _ (le-leb _ 256 (small (c .before .before .before .before .before .before .before .before .before .before .before .before))))
 
 pub separator-holds-spec : {M : Type 1} → statement M
 separator-holds-spec =

@@ -1,11 +1,11 @@
-use Prim.Native.Nat.{_-_}
+use Prim.Native.Nat.{_-_, _<_}
 use native.Mathlib.Nat.{le-of-eq, le-trans}
 use native.Mathlib.Omega.{arith}
 use mathlib.Core.Path.{_≡_, refl, sym, _∙_}
 use lib.ListN.{length}
-use borrow.Author.Tests.{not-false}
-use Rattle.supernode_tree.proofs.Cliques.{first-whole, separator-part}
-use Rattle.accepted.proofs.Separators.{Seen, seen-none, seen-more, seen-all, fits-more, block-fits}
+use borrow.Author.Tests.{not-false, not-true, lt-ltb, le-ltb}
+use Rattle.supernode_tree.proofs.Cliques.{first-whole}
+use Rattle.accepted.proofs.Separators.{Seen, seen-none, seen-more, seen-all, seen-stops, fits-small, fits-more, block-fits}
 use Rattle.accepted.proofs.separators_hold.Statement.{statement}
 use Rattle.accepted.proofs.separators_hold.Tie as tie
 
@@ -39,10 +39,29 @@ same-length : tie.Need-same-length Inv-loop μ-loop
 same-length c = c .before .before .before .before .separator-holds .kept .1 .1 .1 .1 .0 ∙ c .before .before .before .before .before .before .before .before .loop .inv .0
 
 returns : tie.Need-returns Inv-loop μ-loop
-returns c = λ z. absurd (omega (arith, c .no-blocks2 .ensures .0))
+returns c =
+    let h = c .before .before .before .before .before .before in
+    let l = h .before .before in
+    let s = l .before .before .before .before .before in
+    let k = c .before .before .before .before .separator-holds in (
+      le-ltb 0 (c .no-blocks2 .result .next) (omega (arith, c .no-blocks2 .ensures .0))
+          ∙ sym (seen-stops (s .args .words .now) (s .args .p) (l .loop .b) (l .loop .left) (l .loop .inv .1) (h .before .loop-test .taken) (h .here .result) (h .here .ensures .0) (h .here .ensures .1) (k .result) (k .ensures) (not-true _ (c .before .if1 .taken))),
+      λ z. absurd (omega (arith, c .no-blocks2 .ensures .0)),
+    )
+
+few : (c : tie.Else1 Inv-loop μ-loop) → c .before .before .before .before .before .before .before .before .before .before .before .before .args .p .«clique_count» < 4294967296
+few c = omega arith
 
 with-clique-requires : tie.Need-with-clique-requires Inv-loop μ-loop
-with-clique-requires c κs = (c .before .before .before .separator-holds .ensures (not-false _ (c .if1 .left)) .0, fits-more (c .before .before .before .before .before .before .before .before .before .before .before .before .args .words .now) (c .before .before .before .before .before .before .before .before .before .before .before .before .args .p) (c .before .before .before .before .before .before .before .loop .b) (c .before .before .before .before .before .before .before .loop .left) (c .before .before .before .before .before .before .before .loop .inv .1) (c .before .before .before .before .before .before .loop-test .taken) (omega arith))
+with-clique-requires c κs =
+    let h = c .before .before .before .before .before in
+    let l = h .before .before in
+    let s = l .before .before .before .before .before in
+    let k = c .before .before .before .separator-holds in
+    let more = h .before .loop-test .taken in (
+      fits-small (s .args .words .now) (s .args .p) (l .loop .b) (l .loop .left) (l .loop .inv .1) more (h .here .result) (h .here .ensures .0) (h .here .ensures .1) (k .result) (k .ensures) (not-false _ (c .if1 .left)),
+      fits-more (s .args .words .now) (s .args .p) (l .loop .b) (l .loop .left) (l .loop .inv .1) more (few c),
+    )
 
 sub-left : tie.Need-sub-left Inv-loop μ-loop
 sub-left c = omega (arith, c .before .before .before .before .before .before .before .loop-test .taken)
@@ -57,18 +76,22 @@ loop-again c =
     let s = c .before .before .before .before .before .before .before .before .before .before .before .before .before in
     let ws = s .args .words .now in
     let q = h .here .result in
-    let held = c .before .before .before .before .separator-holds .ensures (not-false _ (c .before .if1 .left)) in
+    let k = c .before .before .before .before .separator-holds in
     let inside = h .here .ensures .1 in (
       c .before .before .before .before .separator-holds .kept .1 .1 .1 .1 .0 ∙ l .loop .inv .0,
       seen-more ws (s .args .p) (l .loop .b) (l .loop .left) (l .loop .inv .1) (c .before .before .before .before .before .before .before .loop-test .taken) q (h .here .ensures .0) inside
-          (held .0) (rw (separator-part ws (l .loop .b .next) q inside) at (held .1)) (c .with-clique .result) (c .with-clique .ensures),
+          (k .result) (k .ensures) (not-false _ (c .before .if1 .left)) (c .with-clique .result) (c .with-clique .ensures),
     )
 
 same-length-2 : tie.Need-same-length-2 Inv-loop μ-loop
 same-length-2 c = c .before .loop .inv .0
 
 returns-2 : tie.Need-returns-2 Inv-loop μ-loop
-returns-2 c = let l = c .before in λ _. seen-all (c .before .before .before .before .before .before .args .words .now) (c .before .before .before .before .before .before .args .p) (l .loop .b) (l .loop .left) (l .loop .inv .1) (c .loop-test .left)
+returns-2 c =
+    let l = c .before in
+    let s = c .before .before .before .before .before .before .args in
+    let all = seen-all (s .words .now) (s .p) (l .loop .b) (l .loop .left) (l .loop .inv .1) (c .loop-test .left) in
+    (lt-ltb 0 _ (l .loop .inv .1 .past) ∙ sym (all .right), λ _. all)
 
 pub separators-hold-spec : {M : Type 1} → statement M
 separators-hold-spec =

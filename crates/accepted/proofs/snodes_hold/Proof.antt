@@ -4,9 +4,9 @@ use native.Mathlib.Omega.{arith}
 use mathlib.Core.Bool.{false}
 use mathlib.Core.Path.{_≡_, refl, sym, _∙_}
 use lib.ListN.{length, length-set}
-use borrow.Author.Tests.{not-false, eqb-true}
+use borrow.Author.Tests.{not-false, not-true, eqb-true}
 use Rattle.layout.proofs.Tests.{differ}
-use Rattle.accepted.proofs.Walked.{Walked, walked-none, walked-more, walked-all, walked-clear}
+use Rattle.accepted.proofs.Walked.{Walked, walked-none, walked-stands, walked-stops, walked-more, walked-all, walked-clear, walked-many}
 use Rattle.accepted.proofs.snodes_hold.Statement.{statement}
 use Rattle.accepted.proofs.snodes_hold.Tie as tie
 
@@ -37,7 +37,13 @@ same-length-2 : tie.Need-same-length-2 Inv-loop μ-loop
 same-length-2 c = c .before .before .before .before .before .before .before .loop .inv .4
 
 returns : tie.Need-returns Inv-loop μ-loop
-returns c = λ z. absurd (differ false z refl)
+returns c =
+    let l = c .before .before .before .before .before .before .before .loop in
+    let s = c .before .before .before .before .before .before .before .before .before .before .before .args in
+    let h = c .before .before .before .snode-holds in (
+      walked-stops (s .words .now) (s .p) (l .marks) (l .offsets) (l .total) (l .at) (l .c) (l .inv .5) (h .result) (h .ensures) (c .before .before .before .before .before .if1 .taken) (not-true _ (c .if2 .taken)),
+      λ z. absurd (differ false z refl),
+    )
 
 cast-offsets : tie.Need-cast-offsets Inv-loop μ-loop
 cast-offsets c = omega arith
@@ -49,7 +55,11 @@ slice-write-offsets : tie.Need-slice-write-offsets Inv-loop μ-loop
 slice-write-offsets c = room c
 
 here-requires : tie.Need-here-requires Inv-loop μ-loop
-here-requires c κs = c .before .before .before .snode-holds .ensures (not-false _ (c .if2 .left)) .0 .stands
+here-requires c κs =
+    let l = c .before .before .before .before .before .before .before .loop in
+    let s = c .before .before .before .before .before .before .before .before .before .before .before .args in
+    let h = c .before .before .before .snode-holds in
+    walked-stands (s .words .now) (s .p) (l .marks) (l .offsets) (l .total) (l .at) (l .c) (l .inv .5) (h .result) (h .ensures) (not-false _ (c .if2 .left))
 
 add-total : tie.Need-add-total Inv-loop μ-loop
 add-total c = omega (arith, c .before .here .ensures .1, c .before .before .before .before .before .before .before .before .before .loop .inv .1)
@@ -72,7 +82,7 @@ loop-again c =
       c .before .before .before .before .before .snode-holds .kept .1 .1 .1 .1 .0 ∙ l .loop .inv .3,
       length-set (l .loop .offsets) (l .loop .c) (l .loop .at) ∙ l .loop .inv .4,
       walked-more (s .words .now) (s .p) (l .loop .marks) (l .loop .offsets) (l .loop .total) (l .loop .at) (l .loop .c) (l .loop .inv .5) (h .result)
-          (c .before .before .before .before .before .snode-holds .last .1 .1 .1 .1 .0) (h .ensures .0) inside (c .before .before .before .before .before .snode-holds .ensures (not-false _ (c .before .before .if2 .left))) (room (c .before .before)),
+          (c .before .before .before .before .before .snode-holds .last .1 .1 .1 .1 .0) (c .before .before .before .before .before .snode-holds .result) (h .ensures .0) inside (c .before .before .before .before .before .snode-holds .ensures) (not-false _ (c .before .before .if2 .left)) (room (c .before .before)) (c .before .before .before .before .before .before .before .if1 .taken),
     )
 
 same-length-3 : tie.Need-same-length-3 Inv-loop μ-loop
@@ -86,10 +96,12 @@ returns-2 c =
     let l = c .before .before .before .loop in
     let s = c .before .before .before .before .before .before .before .args in
     let w = l .inv .5 in
-    let end : l .c ≡ s .p .«clique_count» = omega (arith, c .before .if1 .left, l .inv .2) in
-    λ z. let all : l .total ≡ s .p .«vertex_count» = eqb-true _ _ z in (
-      walked-all (s .words .now) (s .p) (l .marks) (l .offsets) (l .total) (l .at) (l .c) w end all,
-      walked-clear (s .words .now) (s .p) (l .marks) (l .offsets) (l .total) (l .at) (l .c) w end all,
+    let end : l .c ≡ s .p .«clique_count» = omega (arith, c .before .if1 .left, l .inv .2) in (
+      walked-many (s .words .now) (s .p) (l .marks) (l .offsets) (l .total) (l .at) (l .c) w end,
+      λ z. let all : l .total ≡ s .p .«vertex_count» = eqb-true _ _ z in (
+        walked-all (s .words .now) (s .p) (l .marks) (l .offsets) (l .total) (l .at) (l .c) w end all,
+        walked-clear (s .words .now) (s .p) (l .marks) (l .offsets) (l .total) (l .at) (l .c) w end all,
+      ),
     )
 
 pub snodes-hold-spec : {M : Type 1} → statement M

@@ -11,33 +11,33 @@ use Rattle.augment.proofs.decomp_augment_standard.Statement.{statement}
 use Rattle.augment.proofs.decomp_augment_standard.Tie as tie
 
 cast-write-starts : tie.Need-cast-write-starts
-cast-write-starts c = fits-u32 _ (few-entries (c .before .before .before .before .before .before .before .before .before .before .before .before .pre .0))
+cast-write-starts c = fits-u32 _ (few-entries (c .before .before .before .before .before .before .before .before .before .before .before .before .pre .accepted))
 
 write-starts-requires : tie.Need-write-starts-requires
 write-starts-requires c κs =
     let s = c .before .before .before .before .before .before .before .before .before .before .before .before in
     let k = s .args .k in
-    (room-starts (s .pre .0) k _ (s .pre .1 .1 .0), few-ends (s .pre .0) k (s .pre .1 .0))
+    (room-starts (s .pre .accepted) k _ (s .pre .starts), few-ends (s .pre .accepted) k (s .pre .added))
 
 standard-a-rows-requires : tie.Need-standard-a-rows-requires
 standard-a-rows-requires c κs =
     let s = c .before .before .before .before .before .before .before .before .before .before .before .before .before .before .before .before in
     let k = s .args .k in
-    let e = s .pre .1 .0 in
-    (sound (s .pre .0), (e, few-rows (s .pre .0) k e, room-rows (s .pre .0) k e _ (s .pre .1 .1 .1)))
+    let e = s .pre .added in
+    (sound (s .pre .accepted), (e, few-rows (s .pre .accepted) k e, room-rows (s .pre .accepted) k e _ (s .pre .rows)))
 
 write-values-requires : tie.Need-write-values-requires
-write-values-requires c κs = c .before .before .before .before .before .before .before .before .before .before .before .before .before .before .before .before .before .before .before .before .pre .1 .1 .2
+write-values-requires c κs = c .before .before .before .before .before .before .before .before .before .before .before .before .before .before .before .before .before .before .before .before .pre .values
 
 extend-values-requires : tie.Need-extend-values-requires
 extend-values-requires c κs =
     let s = c .before .before .before .before .before .before .before .before .before .before .before .before .before .before .before .before .before .before .before .before .before .before .before .before in
-    room-b (s .pre .0) (s .args .k) (s .pre .1 .0) _ (s .pre .1 .1 .3)
+    room-b (s .pre .accepted) (s .args .k) (s .pre .added) _ (s .pre .slacks)
 
 standard-cones-requires : tie.Need-standard-cones-requires
 standard-cones-requires c κs =
     let s = c .before .before .before .before .before .before .before .before .before .before .before .before .before .before .before .before .before .before .before .before .before .before .before .before .before .before .before .before in
-    (sound (s .pre .0), s .pre .1 .1 .4)
+    (sound (s .pre .accepted), s .pre .cones)
 
 same-length : tie.Need-same-length
 same-length c = c .before .before .before .before .before .before .before .before .before .before .before .before .before .before .before .before .before .before .write-starts .kept .0
@@ -59,20 +59,14 @@ unfolding ofBits
 returns c =
     let s = c .before .before .before .before .before .before .before .before .before .before .before .before .before .before .before .before .before .before .before .before .before .before .before .before .before .before .before .before .before .before .before in
     let a = s .args in
-    let h = s .pre .0 in
-    let e = s .pre .1 .0 in (
-      renamed (a .a-starts-out .now) (starts-A h (a .k) e) (c .before .before .before .before .before .before .before .before .before .before .before .before .before .before .before .before .before .before .write-starts .ensures),
-      (
-        renamed (a .a-rows-out .now) (rows-A h) (c .before .before .before .before .before .before .before .before .before .before .before .before .before .before .standard-a-rows .ensures),
-        (
-          renamed (a .a-values-out .now) (values-A h (a .k) e) (c .before .before .before .before .before .before .before .before .before .before .write-values .ensures),
-          (
-            renamed (a .b-out .now) (ap (λ (j : ℕ). a .b .now ++ replicate j zero64) e) (c .before .before .before .before .before .before .extend-values .ensures),
-            c .before .before .standard-cones .ensures,
-          ),
-        ),
-      ),
-    )
+    let h = s .pre .accepted in
+    let e = s .pre .added in record {
+      a-starts = renamed (a .a-starts-out .now) (starts-A h (a .k) e) (c .before .before .before .before .before .before .before .before .before .before .before .before .before .before .before .before .before .before .write-starts .ensures);
+      a-rows = renamed (a .a-rows-out .now) (rows-A h) (c .before .before .before .before .before .before .before .before .before .before .before .before .before .before .standard-a-rows .ensures);
+      a-values = renamed (a .a-values-out .now) (values-A h (a .k) e) (c .before .before .before .before .before .before .before .before .before .before .write-values .ensures);
+      b = renamed (a .b-out .now) (ap (λ (j : ℕ). a .b .now ++ replicate j zero64) e) (c .before .before .before .before .before .before .extend-values .ensures);
+      cones = c .before .before .standard-cones .ensures;
+    }
 
 pub decomp-augment-standard-spec : {M : Type 1} → statement M
 decomp-augment-standard-spec =

@@ -5,19 +5,19 @@ use Rattle.augment.proofs.write_objective.Tie as tie
 extend-starts-requires : tie.Need-extend-starts-requires
 extend-starts-requires c κs =
     let s = c .before .before .before .before .before .before .before .before .before .before .before in
-    (s .pre .0, s .pre .1 .0)
+    (s .pre .right, s .pre .starts)
 
 copy-numbers-requires : tie.Need-copy-numbers-requires
-copy-numbers-requires c κs = c .before .before .before .before .before .before .before .before .before .before .before .before .before .before .before .pre .1 .1
+copy-numbers-requires c κs = c .before .before .before .before .before .before .before .before .before .before .before .before .before .before .before .pre .rows
 
 copy-values-requires : tie.Need-copy-values-requires
-copy-values-requires c κs = c .before .before .before .before .before .before .before .before .before .before .before .before .before .before .before .before .before .before .before .pre .1 .2
+copy-values-requires c κs = c .before .before .before .before .before .before .before .before .before .before .before .before .before .before .before .before .before .before .before .pre .values
 
 extend-values-requires : tie.Need-extend-values-requires
-extend-values-requires c κs = c .before .before .before .before .before .before .before .before .before .before .before .before .before .before .before .before .before .before .before .before .before .before .before .pre .1 .3
+extend-values-requires c κs = c .before .before .before .before .before .before .before .before .before .before .before .before .before .before .before .before .before .before .before .before .before .before .before .pre .costs
 
 copy-values-requires-2 : tie.Need-copy-values-requires-2
-copy-values-requires-2 c κs = c .before .before .before .before .before .before .before .before .before .before .before .before .before .before .before .before .before .before .before .before .before .before .before .before .before .before .before .pre .1 .4
+copy-values-requires-2 c κs = c .before .before .before .before .before .before .before .before .before .before .before .before .before .before .before .before .before .before .before .before .before .before .before .before .before .before .before .pre .alphas
 
 same-length : tie.Need-same-length
 same-length c = c .before .before .before .before .before .before .before .before .before .before .before .before .before .before .before .before .before .before .extend-starts .kept .0
@@ -36,16 +36,13 @@ same-length-5 c = c .before .before .copy-values2 .kept .0
 
 returns : tie.Need-returns
 unfolding ofBits
-returns c = (
-  c .before .before .before .before .before .before .before .before .before .before .before .before .before .before .before .before .before .before .extend-starts .ensures,
-  (
-    c .before .before .before .before .before .before .before .before .before .before .before .before .before .before .copy-numbers .ensures,
-    (
-      c .before .before .before .before .before .before .before .before .before .before .copy-values .ensures,
-      (c .before .before .before .before .before .before .extend-values .ensures, c .before .before .copy-values2 .ensures),
-    ),
-  ),
-)
+returns c = record {
+  p-starts = c .before .before .before .before .before .before .before .before .before .before .before .before .before .before .before .before .before .before .extend-starts .ensures;
+  p-rows = c .before .before .before .before .before .before .before .before .before .before .before .before .before .before .copy-numbers .ensures;
+  p-values = c .before .before .before .before .before .before .before .before .before .before .copy-values .ensures;
+  q = c .before .before .before .before .before .before .extend-values .ensures;
+  alphas = c .before .before .copy-values2 .ensures;
+}
 
 pub write-objective-spec : {M : Type 1} → statement M
 write-objective-spec =

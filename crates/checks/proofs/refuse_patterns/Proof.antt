@@ -1,9 +1,11 @@
 use mathlib.Core.Path.{_≡_, sym, _∙_}
-use mathlib.Core.Bool.{true}
+use mathlib.Core.Bool.{true, false, _&&_}
 use borrow.Author.Tests.{not-true, not-false}
 use Rattle.layout.specs.Lists.{all}
 use Rattle.layout.specs.Patterns.{patterns, readPatterns, endsRight}
-use Rattle.layout.specs.Checks.{patternsRead, treeRight}
+use Rattle.layout.specs.Checks.{patternsRead, treeRight, cliquesRight}
+use Rattle.layout.proofs.Tests.{and-true}
+use lib.Dec.{lit<}
 use Rattle.checks.proofs.Order.{read-ends}
 use Rattle.checks.proofs.refuse_patterns.Statement.{statement}
 use Rattle.checks.proofs.refuse_patterns.Tie as tie
@@ -12,7 +14,7 @@ check-patterns-requires : tie.Need-check-patterns-requires
 check-patterns-requires c κs = tt
 
 returns : tie.Need-returns
-returns c = rw (sym (c .before .check-patterns .ensures) ∙ not-true _ (c .if1 .taken))
+returns c = let fails = sym (c .before .check-patterns .ensures) ∙ not-true _ (c .if1 .taken) in (rw fails, lit< tt)
 
 read-whole : (c : tie.Else1) → let s = c .before .before .before .before in
     patternsRead (s .args .cones .now) (s .args .count) (s .args .words .now) ≡ true
@@ -28,20 +30,24 @@ trees-right-requires : tie.Need-trees-right-requires
 trees-right-requires c κs = ends c
 
 returns-2 : tie.Need-returns-2
-returns-2 c = rw (read-whole (c .before .before), sym (c .before .trees-right .ensures) ∙ not-true _ (c .if2 .taken))
+returns-2 c = let fails = sym (c .before .trees-right .ensures) ∙ not-true _ (c .if2 .taken) in (rw (read-whole (c .before .before), fails), lit< tt)
 
 all-trees : (c : tie.Else2) → let s = c .before .before .before .before .before .before in
     all treeRight (patterns (s .args .count) (s .args .words .now)) ≡ true
 all-trees c = sym (c .before .trees-right .ensures) ∙ not-false _ (c .if2 .left)
 
-all-cliques-right-requires : tie.Need-all-cliques-right-requires
-all-cliques-right-requires c κs = ends (c .before .before)
+-- the others pass
+cliques-fail : (c : tie.Else2) → let s = c .before .before .before .before .before .before in
+    all cliquesRight (patterns (s .args .count) (s .args .words .now)) ≡ false
+cliques-fail c =
+    let s = c .before .before .before .before .before .before in
+    let read = patternsRead (s .args .cones .now) (s .args .count) (s .args .words .now) in
+    let trees = all treeRight (patterns (s .args .count) (s .args .words .now)) in
+    let both : (read && trees) ≡ true = rw (read-whole (c .before .before)) (all-trees c) in
+    sym (and-true (read && trees) (all cliquesRight (patterns (s .args .count) (s .args .words .now))) both) ∙ s .pre
 
 returns-3 : tie.Need-returns-3
-returns-3 c = rw (read-whole (c .before .before .before .before), all-trees (c .before .before), sym (c .before .all-cliques-right .ensures) ∙ not-true _ (c .if3 .taken))
-
-returns-4 : tie.Need-returns-4
-returns-4 c = rw (read-whole (c .before .before .before .before), all-trees (c .before .before), sym (c .before .all-cliques-right .ensures) ∙ not-false _ (c .if3 .left))
+returns-3 c = (rw (read-whole (c .before .before), all-trees c, cliques-fail c), lit< tt)
 
 pub refuse-patterns-spec : {M : Type 1} → statement M
 refuse-patterns-spec =
@@ -51,6 +57,4 @@ refuse-patterns-spec =
     returns
     trees-right-requires
     returns-2
-    all-cliques-right-requires
-    returns-3
-    returns-4)
+    returns-3)

@@ -4,7 +4,7 @@ use Rattle.clique_tree.proofs.cliques_right.Statement.{statement}
 use Rattle.clique_tree.proofs.cliques_right.Tie as tie
 
 here-requires : tie.Need-here-requires
-here-requires c κs = let s = c .before in head-of-whole (drop (s .args .at) (s .args .words .now)) (s .pre)
+here-requires c κs = let s = c .before in head-of-whole (drop (s .args .at) (s .args .words .now)) (s .pre .0)
 
 few-cliques-right-requires : tie.Need-few-cliques-right-requires
 few-cliques-right-requires c κs = c .before .before .before .before .pre

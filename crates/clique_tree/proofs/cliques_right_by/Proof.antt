@@ -1,13 +1,15 @@
+use Rattle.clique_tree.proofs.Trees.{separators-below}
+use Rattle.layout.specs.Patterns.{withCliques}
 use Rattle.supernode_tree.proofs.Cliques.{head-of-whole, cliques-of-whole, pattern-head}
-use Rattle.clique_tree.specs.Trees.{snodesOk, separatorsOk}
+use Rattle.clique_tree.specs.Trees.{snodesOk, separatorsOk, separatorsBelow}
 use Rattle.supernode_tree.specs.Reads.{patternAt, headOf, Whole, cliquesFrom}
-use Rattle.layout.specs.Checks.{cliquesRight}
+use Rattle.layout.specs.Checks.{treeRight, cliquesRight}
 use Rattle.layout.proofs.Tests.{and-true, and-false}
 use Prim.Native.Nat.{ℕ, _≤_}
 use lib.ListN.{drop}
 use borrow.Author.Tests.{not-true, not-false}
 use mathlib.Core.Path.{_≡_, sym, ap, _∙_}
-use mathlib.Core.Bool.{_&&_}
+use mathlib.Core.Bool.{true, _&&_}
 use Rattle.clique_tree.proofs.cliques_right_by.Statement.{statement}
 use Rattle.clique_tree.proofs.cliques_right_by.Tie as tie
 
@@ -17,7 +19,7 @@ module _ (c : tie.After-here) where
   whole-at =
       let s = c .before .before .before .before in
       let ws = s .args .words .now in
-      cliques-of-whole (drop (s .args .at) ws) (headOf ws (c .here .result)) _ (sym (c .here .ensures .0)) (s .pre .0)
+      cliques-of-whole (drop (s .args .at) ws) (headOf ws (c .here .result)) _ (sym (c .here .ensures .0)) (s .pre .0 .0)
 
   -- and the check is two tests of them
   right-at : let s = c .before .before .before .before in
@@ -29,12 +31,24 @@ module _ (c : tie.After-here) where
       let s = c .before .before .before .before in
       let ws = s .args .words .now in
       let p = c .here .result in
-      ap cliquesRight (pattern-head ws (s .args .at) (headOf ws p) (p .cliques) (sym (c .here .ensures .0)) (s .pre .0))
+      ap cliquesRight (pattern-head ws (s .args .at) (headOf ws p) (p .cliques) (sym (c .here .ensures .0)) (s .pre .0 .0))
+
+  -- of which the second needs no member that is not a vertex
+  below-at : let s = c .before .before .before .before in
+      let p = c .here .result in
+      let cs = cliquesFrom (s .args .words .now) (p .cliques) (p .«clique_count») in
+      snodesOk (p .«vertex_count») cs ≡ true → separatorsBelow (p .«vertex_count») cs ≡ separatorsOk cs
+  below-at snodes =
+      let s = c .before .before .before .before in
+      let ws = s .args .words .now in
+      let p = c .here .result in
+      separators-below (withCliques (headOf ws p) (cliquesFrom ws (p .cliques) (p .«clique_count»)))
+      (sym (ap treeRight (pattern-head ws (s .args .at) (headOf ws p) (p .cliques) (sym (c .here .ensures .0)) (s .pre .0 .0))) ∙ s .pre .0 .1) snodes
 
 here-requires : tie.Need-here-requires
 here-requires c κs =
     let s = c .before .before .before in
-    head-of-whole (drop (s .args .at) (s .args .words .now)) (s .pre .0)
+    head-of-whole (drop (s .args .at) (s .args .words .now)) (s .pre .0 .0)
 
 snodes-right-requires : tie.Need-snodes-right-requires
 snodes-right-requires c κs =
@@ -73,7 +87,9 @@ returns-2 c =
     let q = c .before .before .before .before in
     let e = q .before .before .before in
     let r = e .before .before .before in
-    q .separators-right .ensures ∙ sym (right-at (r .before .before) ∙ and-true _ _ (sym (r .snodes-right .ensures) ∙ not-false _ (e .if1 .left)))
+    let h = r .before .before in
+    let snodes = sym (r .snodes-right .ensures) ∙ not-false _ (e .if1 .left) in
+    q .separators-right .ensures ∙ below-at h snodes ∙ sym (right-at (r .before .before) ∙ and-true _ _ (sym (r .snodes-right .ensures) ∙ not-false _ (e .if1 .left)))
 
 pub cliques-right-by-spec : {M : Type 1} → statement M
 cliques-right-by-spec =

@@ -9,8 +9,8 @@ use Rattle.layout.specs.Lists.{all}
 use Rattle.layout.specs.Patterns.{Clique, noClique, members}
 use Rattle.supernode_tree.specs.Reads.{Whole, cliquesFrom, cliqueOf}
 use Rattle.supernode_tree.proofs.Cliques.{first-whole, whole-next, from-none, separator-part, clique-stops, clique-goes, starts-before}
-use Rattle.vertex_set.specs.OnceIn.{onceIn}
-use Rattle.clique_tree.specs.Trees.{separatorOk}
+use Rattle.vertex_set.specs.OnceIn.{onceBelowIn}
+use Rattle.clique_tree.specs.Trees.{separatorBelow}
 use native.Mathlib.Omega.{arith}
 use Rattle.clique_tree.proofs.separators_by.Statement.{statement}
 use Rattle.clique_tree.proofs.separators_by.Tie as tie
@@ -18,8 +18,8 @@ use Rattle.clique_tree.proofs.separators_by.Tie as tie
 abbrev Inv-loop : tie.InvT-loop
 Inv-loop words first count n step offsets marks₀ at₀ left₀ marks at left =
     Whole words at left
-    × (all (λ (c : Clique). separatorOk (cliquesFrom words first count) (c .parent) (c .separator)) (cliquesFrom words first count)
-    ≡ all (λ (c : Clique). separatorOk (cliquesFrom words first count) (c .parent) (c .separator)) (cliquesFrom words at left))
+    × (all (λ (c : Clique). separatorBelow n (cliquesFrom words first count) (c .parent) (c .separator)) (cliquesFrom words first count)
+    ≡ all (λ (c : Clique). separatorBelow n (cliquesFrom words first count) (c .parent) (c .separator)) (cliquesFrom words at left))
     × (length marks ≡ length marks₀)
 
 abbrev μ-loop : tie.MeasureT-loop
@@ -29,7 +29,7 @@ abbrev μ-loop : tie.MeasureT-loop
 abbrev right : tie.After-here Inv-loop μ-loop → Clique → Bool
 right k q =
     let s = k .before .before .before .before .before .before in
-    separatorOk (cliquesFrom (s .args .words .now) (s .args .first) (s .args .count)) (q .parent) (q .separator)
+    separatorBelow (s .args .n) (cliquesFrom (s .args .words .now) (s .args .first) (s .args .count)) (q .parent) (q .separator)
 
 -- a clique was read, and its separator looked at
 looked : (c : tie.After-separator-right Inv-loop μ-loop)
@@ -43,8 +43,8 @@ looked c =
     let q = k .here .result in
     let inside = k .here .ensures .1 in
     c .separator-right .ensures
-    ∙ ap (λ (ms : List ℕ). onceIn ms (take (q .next - q .separator) (drop (q .separator) ws))) (c .before .before .members-by .ensures .0)
-    ∙ ap (onceIn (members (getD (cliquesFrom ws (s .args .first) (s .args .count)) (q .parent) noClique))) (separator-part ws (l .loop .at) q inside)
+    ∙ ap (λ (ms : List ℕ). onceBelowIn (s .args .n) ms (take (q .next - q .separator) (drop (q .separator) ws))) (c .before .before .members-by .ensures .0)
+    ∙ ap (onceBelowIn (s .args .n) (members (getD (cliquesFrom ws (s .args .first) (s .args .count)) (q .parent) noClique))) (separator-part ws (l .loop .at) q inside)
 
 loop-holds : tie.Need-loop-holds Inv-loop μ-loop
 loop-holds c = (c .before .before .before .pre .0, refl, refl)
@@ -100,7 +100,7 @@ returns-2 c =
     let l = c .before in
     let s = l .before .before .before .before in
     let cs = cliquesFrom (s .args .words .now) (s .args .first) (s .args .count) in
-    sym (l .loop .inv .1 ∙ ap (all (λ (q : Clique). separatorOk cs (q .parent) (q .separator))) (from-none (s .args .words .now) (l .loop .at) (l .loop .left) (c .loop-test .left)))
+    sym (l .loop .inv .1 ∙ ap (all (λ (q : Clique). separatorBelow (s .args .n) cs (q .parent) (q .separator))) (from-none (s .args .words .now) (l .loop .at) (l .loop .left) (c .loop-test .left)))
 
 pub separators-by-spec : {M : Type 1} → statement M
 separators-by-spec =

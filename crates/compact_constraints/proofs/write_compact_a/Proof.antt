@@ -40,7 +40,7 @@ returns-2 c = c .before .before .before .before .before .before .before .before 
 with-small-tables-requires : tie.Need-with-small-tables-requires
 with-small-tables-requires c κs =
     let s = c .before .before .before .before .before .before .before .before .before .before .before .before .before .before .before .before in
-    (s .pre .0, (s .pre .1 .0, (s .pre .1 .1, (c .before .before .before .before .before .if1 .left, c .before .before .before .before .if2 .left))))
+    (s .pre, (c .before .before .before .before .before .if1 .left, c .before .before .before .before .if2 .left))
 
 same-length-9 : tie.Need-same-length-9
 same-length-9 c = c .before .before .before .before .before .before .before .before .with-small-tables .kept .1 .1 .1 .1 .1 .1 .1 .1 .1 .1 .1 .0

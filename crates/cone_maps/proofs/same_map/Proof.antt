@@ -28,7 +28,8 @@ use Rattle.layout.specs.Compact.{wholeCone, coneMap}
 use Rattle.layout.specs.Answers.{joinedParts}
 use Rattle.cone_map.specs.declared.ConeMapEntry.{ConeMapEntry}
 use Rattle.cone_map.specs.declared.MapPlace.{MapPlace}
-use Rattle.cone_map.specs.Entries.{meant, structOf, sameMap}
+use Rattle.layout.specs.Calls.JoinEntries.{sameMap}
+use Rattle.cone_map.specs.Entries.{meant, structOf}
 use Rattle.cone_map.specs.Walking.{agreed, Compares}
 use Rattle.cone_map.proofs.Walking.{accepted}
 use Rattle.cone_maps.proofs.Entries.{agree-start, agree-next, agree-end}

@@ -1,17 +1,19 @@
 use Rattle.augment_standard.proofs.Constraints.{sound, room-starts}
+use Rattle.constraints.proofs.Routes.{room-compact}
 use Rattle.constraints.proofs.decomp_augment_compact.Statement.{statement}
 use Rattle.constraints.proofs.decomp_augment_compact.Tie as tie
 
 write-compact-a-requires : tie.Need-write-compact-a-requires
 write-compact-a-requires c κs =
     let s = c .before .before .before .before .before .before .before .before .before .before .before .before .before .before .before in
-    let room = s .pre .1 .1 in
-    (s .pre .0, (s .pre .1 .0, (room-starts (s .pre .0) (s .args .k) _ (room .0), room .1, room .2, room .3)))
+    let f = s .pre .0 in
+    let e = s .pre .1 in
+    record { accepted = f .accepted; blocks = e; overlaps = f .added; starts = room-starts (f .accepted) (s .args .k) _ (f .starts); entries = f .rows; values = f .values; slacks = room-compact _ e (f .slacks) }
 
 write-table-requires : tie.Need-write-table-requires
 write-table-requires c κs =
     let s = c .before .before .before .before .before .before .before .before .before .before .before .before .before .before .before .before .before .before .before .before .before .before .before .before .before in
-    (sound (s .pre .0), (tt, s .pre .1 .1 .4))
+    (sound (s .pre .0 .accepted), (tt, s .pre .0 .cones))
 
 same-length : tie.Need-same-length
 same-length c = c .before .before .before .before .before .before .before .before .before .before .before .before .write-compact-a .kept .1 .1 .1 .1 .1 .1 .1 .1 .1 .1 .1 .0
@@ -31,7 +33,7 @@ same-length-5 c = c .before .before .write-table .kept .1 .1 .1 .1 .1 .0
 returns : tie.Need-returns
 returns c =
     let w = c .before .before .before .before .before .before .before .before .before .before .before .before .write-compact-a .ensures in
-    (w .0, (w .1 .0, (w .1 .1 .0, (w .1 .1 .1, c .before .before .write-table .ensures .1))))
+    record { a-starts = w .a-starts; a-rows = w .a-rows; a-values = w .a-values; b = w .b; cones = c .before .before .write-table .ensures .1 }
 
 pub decomp-augment-compact-spec : {M : Type 1} → statement M
 decomp-augment-compact-spec =

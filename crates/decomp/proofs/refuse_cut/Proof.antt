@@ -24,7 +24,7 @@ returns : tie.Need-returns
 returns c =
     let k = c .before .before in
     let s = start k in
-    sizes-first (given s) (s .args .rooms .now) (s .args .route) (k .sizes .result) (k .sizes .ensures .0) (c .if1 .taken)
+    sizes-first (given s) (s .args .rooms .now) (s .args .route) (k .sizes .result) (k .sizes .ensures .number) (c .if1 .taken)
 
 slice-aggregate-check-rooms : tie.Need-slice-aggregate-check-rooms
 slice-aggregate-check-rooms c = search needs
@@ -38,7 +38,7 @@ returns-2 c =
     let k = e .before .before in
     let s = start k in
     c .check-rooms .ensures
-    ∙ rooms-next (given s) (s .args .rooms .now) (s .args .route) (k .sizes .result) _ (k .sizes .ensures .0) (e .if1 .left) (k .sizes .ensures .1)
+    ∙ rooms-next (given s) (s .args .rooms .now) (s .args .route) (k .sizes .result) _ (k .sizes .ensures .number) (e .if1 .left) (k .sizes .ensures .out)
 
 pub refuse-cut-spec : {M : Type 1} → statement M
 refuse-cut-spec =

@@ -27,7 +27,7 @@ abbrev start : tie.Else1 → tie.Start
 start c = c .before .before .before .before .before .before .before .before .before .before .before .before .before
 
 returns : tie.Need-returns
-returns c = (sym (no-route _ _ (c .if1 .taken)), refl)
+returns c = record { number = sym (no-route _ _ (c .if1 .taken)); out = refl }
 
 check-problem-requires : tie.Need-check-problem-requires
 check-problem-requires c κs = tt
@@ -35,10 +35,10 @@ check-problem-requires c κs = tt
 returns-2 : tie.Need-returns-2
 returns-2 c =
     let k = c .before in
-    let s = start (k .before) in (
-      stopped-early (s .args .route) (given s) (length (s .args .out .now)) (k .before .if1 .left) (k .check-problem .result) (k .check-problem .ensures) (c .if2 .taken),
-      output-kept (k .check-problem .result) _ (s .args .out .now) (c .if2 .taken),
-    )
+    let s = start (k .before) in record {
+      number = stopped-early (s .args .route) (given s) (length (s .args .out .now)) (k .before .if1 .left) (k .check-problem .result) (k .check-problem .ensures) (c .if2 .taken);
+      out = output-kept (k .check-problem .result) _ (s .args .out .now) (c .if2 .taken);
+    }
 
 -- checks 1 to 7 passed
 seven : (c : tie.Else2) → problemRefusal (given (start (c .before .before))) ≡ 0
@@ -66,10 +66,10 @@ returns-3 : tie.Need-returns-3
 returns-3 c =
     let k = c .before in
     let e = k .before .before in
-    let s = start (e .before .before) in (
-      stopped-late (s .args .route) (given s) (length (s .args .out .now)) (e .before .before .if1 .left) (k .check-route .result) (seven e) (k .check-route .ensures) (c .if3 .taken),
-      output-kept (k .check-route .result) _ (s .args .out .now) (c .if3 .taken),
-    )
+    let s = start (e .before .before) in record {
+      number = stopped-late (s .args .route) (given s) (length (s .args .out .now)) (e .before .before .if1 .left) (k .check-route .result) (seven e) (k .check-route .ensures) (c .if3 .taken);
+      out = output-kept (k .check-route .result) _ (s .args .out .now) (c .if3 .taken);
+    }
 
 ok : (c : tie.Else3) → let s = start (c .before .before .before .before .before) in refusal (routeOf (s .args .route)) (given s) ≡ 0
 ok c =
@@ -82,7 +82,7 @@ returns-4 c =
     let k = c .before in
     let e = k .before .before .before .before .before in
     let s = start e in
-    (sym (by-room (s .args .route) (given s) (length (s .args .out .now)) (e .if1 .left) (ok k) ∙ rw (lt-leb 11 (length (s .args .out .now)) (c .if4 .taken))), refl)
+    record { number = sym (by-room (s .args .route) (given s) (length (s .args .out .now)) (e .if1 .left) (ok k) ∙ rw (lt-leb 11 (length (s .args .out .now)) (c .if4 .taken))); out = refl }
 
 cast-p-entries : tie.Need-cast-p-entries
 cast-p-entries c = fits-u32 _ (checked (c .before .before .before .before) .fewEntriesP)
@@ -116,10 +116,10 @@ returns-5 c =
     let e = d .before .before .before in
     let s = start e in
     let r = d .get-decomposed-dim-and-overlaps .result in
-    let g = d .get-decomposed-dim-and-overlaps .ensures in (
-      sym (by-room (s .args .route) (given s) (length (s .args .out .now)) (e .if1 .left) (ok k) ∙ rw (le-leb 11 (length (s .args .out .now)) (w .before .before .if4 .left))),
-      sizes-written (routeOf (s .args .route)) (given s) (ok k) (r .rows) (r .overlaps) (r .cones) (g .0) (g .1 .0) (g .1 .1) (s .args .out .now) (w .write-sizes .ensures),
-    )
+    let g = d .get-decomposed-dim-and-overlaps .ensures in record {
+      number = sym (by-room (s .args .route) (given s) (length (s .args .out .now)) (e .if1 .left) (ok k) ∙ rw (le-leb 11 (length (s .args .out .now)) (w .before .before .if4 .left)));
+      out = sizes-written (routeOf (s .args .route)) (given s) (ok k) (r .rows) (r .overlaps) (r .cones) (g .0) (g .1 .0) (g .1 .1) (s .args .out .now) (w .write-sizes .ensures);
+    }
 
 pub sizes-spec : {M : Type 1} → statement M
 sizes-spec =

@@ -4,7 +4,7 @@
 use mathlib.Core.Path.{_≡_, refl, sym, _∙_}
 use Prim.Native.Nat.{ℕ, _*_, _<_, _^_}
 use mathlib.Core.List.{List, [], _∷_, _++_, map}
-use lib.ListN.{length, take, drop, replicate}
+use lib.ListN.{take, drop}
 use mir.Syntax.{named, w32}
 use mir.Val.{vint}
 use base.Logic.{ent, id⊢}
@@ -14,16 +14,18 @@ use types.Run.{look, of-opd, returns}
 use denote.Ref.{RefT}
 use denote.Signature.{plain}
 use denote.Builtin.{u32, f64}
-use Rattle.layout.specs.Problem.{Problem, problem, compact, zero64}
+use Rattle.layout.specs.Problem.{Problem, problem, compact}
 use Rattle.layout.specs.Blocks.{overlapCount}
 use Rattle.layout.specs.Checks.{layout}
-use Rattle.layout.specs.Compact.{extendedP, compactA, compactB, compactCones, coneMap}
-use Rattle.layout.specs.Answers.{output, cutRefusal}
+use Rattle.layout.specs.Compact.{coneMap}
+use Rattle.layout.specs.Answers.{output, augmented, cutRefusal}
+use Rattle.layout.specs.Calls.Cut.{objective, HoldsObjective, constrained, constrainedOf, HoldsConstrained}
+use Rattle.augment.specs.Fits.{extended}
 use Rattle.by_hand.proofs.World.{World, Function, Callee}
-use Rattle.by_hand.proofs.Stars.{stars, shared-slice, had-twice, padded, parts-said, joins-said, fact-of, and-fact}
+use Rattle.by_hand.proofs.Stars.{stars, shared-slice, had-twice, padded, parts-said, joins-said, fact-of}
 use Rattle.by_hand.proofs.Values.{u32s, usizes, nothings, u32-of, usize-of, number, size, slice}
 use Rattle.by_hand.proofs.Places.{span, lft}
-use Rattle.by_hand.proofs.Outputs.{Output, Lists, lefts, lengths, units, after}
+use Rattle.by_hand.proofs.Outputs.{Output, Lists, lefts, units, after}
 use Rattle.by_hand.proofs.Params.{Param, handed-number, handed-shared, handed-lent}
 use Rattle.by_hand.proofs.Locals.{value, sets, lands-in, lands-over, free-all}
 use Rattle.by_hand.proofs.Operands.{loads}
@@ -33,8 +35,9 @@ use Rattle.by_hand.proofs.Walking.{Walked, Here, toks, outs, arg, known-of, arg
 use Rattle.cone_map.specs.declared.ConeMapEntry.{ConeMapEntry}
 use Rattle.cone_map.specs.Entries.{structOf}
 use Rattle.cone_map.proofs.ConeMapEntry as E
-use Rattle.decomp_augment.proofs.Rooms.{only, starts-A, rows-A, values-A, same-b, same-cones, starts-P, costs-q}
-use Rattle.decomp_augment_entries.proofs.Rooms.{same-output, constraints-fit, objective-fits, map-fits}
+use Rattle.decomp_augment.proofs.Rooms.{only, uncut}
+use Rattle.decomp_augment_entries.proofs.Rooms.{objective-cut-by, constraints-fit, objective-fits, map-fits}
+use Rattle.layout.specs.Calls.CutEntries.{EntryTables, entryOutputs, entryRooms}
 use Rattle.cone_maps.proofs.write_map as write-of
 use Rattle.cone_maps.proofs.write_map.Symbol as write-def
 use Rattle.cone_maps.proofs.write_map.Met as write-thm
@@ -83,8 +86,8 @@ module _ (h : Here this) where
   abbrev map-out : RefT (List ConeMapEntry)
   map-out = arg h 24
 
-  abbrev rooms : List ℕ
-  rooms = lengths (take 10 (outs h)) ++ (length (map-out .now) * 3 ∷ [])
+  abbrev old : EntryTables ConeMapEntry
+  old = entryOutputs (arg h 14 .now) (arg h 15 .now) (arg h 16 .now) (arg h 17 .now) (arg h 18 .now) (arg h 19 .now) (arg h 20 .now) (arg h 21 .now) (arg h 22 .now) (arg h 23 .now) (map-out .now)
 
   -- ---- the call of `refuse_cut_compact`
 
@@ -115,12 +118,10 @@ module _ (h : Here this) where
     a-owned = u32-of r ∷ owned-at h a-args
 
     -- what it ensures: the columns that it added, k, and the outputs' last values
-    abbrev Constrained : ℕ → Lists a-outs → Type 0
-    Constrained k ws =
+    abbrev Constrains : ℕ → Lists a-outs → Type 0
+    Constrains k ws =
         let (w₀, (w₁, (w₂, (w₃, (w₄, _))))) = ws in
-        (r ≡ 0 → k ≡ overlapCount (layout given))
-        × (w₀ ≡ output r (compactA (only given) .starts) (arg h 18 .now)) × (w₁ ≡ output r (compactA (only given) .rows) (arg h 19 .now)) × (w₂ ≡ output r (compactA (only given) .values) (arg h 20 .now))
-        × (w₃ ≡ output r (compactB (only given)) (arg h 21 .now)) × (w₄ ≡ output r (compactCones (only given)) (arg h 22 .now))
+        (r ≡ 0 → k ≡ overlapCount (layout given)) × HoldsConstrained r (constrainedOf (augmented compact (only given))) (old .constrained) (constrained w₀ w₁ w₂ w₃ w₄)
 
     -- ---- the call of `cut_objective`, with k columns
 
@@ -139,11 +140,10 @@ module _ (h : Here this) where
     abbrev p-owned : ℕ → List Fml
     p-owned k = u32-of r ∷ usize-of k ∷ owned-at h p-args
 
-    abbrev Extended : ℕ → Lists p-outs → Type 0
-    Extended k ws =
+    abbrev Extends : ℕ → Lists p-outs → Type 0
+    Extends k ws =
         let (w₀, (w₁, (w₂, (w₃, (w₄, _))))) = ws in
-        (w₀ ≡ output r (extendedP k (given .P) .starts) (arg h 14 .now)) × (w₁ ≡ output r (given .P .rows) (arg h 15 .now)) × (w₂ ≡ output r (given .P .values) (arg h 16 .now))
-        × (w₃ ≡ output r (given .q ++ replicate k zero64) (arg h 17 .now)) × (w₄ ≡ output r (given .alphas) (arg h 23 .now))
+        HoldsObjective r (extended k (uncut given)) (old .objective) (objective w₀ w₁ w₂ w₃ w₄)
 
     -- ---- the call of `write_map`
 
@@ -177,13 +177,11 @@ module _ (h : Here this) where
           let (p₀, (p₁, (p₂, (p₃, (p₄, _))))) = after 8 vs in
           (p₀, (p₁, (p₂, (p₃, (a₀, (a₁, (a₂, (a₃, (a₄, (p₄, after 5 ws))))))))))
 
-      exits : r < 2 ^ 32 → r ≡ cutRefusal compact given rooms → Constrained k (after 10 us) → Extended k (after 8 vs) → Written (after 5 ws) → ent 𝓤 (⋆ 𝓤 H A Done) (Returned h (vint w32 r))
+      exits : r < 2 ^ 32 → r ≡ cutRefusal compact given (entryRooms old) → Constrains k (after 10 us) → Extends k (after 8 vs) → Written (after 5 ws) → ent 𝓤 (⋆ 𝓤 H A Done) (Returned h (vint w32 r))
       exits fits e c x m =
           qed W Done ∵ move ! (span 4 4 ++ (span 15 4 ++ (0 ∷ 8 ∷ 1 ∷ (span 9 4 ++ (span 19 5 ++ (13 ∷ 2 ∷ [])))))) $
           ends-in h ! u32s r (refl, fits) r (units 14 ends) (units 25 tt) (padded 14 (stars (lefts (outs h) ends))) (refl, refl)
-          (and-fact 𝓤 e (and-fact 𝓤 (x .0 ∙ same-output r (arg h 14 .now) (λ z. starts-P given compact k (c .0 z))) (and-fact 𝓤 (x .1) (and-fact 𝓤 (x .2)
-          (and-fact 𝓤 (x .3 ∙ same-output r (arg h 17 .now) (λ z. costs-q given compact k (c .0 z))) (and-fact 𝓤 (c .1 ∙ same-output r (arg h 18 .now) (λ _. starts-A given compact)) (and-fact 𝓤 (c .2 ∙ same-output r (arg h 19 .now) (λ _. rows-A given compact))
-          (and-fact 𝓤 (c .3 ∙ same-output r (arg h 20 .now) (λ _. values-A given compact)) (and-fact 𝓤 (c .4 ∙ same-output r (arg h 21 .now) (λ _. same-b given compact)) (and-fact 𝓤 (c .5 ∙ same-output r (arg h 22 .now) (λ _. same-cones given compact)) (and-fact 𝓤 (x .4) (fact-of 𝓤 m)))))))))))) $
+          (fact-of 𝓤 (record { number = e; objective = objective-cut-by given r k (c .0) x; constrained = c .1; entries = m })) $
           -- [what `write_map`, `cut_objective` and `cut_constraints` say]
           parts-said [] ! ((5, lefts (drop 10 (outs h)) (after 5 ws)) ∷ (8, lefts p-outs (after 8 vs)) ∷ (10, lefts a-outs (after 10 us)) ∷ []) $
           move ! (span 1 4 ++ (span 6 5 ++ (5 ∷ 0 ∷ []))) $ joins-said [] ! 14 (lefts (outs h) ends) $ done !
@@ -194,22 +192,22 @@ module _ (h : Here this) where
       measures ! 2 (outs h) 15 28 refl refl $ taken-apart h _ ! $
       -- [n; m; the inputs but count; the outputs; the tokens; _0; …]: local i at 47 + 2 * i
       move ! (span 25 11 ++ (span 2 10 ++ (13 ∷ []))) $
-      calls-lent (h .w) refuse-cut-compact (to-call h (span 0 11) (denoted refuse-args) (vals refuse-args), tt) (toks h (span 0 11)) refuse-args _ ! (h .cited .0) (refl, refl) (id⊢ 𝓤 _) u32s (λ r. r ≡ cutRefusal compact given rooms) refl (loads ! 37 tt refl) (λ r e is.
+      calls-lent (h .w) refuse-cut-compact (to-call h (span 0 11) (denoted refuse-args) (vals refuse-args), tt) (toks h (span 0 11)) refuse-args _ ! (h .cited .0) (refl, refl) (id⊢ 𝓤 _) u32s (λ r. r ≡ cutRefusal compact given (entryRooms old)) refl (loads ! 37 tt refl) (λ r e is.
       lands-in ! u32s r is 99 refl refl $ lends ! 47 (a-outs r) 19 39 refl refl $
       -- [the inputs' tokens; the inputs' slices; n; m; count; the outputs; the outputs' tokens; _0; …]
       move ! (19 ∷ 21 ∷ []) $ had-twice _ ! (shared-slice (named 8) (lft 22 (h .κs) 8) u32 (arg h 10) (slice (arg h 10) ∷ []) ∷ shared-slice (named 10) (lft 22 (h .κs) 10) u32 (arg h 13) (slice (arg h 13) ∷ []) ∷ []) $ number ! r (is .1) $
       -- [refused; cones; words; cones; words; the inputs' tokens; the other slices; n; m; count; the outputs; the outputs' tokens; _0; …]
       move ! (span 9 5 ++ (15 ∷ (span 43 5 ++ (0 ∷ 25 ∷ 26 ∷ (span 20 4 ++ (1 ∷ 27 ∷ 2 ∷ span 32 5)))))) $
-      calls-handing (h .w) cut-constraints (to-constraints r) ! (h .cited .1 .0) (toks h (a-lifetimes r)) (a-owned r) (refl, refl) (fact-of 𝓤 (λ z. constraints-fit given rooms (sym e ∙ z))) usizes (λ k us. Constrained r k (after 10 us)) refl (loads ! 25 tt refl) (λ k us told kis.
+      calls-handing (h .w) cut-constraints (to-constraints r) ! (h .cited .1 .0) (toks h (a-lifetimes r)) (a-owned r) (refl, refl) (fact-of 𝓤 (λ z. constraints-fit given old (sym e ∙ z))) usizes (λ k us. Constrains r k (after 10 us)) refl (loads ! 25 tt refl) (λ k us told kis.
       -- [its tokens; what it says; cones; words; the other tokens of inputs; P, q and the exponents; the other outputs; their tokens; _0; …]: local i at 36 + 2 * i
       lands-in ! usizes k kis 90 refl refl $ lends ! 36 (take 4 (outs h)) 15 50 refl refl $ lends ! 36 (take 1 (drop 9 (outs h))) 24 58 refl refl $
       number ! (arg h 0) (known-of h 0 .1) $ size ! k (kis .1) $ number ! r (is .1) $
       move ! (span 17 5 ++ (span 33 5 ++ (0 ∷ 1 ∷ 2 ∷ (span 22 5 ++ span 27 5)))) $
-      calls-handing (h .w) cut-objective (to-objective r k) ! (h .cited .1 .1 .0) (toks h (p-lifetimes r)) (p-owned r k) (refl, refl) (fact-of 𝓤 (λ z. objective-fits given rooms (sym e ∙ z) k (told .0 z))) nothings (λ _ vs. Extended r k (after 8 vs)) refl (loads ! 17 tt refl) (λ _ vs extended _.
+      calls-handing (h .w) cut-objective (to-objective r k) ! (h .cited .1 .1 .0) (toks h (p-lifetimes r)) (p-owned r k) (refl, refl) (fact-of 𝓤 (λ z. objective-fits given old (sym e ∙ z) k (told .0 z))) nothings (λ _ vs. Extends r k (after 8 vs)) refl (loads ! 17 tt refl) (λ _ vs extended _.
       -- [its tokens; what it says; the tokens of `cut_constraints`; what that says; cones; words; the map; its token; _0; …]: local i at 27 + 2 * i
       lands-in ! nothings tt refl 125 refl refl $ lends ! 27 (drop 10 (outs h)) 25 60 refl refl $
       number ! (arg h 12) (known-of h 12 .1) $ number ! (arg h 1) (known-of h 1 .1) $ number ! r (is .1) $ move ! (18 ∷ 19 ∷ 29 ∷ 0 ∷ 1 ∷ 26 ∷ 2 ∷ 27 ∷ 28 ∷ []) $
-      calls-handing (h .w) write-map (to-write r) ! (h .cited .1 .1 .1 .0) (toks h (map-lifetimes r)) (map-owned r) (refl, refl) (fact-of 𝓤 (λ z. map-fits given rooms (sym e ∙ z) (length (map-out .now)) refl)) nothings (λ _ ws. Written r (after 5 ws)) refl (loads ! 22 tt refl) (λ _ ws written-map _.
+      calls-handing (h .w) write-map (to-write r) ! (h .cited .1 .1 .1 .0) (toks h (map-lifetimes r)) (map-owned r) (refl, refl) (fact-of 𝓤 (λ z. map-fits given old (sym e ∙ z))) nothings (λ _ ws. Written r (after 5 ws)) refl (loads ! 22 tt refl) (λ _ ws written-map _.
       -- local i at 25 + 2 * i
       lands-over ! nothings tt refl 123 refl refl $ sets ! (of-opd ! (value ! 77 refl)) 25 refl (tt, record { fits = is .1 }) $
       returns ! (look ! 25 refl) $ free-all ! (Done r us k vs ws) (En h bs) refl $ by ! (exits r us k vs ws (is .1) e told extended written-map)))))

@@ -1,23 +1,20 @@
-use Rattle.layout.proofs.Buffers.{output-kept}
+use Rattle.layout.proofs.Promises.{constrained-kept}
 use Rattle.augment_standard.proofs.Constraints.{sound}
-use Rattle.decomp_augment_entries.proofs.Rooms.{put, fit-counted}
+use Rattle.decomp_augment_entries.proofs.Rooms.{constrained-put, fit-counted}
 use Rattle.decomp_augment_entries.proofs.cut_constraints.Statement.{statement}
 use Rattle.decomp_augment_entries.proofs.cut_constraints.Tie as tie
 
 returns : tie.Need-returns
-returns c =
-    let a = c .before .before .before .before .before .before .before .before .before .before .before .before .args in
-    let no = c .if1 .taken in
-    (λ z. absurd (no z), output-kept (a .refused) _ (a .a-starts-out .now) no, output-kept (a .refused) _ (a .a-rows-out .now) no, output-kept (a .refused) _ (a .a-values-out .now) no, output-kept (a .refused) _ (a .b-out .now) no, output-kept (a .refused) _ (a .cones-out .now) no)
+returns c = (λ z. absurd (c .if1 .taken z), constrained-kept (c .before .before .before .before .before .before .before .before .before .before .before .before .args .refused) (c .if1 .taken) _ _)
 
 count-added-requires : tie.Need-count-added-requires
-count-added-requires c κs = sound (c .before .before .before .before .before .before .before .before .before .before .before .before .pre (c .if1 .left) .0)
+count-added-requires c κs = sound (c .before .before .before .before .before .before .before .before .before .before .before .before .pre (c .if1 .left) .accepted)
 
 decomp-augment-compact-requires : tie.Need-decomp-augment-compact-requires
 decomp-augment-compact-requires c κs =
     let g = c .before .before .before .before .before .count-added .ensures in
     let h = c .before .before .before .before .before .before .before .before .before .before .before .before .before .before .before .before .before .before .pre (c .before .before .before .before .before .before .if1 .left) in
-    (h .0, (g, fit-counted _ _ _ _ _ _ g h))
+    (fit-counted (g .1) h, g .0)
 
 same-length : tie.Need-same-length
 same-length c = c .before .before .before .before .before .before .before .before .before .before .decomp-augment-compact .kept .1 .1 .1 .1 .1 .1 .1 .1 .1 .1 .1 .0
@@ -36,11 +33,8 @@ same-length-5 c = c .before .before .before .before .before .before .before .bef
 
 returns-2 : tie.Need-returns-2
 returns-2 c =
-    let a = c .before .before .before .before .before .before .before .before .before .before .before .before .before .before .before .before .before .before .before .before .before .before .before .before .before .before .before .before .before .args in
     let d = c .before .before .before .before .before .before .before .before .before .before .before .before .before .before .before .before in
-    let w = c .before .before .before .before .before .before .before .before .before .before .decomp-augment-compact .ensures in
-    let ok = d .before .if1 .left in
-    (λ _. d .count-added .ensures .1, put _ (a .a-starts-out .now) ok (w .0), put _ (a .a-rows-out .now) ok (w .1 .0), put _ (a .a-values-out .now) ok (w .1 .1 .0), put _ (a .b-out .now) ok (w .1 .1 .1 .0), put _ (a .cones-out .now) ok (w .1 .1 .1 .1))
+    (λ _. d .count-added .ensures .1, constrained-put (d .before .if1 .left) (c .before .before .before .before .before .before .before .before .before .before .decomp-augment-compact .ensures))
 
 pub cut-constraints-spec : {M : Type 1} → statement M
 cut-constraints-spec =

@@ -1,16 +1,13 @@
-use Rattle.layout.proofs.Buffers.{output-kept}
-use Rattle.decomp_augment_entries.proofs.Rooms.{put}
+use Rattle.layout.proofs.Promises.{objective-kept}
+use Rattle.decomp_augment_entries.proofs.Rooms.{objective-put}
 use Rattle.decomp_augment_entries.proofs.cut_objective.Statement.{statement}
 use Rattle.decomp_augment_entries.proofs.cut_objective.Tie as tie
 
 returns : tie.Need-returns
-returns c =
-    let a = c .before .before .before .before .before .before .before .before .before .before .before .args in
-    let no = c .if1 .taken in
-    (output-kept (a .refused) _ (a .p-starts-out .now) no, output-kept (a .refused) _ (a .p-rows-out .now) no, output-kept (a .refused) _ (a .p-values-out .now) no, output-kept (a .refused) _ (a .q-out .now) no, output-kept (a .refused) _ (a .alphas-out .now) no)
+returns c = objective-kept (c .before .before .before .before .before .before .before .before .before .before .before .args .refused) (c .if1 .taken) _ _
 
 write-objective-requires : tie.Need-write-objective-requires
-write-objective-requires c κs = let s = c .before .before .before .before .before .before .before .before .before .before .before .before .before .before .before .before in let h = s .pre (c .before .before .before .before .before .if1 .left) in (h .0, h .1)
+write-objective-requires c κs = c .before .before .before .before .before .before .before .before .before .before .before .before .before .before .before .before .pre (c .before .before .before .before .before .if1 .left)
 
 same-length : tie.Need-same-length
 same-length c = c .before .before .before .before .before .before .before .before .before .before .write-objective .kept .1 .1 .1 .1 .1 .1 .1 .0
@@ -28,11 +25,7 @@ same-length-5 : tie.Need-same-length-5
 same-length-5 c = c .before .before .before .before .before .before .before .before .before .before .write-objective .kept .1 .1 .1 .1 .1 .1 .1 .1 .1 .1 .1 .0
 
 returns-2 : tie.Need-returns-2
-returns-2 c =
-    let a = c .before .before .before .before .before .before .before .before .before .before .before .before .before .before .before .before .before .before .before .before .before .before .before .before .before .before .before .args in
-    let ok = c .before .before .before .before .before .before .before .before .before .before .before .before .before .before .before .before .if1 .left in
-    let w = c .before .before .before .before .before .before .before .before .before .before .write-objective .ensures in
-    (put _ (a .p-starts-out .now) ok (w .0), put _ (a .p-rows-out .now) ok (w .1 .0), put _ (a .p-values-out .now) ok (w .1 .1 .0), put _ (a .q-out .now) ok (w .1 .1 .1 .0), put _ (a .alphas-out .now) ok (w .1 .1 .1 .1))
+returns-2 c = objective-put (c .before .before .before .before .before .before .before .before .before .before .before .before .before .before .before .before .if1 .left) (c .before .before .before .before .before .before .before .before .before .before .write-objective .ensures)
 
 pub cut-objective-spec : {M : Type 1} → statement M
 cut-objective-spec =

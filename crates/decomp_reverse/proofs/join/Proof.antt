@@ -5,8 +5,8 @@ use lib.ListN.{length}
 use lib.Ieee.{Float}
 use Rattle.layout.specs.Lists.{written}
 use Rattle.layout.specs.Problem.{Route, Solution, solution}
-use Rattle.layout.specs.Answers.{output, routeOf, onRoute, joinRefusal}
-use Rattle.layout.proofs.Buffers.{output-kept}
+use Rattle.layout.specs.Answers.{routeOf, onRoute, joinRefusal}
+use Rattle.layout.proofs.Promises.{rejoined-kept}
 use Rattle.reverse.specs.Joined.{Joinable, joinedOf}
 use Rattle.decomp.proofs.Answers.{no-route, on-route}
 use Rattle.decomp_reverse.proofs.Order.{Accepted, as-layout, join-accepted, joined-parts, joined-scalars, by-number}
@@ -14,7 +14,7 @@ use Rattle.decomp_reverse.proofs.join.Statement.{statement}
 use Rattle.decomp_reverse.proofs.join.Tie as tie
 
 returns : tie.Need-returns
-returns c = (sym (no-route _ _ (c .if1 .taken)), (refl, (refl, (refl, refl))))
+returns c = record { number = sym (no-route _ _ (c .if1 .taken)); tables = record { x = refl; s = refl; z = refl; scalars = refl } }
 
 abbrev start : tie.Else1 → tie.Start
 start c = c .before .before .before .before .before .before .before .before .before .before .before
@@ -44,8 +44,7 @@ refuse-join-requires c κs = tt
 returns-2 : tie.Need-returns-2
 returns-2 c =
     let k = c .before in
-    let keeps : (old new : List Float) → old ≡ output (k .refuse-join .result) new old = λ old new. output-kept (k .refuse-join .result) new old (c .if2 .taken) in
-    (answered k ∙ sym (numbered (k .before)), (keeps _ _, (keeps _ _, (keeps _ _, keeps _ _))))
+    record { number = answered k ∙ sym (numbered (k .before)); tables = rejoined-kept (k .refuse-join .result) (c .if2 .taken) _ _ }
 
 -- nothing was refused
 none : (c : tie.Else2) → let s = start (c .before .before) in refused s (routeOf (s .args .route)) ≡ 0
@@ -114,19 +113,15 @@ returns-3 c =
     let parts = joined-parts (a .n) (a .m) (a .cones .now) (a .count) (a .words .now) (a .x .now) (a .s .now) (a .z .now) (a .tau) (a .kappa) rt in
     let scalars =
     joined-scalars (a .n) (a .m) (a .cones .now) (a .count) (a .words .now) (a .x .now) (a .s .now) (a .z .now) (a .tau) (a .kappa) rt
-    (j .result .tau) (j .result .kappa) (j .ensures .0) (j .ensures .1) in (
-      sym (numbered (l .before .before) ∙ none l),
-      (
-        copied d .copy-x .ensures ∙ put (a .x-out .now) _ _ (parts .0),
-        (
-          e .0 ∙ put (a .s-out .now) _ _ (ap (λ (r : Route). on r .s) (by-number (a .route)) ∙ parts .1),
-          (
-            e .1 ∙ put (a .z-out .now) _ _ (ap (λ (r : Route). on r .z) (by-number (a .route)) ∙ parts .2),
-            w .write-scalars .ensures ∙ put (a .scalars-out .now) _ _ scalars,
-          ),
-        ),
-      ),
-    )
+    (j .result .tau) (j .result .kappa) (j .ensures .0) (j .ensures .1) in record {
+      number = sym (numbered (l .before .before) ∙ none l);
+      tables = record {
+        x = copied d .copy-x .ensures ∙ put (a .x-out .now) _ _ (parts .0);
+        s = e .0 ∙ put (a .s-out .now) _ _ (ap (λ (r : Route). on r .s) (by-number (a .route)) ∙ parts .1);
+        z = e .1 ∙ put (a .z-out .now) _ _ (ap (λ (r : Route). on r .z) (by-number (a .route)) ∙ parts .2);
+        scalars = w .write-scalars .ensures ∙ put (a .scalars-out .now) _ _ scalars;
+      };
+    }
 
 pub join-spec : {M : Type 1} → statement M
 join-spec =

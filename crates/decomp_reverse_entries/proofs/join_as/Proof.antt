@@ -5,10 +5,10 @@ use lib.Ieee.{Float}
 use Rattle.layout.specs.Lists.{written}
 use Rattle.layout.specs.Problem.{compact, solution}
 use Rattle.layout.specs.Compact.{coneMap, mapWords}
-use Rattle.layout.specs.Answers.{output, joinedParts}
-use Rattle.layout.proofs.Buffers.{output-kept}
+use Rattle.layout.specs.Answers.{joinedParts}
+use Rattle.layout.proofs.Promises.{rejoined-kept}
 use Rattle.decomp_reverse.proofs.Order.{Accepted, join-accepted, joined-parts, joined-scalars}
-use Rattle.decomp_reverse_entries.specs.Refusals.{refusalAs}
+use Rattle.layout.specs.Calls.JoinEntries.{refusalAs}
 use Rattle.decomp_reverse_entries.proofs.Order.{as-joined, by-lengths}
 use Rattle.decomp_reverse_entries.proofs.join_as.Statement.{statement}
 use Rattle.decomp_reverse_entries.proofs.join_as.Tie as tie
@@ -34,8 +34,7 @@ answered k =
 returns : tie.Need-returns
 returns c =
     let k = c .before in
-    let keeps : (old new : List Float) → old ≡ output (k .refuse-as .result) new old = λ old new. output-kept (k .refuse-as .result) new old (c .if1 .taken) in
-    (answered k, keeps _ _, keeps _ _, keeps _ _, keeps _ _)
+    (answered k, rejoined-kept (k .refuse-as .result) (c .if1 .taken) _ _)
 
 -- nothing was refused
 none : (c : tie.Else1)
@@ -103,10 +102,12 @@ returns-2 c =
     joined-scalars (a .n) (a .m) (a .cones .now) (a .count) (a .words .now) (a .x .now) (a .s .now) (a .z .now) (a .tau) (a .kappa) compact
     (j .result .tau) (j .result .kappa) (j .ensures .0) (j .ensures .1) in (
       sym (none l),
-      copied d .copy-x .ensures ∙ put (a .x-out .now) _ _ (parts .0),
-      e .0 ∙ put (a .s-out .now) _ _ (parts .1),
-      e .1 ∙ put (a .z-out .now) _ _ (parts .2),
-      w .write-scalars .ensures ∙ put (a .scalars-out .now) _ _ scalars,
+      record {
+        x = copied d .copy-x .ensures ∙ put (a .x-out .now) _ _ (parts .0);
+        s = e .0 ∙ put (a .s-out .now) _ _ (parts .1);
+        z = e .1 ∙ put (a .z-out .now) _ _ (parts .2);
+        scalars = w .write-scalars .ensures ∙ put (a .scalars-out .now) _ _ scalars;
+      },
     )
 
 pub join-as-spec : {M : Type 1} → statement M

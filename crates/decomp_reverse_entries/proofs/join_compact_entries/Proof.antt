@@ -18,10 +18,10 @@ use denote.Builtin.{u32, f64}
 use denote.Triple.Clauses.{Lasts}
 use Rattle.layout.specs.Problem.{compact, Solution as Solved, solution}
 use Rattle.layout.specs.Compact.{coneMap}
-use Rattle.layout.specs.Answers.{output, joinedParts, joinChecks, joined, scalars}
-use Rattle.decomp_reverse_entries.specs.Refusals.{refusalAs}
+use Rattle.layout.specs.Answers.{joinedParts, joinChecks, joined}
+use Rattle.layout.specs.Calls.Join.{rejoined, rejoinedOf, HoldsRejoined}
 use Rattle.by_hand.proofs.World.{World, Function, Callee}
-use Rattle.by_hand.proofs.Stars.{stars, padded, parts-said, joins-said, fact-of, and-fact}
+use Rattle.by_hand.proofs.Stars.{stars, padded, parts-said, joins-said, fact-of}
 use Rattle.by_hand.proofs.Values.{u32s, bools, own-of, had, number}
 use Rattle.by_hand.proofs.Places.{span, lft}
 use Rattle.by_hand.proofs.Outputs.{Lists, lefts, lengths, units, after}
@@ -32,7 +32,8 @@ use Rattle.by_hand.proofs.Lending.{lends}
 use Rattle.by_hand.proofs.Calling.{Ends, says-ends, calls-handing, Arg, plain-arg, lent-arg, denoted, vals, calls-lent}
 use Rattle.by_hand.proofs.Walking.{Walked, Here, args, Owned, toks, outs, arg, known-of, En, Whole, Returned, ends-in, taken-apart, to-call, walks, stands}
 use Rattle.cone_map.specs.declared.ConeMapEntry.{ConeMapEntry}
-use Rattle.cone_map.specs.Entries.{meant, sameMap}
+use Rattle.layout.specs.Calls.JoinEntries.{sameMap, refusalAs}
+use Rattle.cone_map.specs.Entries.{meant}
 use Rattle.cone_map.proofs.ConeMapEntry as E
 use Rattle.decomp_reverse.proofs.Order.{checks-passed}
 use Rattle.decomp_reverse_entries.proofs.Order.{as-entries}
@@ -134,7 +135,7 @@ module _ (h : Here this) where
         let (w₀, (w₁, (w₂, (w₃, _)))) = ws in
         let (x, (s, (z, (scalars-out, _)))) = back (h .κs) 11 params (h .a) in
         (w ≡ refusalAs t n m cones count words solved (lengths (outs h)))
-        × (w₀ ≡ output w (answer .x) (x .now)) × (w₁ ≡ output w (answer .s) (s .now)) × (w₂ ≡ output w (answer .z) (z .now)) × (w₃ ≡ output w (scalars answer) (scalars-out .now))
+        × HoldsRejoined w (rejoinedOf answer) (rejoined (x .now) (s .now) (z .now) (scalars-out .now)) (rejoined w₀ w₁ w₂ w₃)
 
     module _ (us : Ends (h .w) join-as to-core) where
       -- at the return there are its tokens, what it says of the last values, and the map
@@ -148,7 +149,7 @@ module _ (h : Here this) where
       exits w fits e same-there told =
           qed W Done ∵ move ! (span 0 5 ++ (10 ∷ span 5 4)) $
           ends-in h ! u32s w (refl, fits) w all-ends (units 15 tt) (padded 11 (stars (lefts (outs h) (after 12 us)))) (refl, refl)
-          (and-fact 𝓤 (told .0 ∙ as-entries t n m cones count words solved (map meant (entries .now)) (lengths (outs h)) (λ z. same-there (e ∙ z))) (and-fact 𝓤 (told .1) (and-fact 𝓤 (told .2) (and-fact 𝓤 (told .3) (fact-of 𝓤 (told .4)))))) $
+          (fact-of 𝓤 (record { number = told .0 ∙ as-entries t n m cones count words solved (map meant (entries .now)) (lengths (outs h)) (λ z. same-there (e ∙ z)); tables = told .1 })) $
           -- [the outputs' last values; the map]
           move ! (1 ∷ []) $ drop-item ! $ parts-said [] ! ((12, lefts (outs h) (after 12 us)) ∷ []) $ joins-said [] ! 11 (lefts (outs h) (after 12 us)) $ done !
 

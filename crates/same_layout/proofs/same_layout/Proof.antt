@@ -1,11 +1,9 @@
-use Prim.Native.Nat.{ℕ}
-use mathlib.Core.Path.{_≡_, refl, ap, _∙_}
+use mathlib.Core.Path.{_≡_, ap, _∙_}
 use mathlib.Core.Bool.{Bool, cond}
-use mathlib.Core.List.{List}
 use lib.ListN.{length-set}
 use Rattle.layout.specs.Problem.{Problem, problem}
 use mathlib.Core.Logic.{⊎-elim}
-use Rattle.layout.specs.Answers.{sameLayoutWords, orElse, problemRefusal}
+use Rattle.layout.specs.Answers.{orElse, problemRefusal}
 use Rattle.same_layout.proofs.Agreement.{second-checked, first-refused, refused, no-room, answered}
 use Rattle.same_layout.proofs.same_layout.Statement.{statement}
 use Rattle.same_layout.proofs.same_layout.Tie as tie
@@ -25,10 +23,6 @@ given2 s =
 -- before the first test
 abbrev start : tie.After-check-problem → tie.Start
 start c = c .before .before .before .before .before .before .before .before .before .before .before .before .before .before .before .before .before .before .before .before .before .before .before .before
-
--- what is written where both pass
-abbrev words-at : tie.Start → List ℕ
-words-at s = sameLayoutWords (given s) (given2 s)
 
 check-problem-requires : tie.Need-check-problem-requires
 check-problem-requires c κs = tt
@@ -59,7 +53,7 @@ returns : tie.Need-returns
 returns c =
     let j = c .before .before in
     let s = start (j .before) in
-    no-room (given s) (given2 s) (words-at s) (s .args .out .now) (j .if1 .refusal) (both j) (c .before .if2 .taken) (c .if3 .taken)
+    no-room (given s) (given2 s) (s .args .out .now) (j .if1 .refusal) (both j) (c .before .if2 .taken) (c .if3 .taken)
 
 same-length : tie.Need-same-length
 same-length c = length-set (start (c .before .before .before .before .before) .args .out .now) 0 (c .word-of .result)
@@ -68,14 +62,14 @@ returns-2 : tie.Need-returns-2
 returns-2 c =
     let j = c .before .before .before .before in
     let s = start (j .before) in
-    answered (given s) (given2 s) (words-at s) (s .args .out .now) (j .if1 .refusal) (both j) (c .before .before .before .if2 .taken) (c .before .before .if3 .left)
-    _ _ (c .word-of .ensures ∙ ap (λ (b : Bool). cond b 1 0) (c .before .layouts-agree .ensures)) refl
+    answered (given s) (given2 s) (s .args .out .now) (j .if1 .refusal) (both j) (c .before .before .before .if2 .taken) (c .before .before .if3 .left)
+    _ (c .word-of .ensures ∙ ap (λ (b : Bool). cond b 1 0) (c .before .layouts-agree .ensures))
 
 returns-3 : tie.Need-returns-3
 returns-3 c =
     let j = c .before in
     let s = start (j .before) in
-    refused (given s) (given2 s) (words-at s) (s .args .out .now) (j .if1 .refusal) (both j) (c .if2 .left)
+    refused (given s) (given2 s) (s .args .out .now) (j .if1 .refusal) (both j) (c .if2 .left)
 
 pub same-layout-spec : {M : Type 1} → statement M
 same-layout-spec =

@@ -20,12 +20,12 @@ room : (e : tie.Else2) → 2 ≤ length (e .before .before .before .args .out .n
 room e = omega arith
 
 returns : tie.Need-returns
-returns c = simp (lt-leb (c .before .before .args .index) 32895 (omega arith)) (refl, refl)
+returns c = record { number = simp (lt-leb (c .before .before .args .index) 32895 (omega arith)); out = refl }
 
 returns-2 : tie.Need-returns-2
 returns-2 c =
     let s = c .before .before .before in
-    simp (le-leb (s .args .index) 32895 (omega arith), lt-leb 2 (length (s .args .out .now)) (omega arith)) (refl, refl)
+    record { number = simp (le-leb (s .args .index) 32895 (omega arith), lt-leb 2 (length (s .args .out .now)) (omega arith)); out = refl }
 
 upper-triangular-index-to-coord-requires : tie.Need-upper-triangular-index-to-coord-requires
 upper-triangular-index-to-coord-requires c κs = within c
@@ -54,8 +54,10 @@ returns-3 c =
     let at = c .upper-triangular-index-to-coord .ensures in
     let stored : set (set out 0 row) 1 column ≡ written (row ∷ column ∷ []) out =
     ap (λ (l : List ℕ). set l 1 column) (set-written [] out row 0 refl (le-trans (lit≤ tt) (room e)))
-    ∙ set-written (row ∷ []) out column 1 refl (room e) in
-    simp (le-leb (s .args .index) 32895 (within e), le-leb 2 (length out) (room e)) (refl, ap₂ (λ (a b : ℕ). set (set out 0 a) 1 b) (at .0) (at .1) ∙ stored)
+    ∙ set-written (row ∷ []) out column 1 refl (room e) in record {
+      number = simp (le-leb (s .args .index) 32895 (within e), le-leb 2 (length out) (room e));
+      out = ap₂ (λ (a b : ℕ). set (set out 0 a) 1 b) (at .0) (at .1) ∙ stored;
+    }
 
 pub pair-back-spec : {M : Type 1} → statement M
 pair-back-spec =

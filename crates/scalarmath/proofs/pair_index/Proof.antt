@@ -16,17 +16,17 @@ room : (e : tie.Else3) → 1 ≤ length (e .before .before .before .before .args
 room e = omega arith
 
 returns : tie.Need-returns
-returns c = simp (lt-leb (c .before .before .args .i) 255 (omega arith)) (refl, refl)
+returns c = record { number = simp (lt-leb (c .before .before .args .i) 255 (omega arith)); out = refl }
 
 returns-2 : tie.Need-returns-2
 returns-2 c =
     let s = c .before .before .before in
-    simp (le-leb (s .args .i) 255 (omega arith), lt-leb (s .args .j) 255 (omega arith)) (refl, refl)
+    record { number = simp (le-leb (s .args .i) 255 (omega arith), lt-leb (s .args .j) 255 (omega arith)); out = refl }
 
 returns-3 : tie.Need-returns-3
 returns-3 c =
     let s = c .before .before .before .before in
-    simp (le-leb (s .args .i) 255 (omega arith), le-leb (s .args .j) 255 (omega arith), lt-leb 1 (length (s .args .out .now)) (omega arith)) (refl, refl)
+    record { number = simp (le-leb (s .args .i) 255 (omega arith), le-leb (s .args .j) 255 (omega arith), lt-leb 1 (length (s .args .out .now)) (omega arith)); out = refl }
 
 coord-to-upper-triangular-index-requires : tie.Need-coord-to-upper-triangular-index-requires
 coord-to-upper-triangular-index-requires c κs = within c
@@ -43,9 +43,10 @@ returns-4 c =
     let e = c .before in
     let s = e .before .before .before .before in
     let out = s .args .out .now in
-    let (i, j) = within e in
-    simp (le-leb (s .args .i) 255 i, le-leb (s .args .j) 255 j, le-leb 1 (length out) (room e))
-    (refl, rw (c .coord-to-upper-triangular-index .ensures) (set-written [] out _ 0 refl (room e)))
+    let (i, j) = within e in record {
+      number = simp (le-leb (s .args .i) 255 i, le-leb (s .args .j) 255 j, le-leb 1 (length out) (room e));
+      out = rw (c .coord-to-upper-triangular-index .ensures) (set-written [] out _ 0 refl (room e));
+    }
 
 pub pair-index-spec : {M : Type 1} → statement M
 pair-index-spec =

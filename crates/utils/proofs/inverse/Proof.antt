@@ -1,13 +1,12 @@
 use Rattle.utils.proofs.Scattered.{scattered-inverse, permutation-below, distinct-below, refused-order, refused-room, accepted}
 use Rattle.layout.proofs.Tests.{passes}
 use Rattle.layout.specs.Checks.{isPermutation}
-use Rattle.layout.specs.Answers.{output, inverse, inverseRefusal}
 use Rattle.layout.proofs.Distinct.{permutation-distinct}
 use borrow.Author.Tests.{not-true, not-false}
 use lib.ListN.{length}
 use lib.Dec.{T}
-use Prim.Native.Nat.{ℕ, _≤_}
-use mathlib.Core.Path.{_≡_, sym, ap, _∙_}
+use Prim.Native.Nat.{_≤_}
+use mathlib.Core.Path.{_≡_, refl, sym, _∙_}
 use mathlib.Core.Bool.{true}
 use native.Mathlib.Omega.{arith}
 use borrow.Author.Needs.{needs}
@@ -23,8 +22,7 @@ returns c =
     let s = a .before .before .before in
     let ps = s .args .p .now in
     let old = s .args .out .now in
-    let e : inverseRefusal ps (length old) ≡ 5 = refused-order ps (length old) (sym (a .is-permutation .ensures) ∙ not-true _ (c .if1 .taken)) in
-    (sym e, ap (λ (n : ℕ). output n (inverse ps) old) (sym e))
+    record { number = sym (refused-order ps (length old) (sym (a .is-permutation .ensures) ∙ not-true _ (c .if1 .taken))); out = refl }
 
 -- past the first test
 permutes : (c : tie.Else1) → isPermutation (c .before .before .before .before .args .p .now) ≡ true
@@ -35,8 +33,7 @@ returns-2 c =
     let s = c .before .before .before .before .before in
     let ps = s .args .p .now in
     let old = s .args .out .now in
-    let e : inverseRefusal ps (length old) ≡ 11 = refused-room ps (length old) (permutes (c .before)) (omega arith) in
-    (sym e, ap (λ (n : ℕ). output n (inverse ps) old) (sym e))
+    record { number = sym (refused-room ps (length old) (permutes (c .before)) (omega arith)); out = refl }
 
 scatter-requires : tie.Need-scatter-requires
 scatter-requires c κs =
@@ -58,9 +55,10 @@ returns-3 c =
     let s = f .before .before .before .before in
     let ps = s .args .p .now in
     let old = s .args .out .now in
-    let h : T (isPermutation ps) = passes (isPermutation ps) (permutes f) in
-    let ok : inverseRefusal ps (length old) ≡ 0 = accepted ps (length old) (permutes f) (omega arith) in
-    (sym ok, w .scatter .ensures ∙ scattered-inverse ps old h (omega arith) ∙ ap (λ (n : ℕ). output n (inverse ps) old) (sym ok))
+    let h : T (isPermutation ps) = passes (isPermutation ps) (permutes f) in record {
+      number = sym (accepted ps (length old) (permutes f) (omega arith));
+      out = w .scatter .ensures ∙ scattered-inverse ps old h (omega arith);
+    }
 
 pub inverse-spec : {M : Type 1} → statement M
 inverse-spec =

@@ -1,6 +1,6 @@
 -- `door::chordal_join` answers what the joining answers: each fact is the joining's own.
-use Rattle.door.proofs.chordal_join.Statement.{statement}
-use Rattle.door.proofs.chordal_join.Tie as tie
+use Rattle.door.proofs.join.chordal_join.Statement.{statement}
+use Rattle.door.proofs.join.chordal_join.Tie as tie
 
 abbrev joined : tie.After-slice-known8 → tie.After-join
 joined c = c .before .before .before .before .before .before .before .before

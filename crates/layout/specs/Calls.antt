@@ -1,0 +1,10 @@
+pub mod PairIndex
+pub mod PairBack
+pub mod Inverse
+pub mod Renumber
+pub mod Sizes
+pub mod Cut
+pub mod CutEntries
+pub mod Join
+pub mod JoinEntries
+pub mod SameLayout

@@ -1,0 +1,39 @@
+-- The promise of the cut on the compact route where the cone map is a list of structs, each made of an entry by `structOf`.
+use Prim.Native.Nat.{ℕ, _*_}
+use mathlib.Core.Path.{_≡_}
+use mathlib.Core.List.{List, [], _∷_, map}
+use lib.ListN.{length}
+use lib.Ieee.{Float}
+use Rattle.layout.specs.Problem.{Problem, compact}
+use Rattle.layout.specs.Checks.{layout}
+use Rattle.layout.specs.Compact.{MapEntry, coneMap}
+use Rattle.layout.specs.Answers.{output, augmented, cutRefusal}
+use Rattle.layout.specs.Calls.Cut.{Objective, objective, objectiveOf, HoldsObjective, Constrained, constrained, constrainedOf, HoldsConstrained}
+
+-- the eleven outputs
+pub record EntryTables (E : Type 0) : Type 0 where
+  pub objective : Objective
+  pub constrained : Constrained
+  pub map : List E
+
+abbrev pub entryOutputs : {E : Type 0} → List ℕ → List ℕ → List Float → List Float → List ℕ → List ℕ → List Float → List Float → List ℕ → List Float → List E → EntryTables E
+entryOutputs pStarts pRows pValues q aStarts aRows aValues b cones alphas entries = record {
+  objective = objective pStarts pRows pValues q alphas;
+  constrained = constrained aStarts aRows aValues b cones;
+  map = entries;
+}
+
+-- the room of each in words: an entry takes three
+abbrev pub entryRooms : {E : Type 0} → EntryTables E → List ℕ
+entryRooms a =
+    let o = a .objective in
+    let c = a .constrained in
+    length (o .P .starts) ∷ length (o .P .rows) ∷ length (o .P .values) ∷ length (o .q)
+    ∷ length (c .A .starts) ∷ length (c .A .rows) ∷ length (c .A .values) ∷ length (c .b)
+    ∷ length (c .cones) ∷ length (o .alphas) ∷ length (a .map) * 3 ∷ []
+
+pub record CutEntries {E : Type 0} (structOf : MapEntry → E) (p : Problem) (before after : EntryTables E) (r : ℕ) : Type 0 where
+  pub number : r ≡ cutRefusal compact p (entryRooms before)
+  pub objective : HoldsObjective r (objectiveOf (augmented compact p)) (before .objective) (after .objective)
+  pub constrained : HoldsConstrained r (constrainedOf (augmented compact p)) (before .constrained) (after .constrained)
+  pub entries : after .map ≡ output r (map structOf (coneMap (layout p))) (before .map)

@@ -1,0 +1,35 @@
+-- The promise of the joining on the compact route where the cone map is a list of entries.
+use Prim.Native.Nat.{ℕ}
+use mathlib.Core.Path.{_≡_}
+use mathlib.Core.Bool.{Bool, false, cond, _&&_}
+use mathlib.Core.List.{List, [], _∷_}
+use lib.Dec.{eqb}
+use Rattle.layout.specs.Lists.{sameBy}
+use Rattle.layout.specs.Problem.{Solution, compact}
+use Rattle.layout.specs.Compact.{MapEntry, wholeCone, blockOf, coneMap}
+use Rattle.layout.specs.Answers.{orElse, roomy, joinedParts, joinChecks, solutionFits, joined}
+use Rattle.layout.specs.Calls.Join.{Rejoined, rejoinedOf, rooms, HoldsRejoined}
+
+abbrev pub sameEntry : MapEntry → MapEntry → Bool
+sameEntry (wholeCone i) (wholeCone j) = eqb i j
+sameEntry (wholeCone i) (blockOf j l d) = false
+sameEntry (blockOf i k c) (wholeCone j) = false
+sameEntry (blockOf i k c) (blockOf j l d) = eqb i j && (eqb k l && eqb c d)
+
+abbrev pub sameMap : List MapEntry → List MapEntry → Bool
+sameMap es fs = sameBy sameEntry es fs
+
+-- as `joinRefusal` on the compact route, given whether the map is the problem's
+abbrev pub refusalAs : Bool → ℕ → ℕ → List ℕ → ℕ → List ℕ → Solution → List ℕ → ℕ
+refusalAs same n m cones count words sol room =
+    orElse (joinChecks compact n m cones count words)
+    (orElse (cond (roomy (n ∷ m ∷ m ∷ 2 ∷ []) room) 0 11)
+    (cond (solutionFits compact n m (joinedParts cones count words) sol && same) 0 12))
+
+abbrev pub entriesRefusal : ℕ → ℕ → List ℕ → ℕ → List ℕ → Solution → List MapEntry → List ℕ → ℕ
+entriesRefusal n m cones count words sol entries room =
+    refusalAs (sameMap entries (coneMap (joinedParts cones count words))) n m cones count words sol room
+
+pub record JoinEntries (n m : ℕ) (cones : List ℕ) (count : ℕ) (words : List ℕ) (sol : Solution) (entries : List MapEntry) (before after : Rejoined) (r : ℕ) : Type 0 where
+  pub number : r ≡ entriesRefusal n m cones count words sol entries (rooms before)
+  pub tables : HoldsRejoined r (rejoinedOf (joined compact n m (joinedParts cones count words) sol)) before after
