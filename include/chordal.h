@@ -36,7 +36,7 @@ enum chordal_refusal {
     CHORDAL_TREE = 6,        /* no clique, a parent that is not later, a last clique with parent or separator */
     CHORDAL_CLIQUES = 7,     /* snodes that do not hold each vertex once or an empty one, a separator that repeats a
                                 member or has one that its parent's clique does not hold */
-    CHORDAL_NO_COLUMNS = 8,  /* the compact route with n = 0 */
+                             /* 8 does not occur any more and is not used again */
     CHORDAL_UNCOVERED = 9,   /* compact: an entry of A or a b unequal to zero in a row that no clique covers */
     CHORDAL_TOO_LARGE = 10,  /* more than 262,144 augmented rows or, compact, 131,072 overlaps */
     CHORDAL_SHORT = 11,      /* an output is too short */
@@ -56,7 +56,7 @@ uint32_t chordal_inverse(const uint32_t *p, size_t p_len, uint32_t *out, size_t 
 uint32_t chordal_renumber(const uint32_t *words, size_t words_len, uint32_t *out, size_t out_len);
 
 /* The lengths of the cut's eleven outputs: p starts, p rows, p values, q, a starts, a rows, a values, b, cones, alphas,
- * map. Refusals 1 to 11. */
+ * map. Refusals 1 to 7, 9 to 11. */
 uint32_t chordal_sizes(
     uint32_t route, uint32_t n, uint32_t m,
     const uint32_t *p_starts, size_t p_starts_len, const uint32_t *p_rows, size_t p_rows_len,
@@ -68,7 +68,7 @@ uint32_t chordal_sizes(
     uint32_t *out, size_t out_len);
 
 /* The augmented problem. The map has three words for each cone: orig_index, pattern number or CHORDAL_NONE, clique
- * number or 0; it is empty on the standard route. Refusals 1 to 11. */
+ * number or 0; it is empty on the standard route. Refusals 1 to 7, 9 to 11. */
 uint32_t chordal_cut(
     uint32_t route, uint32_t n, uint32_t m,
     const uint32_t *p_starts, size_t p_starts_len, const uint32_t *p_rows, size_t p_rows_len,
@@ -85,7 +85,7 @@ uint32_t chordal_cut(
     uint32_t *map_out, size_t map_out_len);
 
 /* The original problem's solution from the augmented one's: n, m and m values, and tau and kappa, which are 1. Cones and
- * patterns are the original ones, the map is the cut's; the standard route reads none. Refusals 1, 4 to 8, 10 to 12. */
+ * patterns are the original ones, the map is the cut's; the standard route reads none. Refusals 1, 4 to 7, 10 to 12. */
 uint32_t chordal_join(
     uint32_t route, uint32_t n, uint32_t m,
     const uint32_t *cones, size_t cones_len,

@@ -82,8 +82,14 @@ pub fn join_difference(a: &Joined, b: &Joined) -> Option<&'static str> {
     tests.iter().find(|t| !t.1).map(|t| t.0)
 }
 
-/// Compares the cut and, with a solution, the joining, where document 01 accepts. A refused problem only counts
-/// what clarabel does with it.
+/// Why clarabel is no reference for an accepted problem, where it is none.
+fn no_reference(route: Route, p: &Problem) -> Option<&'static str> {
+    // it leaves the overlap rows unset there, or panics
+    (route == Route::Compact && p.n == 0).then_some("no columns")
+}
+
+/// Compares the cut and, with a solution, the joining, where the documents accept and clarabel is their reference. A
+/// refused problem is only counted.
 pub fn compare(report: &mut Report, route: Route, p: &Problem, solution: Option<&Solution>, storage: usize) {
     let r = route.name();
     let expected = match expected::cut(route, p, None) {
@@ -93,6 +99,10 @@ pub fn compare(report: &mut Report, route: Route, p: &Problem, solution: Option<
             return;
         }
     };
+    if let Some(why) = no_reference(route, p) {
+        report.count(format!("{r}: accepted, not compared with clarabel ({why})"));
+        return;
+    }
     let prepared = Prepared::new(&tables(p), storage);
     let made = prepared.and_then(|mut prepared| prepared.cut(route == Route::Compact).map(|raw| (prepared, raw)));
     let (prepared, raw) = match made {

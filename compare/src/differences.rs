@@ -1,4 +1,4 @@
-//! clarabel on the inputs of docs/DIFFERENCES.md, and on damaged problems: what it takes that document 01 refuses.
+//! clarabel on the inputs of docs/DIFFERENCES.md, and on damaged problems: what it takes that the documents refuse.
 
 use crate::against::{narrowed, tables};
 use crate::expected;
@@ -55,18 +55,18 @@ fn show(what: &str, route: Route, p: &Problem) {
     println!("\n{what} ({} route)", route.name());
     println!("{}", problem_text(p));
     match expected::cut(route, p, None) {
-        Err(number) => println!("  document 01: refused, {number}"),
+        Err(number) => println!("  documents: refused, {number}"),
         Ok(cut) => println!(
-            "  document 01: A starts {:?} rows {:?} values {}, b {}",
+            "  documents: A starts {:?} rows {:?} values {}, b {}",
             cut.a.starts,
             cut.a.rows,
             floats(&cut.a.values),
             floats(&cut.b)
         ),
     }
-    println!("  clarabel:    {}", answer(route, p));
+    println!("  clarabel:  {}", answer(route, p));
     if route == Route::Compact {
-        println!("    standard:  {}", answer(Route::Standard, p));
+        println!("    standard: {}", answer(Route::Standard, p));
     }
 }
 
@@ -192,12 +192,12 @@ pub fn print() {
             let made = door::Prepared::new(&tables(&p), 0).and_then(|mut made| made.cut(true).map(|_| ()));
             let line =
                 made.err().map_or("answers".to_string(), |m| format!("panics: {}", m.lines().next().unwrap_or("")));
-            println!("bound, {name} (compact): document 01 {number}, clarabel {line}");
+            println!("bound, {name} (compact): documents {number}, clarabel {line}");
         }
     }
 
     println!(
-        "\ninverse of [1, 1]: clarabel {:?}, document 01 {:?}",
+        "\ninverse of [1, 1]: clarabel {:?}, documents {:?}",
         door::inverse(&[1, 1]),
         expected::inverse(&[1, 1], 2)
     );
@@ -277,7 +277,7 @@ fn mined() {
             }
         }
     }
-    println!("\nDamaged problems that document 01 refuses, and what clarabel does with them:");
+    println!("\nDamaged problems that the documents refuse, and what clarabel does with them:");
     for ((number, route, what), (count, _, _)) in &counts {
         println!("  {number:>2} {route:<8} {what:<30} {count}");
     }

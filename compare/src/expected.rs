@@ -1,5 +1,5 @@
-//! Document 01 read plainly: what each call answers, refusals included. Written from the document alone, for
-//! clearness and not for speed. An answer is `Ok`, a refusal number is `Err`.
+//! Document 01 read plainly, with the requests of document 02: what each call answers, refusals included. Written from
+//! the documents alone, for clearness and not for speed. An answer is `Ok`, a refusal number is `Err`.
 
 use crate::problem::*;
 
@@ -521,13 +521,10 @@ impl Layout {
 
 // ---- the cut
 
-/// Checks 1 to 10.
+/// Checks 1 to 10. Number 8 does not occur: the compact route takes a problem without columns too.
 pub fn accepted(route: Route, p: &Problem) -> Result<Layout, u32> {
     let layout = first_seven(p)?;
     if route == Route::Compact {
-        if p.n == 0 {
-            return Err(8);
-        }
         let mut open = vec![false; p.m as usize];
         layout.uncovered().iter().for_each(|&r| open[r] = true);
         let stored = p.a.rows.iter().any(|&r| open[r as usize]);
@@ -668,9 +665,6 @@ pub fn join(route: Route, j: &JoinInput, rooms: Option<&[usize; 4]>) -> Result<J
     let patterns = check5(j.cones, j.pattern_count, j.pattern_words)?;
     checks6and7(&patterns)?;
     let layout = Layout::new(j.cones, patterns);
-    if route == Route::Compact && j.n == 0 {
-        return Err(8);
-    }
     layout.check10(route, j.m)?;
     let (n, m) = (j.n as usize, j.m as usize);
     if let Some(rooms) = rooms {
@@ -847,5 +841,25 @@ mod marked_cases {
         p.a = Columns { starts: vec![0, 1], rows: vec![3], values: vec![0.0] };
         assert_eq!(cut(Route::Compact, &p, None).unwrap_err(), 9);
         assert!(cut(Route::Standard, &p, None).is_ok());
+    }
+
+    // the seam of a dome that has nothing left to adjust
+    #[test]
+    fn no_columns() {
+        let mut p = three_projectors();
+        p.n = 0;
+        p.q.clear();
+        p.a = Columns { starts: vec![0], ..Columns::default() };
+        p.p = p.a.clone();
+        let c = cut(Route::Compact, &p, None).unwrap();
+        assert_eq!((c.p.starts, c.q), (vec![0, 0], vec![0.0]));
+        assert_eq!((c.a.starts, c.a.rows, c.a.values), (vec![0, 2], vec![0, 5], vec![-1.0, 1.0]));
+        assert_eq!(c.b, [3.0, 4.0, 5.0, 1.0, 2.0, 0.0]);
+        let tail = vec![3.0, 4.0, 5.0, 1.0, 2.0, 7.0];
+        let solution = Solution { x: vec![9.0], s: tail.clone(), z: tail, map: c.map, ..Solution::default() };
+        let j = join(Route::Compact, &join_input(&p, &solution), None).unwrap();
+        assert_eq!((j.x, j.s), (vec![], vec![1.0, 2.0, 10.0, 0.0, 4.0, 5.0]));
+        p.b[3] = 1.0;
+        assert_eq!(cut(Route::Compact, &p, None).unwrap_err(), 9);
     }
 }

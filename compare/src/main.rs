@@ -1,4 +1,4 @@
-//! Compares document 01's plain reading (`expected`), clarabel's own files (crate `reference`) and, where
+//! Compares the plain reading of documents 01 and 02 (`expected`), clarabel's own files (crate `reference`) and, where
 //! libdoor.a is there, the door.
 
 mod against;
@@ -24,8 +24,8 @@ use std::time::Instant;
 const HELP: &str = "compare/run [--cases N] [--seed S] [--routes standard|compact|both]
     N random problems from seed S (100000, 1), about a third of them damaged, on the routes (both)
 compare/run --case K --seed S      one case again, its problem printed
-compare/run --exhaustive           every clique tree on up to 4 vertices, every ordering
-compare/run --vectors FILE         stored cases (JSON, one a line)
+compare/run --exhaustive           every clique tree on up to 4 vertices, every ordering, with a column and without
+compare/run --vectors FILE         stored cases (JSON, one a line), told by the file's name: cases.jsonl, q-N.jsonl
 compare/run --differences          clarabel on the inputs of docs/DIFFERENCES.md
 compare/run --speed                times, with ratios where the door is linked
 compare/run --store FOLDER --cases N --seed S    writes stored answers of each family, for crate replay
@@ -42,9 +42,12 @@ struct Options {
     routes: Vec<Route>,
 }
 
-// the problem of a case: one in three is damaged, in one to three places
+// the problem of a case: some have no columns, and one in three is damaged, in one to three places
 fn case_problem(d: &mut Draws, scale: Scale) -> Problem {
     let mut p = random::problem(d, scale);
+    if d.chance(6) {
+        random::no_columns(&mut p);
+    }
     if d.chance(33) {
         for _ in 0..1 + d.below(3).saturating_sub(d.below(2)) {
             // check 10 needs large problems, so it is seldom
@@ -159,17 +162,22 @@ fn exhaustive_cases(report: &mut Report, o: &Options) {
         let mut seen = 0u64;
         exhaustive::patterns(vertices, &mut d, &mut |d, pattern| {
             seen += 1;
-            let p = exhaustive::problem(d, &pattern);
-            for &route in &o.routes {
-                let shape = expected::solution_shape(route, &p);
-                if shape.is_none() {
-                    report.fail("a clique tree is refused", p.weight(), || report::problem_text(&p));
+            let mut p = exhaustive::problem(d, &pattern);
+            for columns in [true, false] {
+                if !columns {
+                    random::no_columns(&mut p);
                 }
-                let solution = random::solution(d, &shape.unwrap_or_default());
-                against::compare(report, route, &p, Some(&solution), seen as usize % 3);
-                if door::LINKED {
-                    door::compare_cut(report, d, route, &p);
-                    door::compare_join(report, d, route, &p, &solution);
+                for &route in &o.routes {
+                    let shape = expected::solution_shape(route, &p);
+                    if shape.is_none() || expected::accepted(route, &p).is_err() {
+                        report.fail("a clique tree is refused", p.weight(), || report::problem_text(&p));
+                    }
+                    let solution = random::solution(d, &shape.unwrap_or_default());
+                    against::compare(report, route, &p, Some(&solution), seen as usize % 3);
+                    if door::LINKED {
+                        door::compare_cut(report, d, route, &p);
+                        door::compare_join(report, d, route, &p, &solution);
+                    }
                 }
             }
             let words = pattern.words();
@@ -238,17 +246,8 @@ fn compare() -> i32 {
             return 0;
         }
         "vectors" => {
-            let text = std::fs::read_to_string(file.unwrap()).expect("a file to read");
             let mut d = case_draws(o.seed, 0);
-            let read = vectors::compare(&mut report, &text, |report, p| {
-                for route in [Route::Compact, Route::Standard] {
-                    against::compare(report, route, p, None, 0);
-                    if door::LINKED {
-                        door::compare_cut(report, &mut d, route, p);
-                    }
-                }
-            });
-            if let Err(e) = read {
+            if let Err(e) = vectors::compare(&mut report, &mut d, file.unwrap().as_ref()) {
                 eprintln!("{e}");
                 std::process::exit(2);
             }
@@ -298,6 +297,8 @@ fn limits() {
         ("standard rows 262144, 1 over", 10, 10),
         ("overlaps 131072, 0 over", 0, 0),
         ("overlaps 131072, 1 over", 0, 10),
+        ("overlaps 131072, 0 over, no columns", 0, 0),
+        ("overlaps 131072, 1 over, no columns", 0, 10),
     ] {
         assert!(refused.contains(&(name.into(), standard, compact)), "{name} among {refused:?}");
     }

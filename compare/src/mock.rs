@@ -1,5 +1,5 @@
 //! A door made of the plain reading, with the door's own signatures, so that the comparison through it can be
-//! tried without libdoor.a. `COMPARE_MOCK_FAULT` (1 to 8) plants a fault that the comparison must find.
+//! tried without libdoor.a. `COMPARE_MOCK_FAULT` (1 to 9) plants a fault that the comparison must find.
 #![allow(clippy::too_many_arguments, clippy::missing_safety_doc)]
 
 use crate::expected;
@@ -213,6 +213,8 @@ pub unsafe extern "C" fn chordal_cut(
     };
     let rooms = [l0, l1, l2, l3, l4, l5, l6, l7, l8, l9, l10];
     match expected::cut(route, &p, Some(&rooms)) {
+        // no columns still refused on the compact route
+        Ok(_) if fault() == 9 && route == Route::Compact && n == 0 => 8,
         Ok(mut c) => {
             if fault() == 3 {
                 // the sign of a zero in b

@@ -215,6 +215,14 @@ pub fn problem(d: &mut Draws, scale: Scale) -> Problem {
     p
 }
 
+/// Takes the problem's columns away: a dome with nothing left to adjust.
+pub fn no_columns(p: &mut Problem) {
+    p.n = 0;
+    p.q.clear();
+    p.a = Columns { starts: vec![0], ..Columns::default() };
+    p.p = p.a.clone();
+}
+
 /// A solution of the lengths that the problem gives.
 pub fn solution(d: &mut Draws, shape: &(usize, usize, Vec<u32>)) -> Solution {
     Solution {
@@ -323,12 +331,8 @@ pub fn damage(d: &mut Draws, p: &mut Problem, check: usize) {
             _ => change_word(d, &mut p.cones),
         },
         5..=7 => damage_patterns(d, p, check),
-        8 => {
-            p.n = 0;
-            p.q.clear();
-            p.a = Columns { starts: vec![0], ..Columns::default() };
-            p.p = p.a.clone();
-        }
+        // no check: what was number 8 is taken
+        8 => no_columns(p),
         9 => {
             // an entry or a value of b in a row of any cone, mostly uncovered where there is such a row
             if p.m > 0 {
@@ -609,7 +613,10 @@ pub fn at_limits() -> Vec<(String, Problem)> {
             }
         }
         assert_eq!(want, 0);
-        out.push((format!("overlaps 131072, {over} over"), with(1, cones, patterns)));
+        for n in [1, 0] {
+            let columns = if n == 0 { ", no columns" } else { "" };
+            out.push((format!("overlaps 131072, {over} over{columns}"), with(n, cones.clone(), patterns.clone())));
+        }
     }
     out
 }

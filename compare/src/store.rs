@@ -133,9 +133,12 @@ fn some_route(d: &mut Draws) -> Route {
     }
 }
 
-/// A problem that is right, or has faults of any check that a route makes.
+/// A problem that is right, or has faults of any check that a route makes; some have no columns.
 fn some_problem_on(d: &mut Draws, index: u64) -> Problem {
     let mut p = random::problem(d, random::SMALL);
+    if index % 10 == 8 {
+        random::no_columns(&mut p);
+    }
     for _ in 0..(index % 4) / 2 {
         let check = 1 + d.below(9);
         random::damage(d, &mut p, check);
@@ -190,7 +193,10 @@ fn cut(d: &mut Draws, index: u64) -> Case {
 }
 
 fn join(d: &mut Draws, index: u64) -> Case {
-    let (route, mut p) = (some_route(d), some_problem_on(d, 0));
+    let (route, mut p) = (some_route(d), random::problem(d, random::SMALL));
+    if index % 10 == 8 {
+        random::no_columns(&mut p);
+    }
     let shape = expected::solution_shape(route, &p).unwrap_or((p.n as usize, p.m as usize, vec![]));
     let mut solution = random::solution(d, &shape);
     match index % 4 {
@@ -236,7 +242,8 @@ pub fn write(folder: &Path, cases: u64, seed: u64) -> io::Result<()> {
         ("join", join),
     ];
     for (k, (name, family)) in families.iter().enumerate() {
-        let made: Vec<Case> = (0..cases).map(|index| family(&mut crate::case_draws(seed + k as u64, index), index)).collect();
+        let made: Vec<Case> =
+            (0..cases).map(|index| family(&mut crate::case_draws(seed + k as u64, index), index)).collect();
         fs::write(folder.join(name), text(&made))?;
     }
     Ok(())

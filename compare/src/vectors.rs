@@ -1,10 +1,15 @@
-//! Stored cases with answers (JSON, one case a line): the plain reading against what is stored.
+//! Stored cases with answers (JSON, one case a line): the plain reading against what is stored, then clarabel and the
+//! door on the same inputs. The file's name says which call its cases are of; a call more is a function and its line in
+//! `FORMS`.
 
-use crate::against::{cut_difference, join_difference, join_input};
+use crate::against::{self, cut_difference, join_difference, join_input};
+use crate::door;
 use crate::expected;
 use crate::problem::*;
+use crate::random::Draws;
 use crate::report::*;
 use std::collections::BTreeMap;
+use std::path::Path;
 
 #[derive(Clone, Debug)]
 enum Json {
@@ -209,96 +214,148 @@ fn stored_cut(j: &Json) -> Result<Cut, String> {
 const NAMES: [&str; 11] =
     ["P_starts", "P_rows", "P_values", "q", "A_starts", "A_rows", "A_values", "b", "cones", "alpha", "cone_map"];
 
-fn check(report: &mut Report, case: &Json, route: Route, p: &Problem) -> Result<(), String> {
-    let stored = case.get(route.name())?;
-    let r = route.name();
-    let mut judge = |call: &str, wrong: Option<String>| match wrong {
-        None => report.count(format!("stored {r} {call}: equal")),
-        Some(what) => report.fail(format!("stored {r} {call}: {what}"), p.weight(), || problem_text(p)),
-    };
+// how often the door is asked about a case, now and then with a room too short
+const TIMES: usize = 4;
 
-    let sizes = stored.get("sizes")?;
-    let answer = expected::sizes(route, p, 11);
-    judge(
-        "sizes",
-        match (&answer, sizes.refused()) {
+/// What the cases of a file are compared into, and with which draws.
+struct Run<'a> {
+    report: &'a mut Report,
+    draws: &'a mut Draws,
+}
+
+impl Run<'_> {
+    // counts an answer that is the stored one; `wrong` says in what it is not
+    fn judge(&mut self, call: &str, wrong: Option<String>, p: &Problem) {
+        match wrong {
+            None => self.report.count(format!("stored {call}: equal")),
+            Some(what) => self.report.fail(format!("stored {call}: {what}"), p.weight(), || problem_text(p)),
+        }
+    }
+
+    // compares the refusal numbers of an answer and of what is stored or, where neither is refused, what they hold
+    fn answered<T>(
+        &mut self,
+        call: &str,
+        p: &Problem,
+        answer: &Result<T, u32>,
+        stored: &Json,
+        wrong: impl FnOnce(&T, &Json) -> Result<Option<String>, String>,
+    ) -> Result<(), String> {
+        let wrong = match (answer, stored.refused()) {
+            // from before Q-7
+            (_, Some(8)) if p.n == 0 => {
+                self.report.count(format!("stored {call}: 8, which does not occur any more; passed over"));
+                return Ok(());
+            }
             (Err(number), Some(stored)) if *number == stored => None,
-            (Ok(lengths), None) => {
-                let mut wrong = None;
-                for (name, length) in NAMES.iter().zip(lengths) {
-                    // the map is stored by entries
-                    let length = if *name == "cone_map" { length / 3 } else { *length };
-                    if sizes.get(name)?.number()? as usize != length {
-                        wrong = Some(format!("{name} differs"));
-                    }
+            (Ok(answer), None) => wrong(answer, stored)?,
+            (answer, stored) => {
+                Some(format!("answers {}, stored {}", answer.as_ref().err().unwrap_or(&0), stored.unwrap_or(0)))
+            }
+        };
+        self.judge(call, wrong, p);
+        Ok(())
+    }
+
+    // sizes and the cut on a route; `map_words` are those that a stored size counts as one
+    fn cut(&mut self, route: Route, p: &Problem, stored: &Json, map_words: usize) -> Result<(), String> {
+        let r = route.name();
+        let sizes = expected::sizes(route, p, 11);
+        self.answered(&format!("{r} sizes"), p, &sizes, stored.get("sizes")?, |lengths, stored| {
+            for (name, &length) in NAMES.iter().zip(lengths) {
+                let length = if *name == "cone_map" { length / map_words } else { length };
+                if stored.get(name)?.number()? as usize != length {
+                    return Ok(Some(format!("{name} differs")));
                 }
-                wrong
             }
-            (answer, stored) => Some(format!("{answer:?}, stored {stored:?}")),
-        },
-    );
+            Ok(None)
+        })?;
+        let cut = expected::cut(route, p, None);
+        self.answered(&format!("{r} cut"), p, &cut, stored.get("cut")?, |cut, stored| {
+            Ok(cut_difference(cut, &stored_cut(stored)?).map(|w| format!("{w} differs")))
+        })?;
+        against::compare(self.report, route, p, None, 0);
+        if door::LINKED {
+            for _ in 0..TIMES {
+                door::compare_cut(self.report, self.draws, route, p);
+            }
+        }
+        Ok(())
+    }
 
-    let cut = stored.get("cut")?;
-    let answer = expected::cut(route, p, None);
-    judge(
-        "cut",
-        match (&answer, cut.refused()) {
-            (Err(number), Some(stored)) if *number == stored => None,
-            (Ok(answer), None) => cut_difference(answer, &stored_cut(cut)?).map(|w| format!("{w} differs")),
-            (answer, stored) => Some(format!("refusal {:?}, stored {stored:?}", answer.as_ref().err())),
-        },
-    );
+    fn join(&mut self, route: Route, p: &Problem, solution: &Solution, stored: &Json) -> Result<(), String> {
+        let joined = expected::join(route, &join_input(p, solution), None);
+        self.answered(&format!("{} joining", route.name()), p, &joined, stored, |joined, stored| {
+            let stored = Joined {
+                x: stored.get("x")?.floats()?,
+                s: stored.get("s")?.floats()?,
+                z: stored.get("z")?.floats()?,
+                tau: stored.get("tau")?.float()?,
+                kappa: stored.get("kappa")?.float()?,
+            };
+            Ok(join_difference(joined, &stored).map(|w| format!("{w} differs")))
+        })?;
+        if door::LINKED {
+            for _ in 0..TIMES {
+                door::compare_join(self.report, self.draws, route, p, solution);
+            }
+        }
+        Ok(())
+    }
+}
 
-    let (Ok(sol), Ok(joined)) = (stored.get("solution"), stored.get("joined")) else {
-        return Ok(());
-    };
-    let map = expected::solution_shape(route, p).map(|s| s.2).unwrap_or_default();
-    let solution = Solution {
-        x: sol.get("x")?.floats()?,
-        s: sol.get("s")?.floats()?,
-        z: sol.get("z")?.floats()?,
-        tau: sol.get("tau")?.float()?,
-        kappa: sol.get("kappa")?.float()?,
+fn solution(j: &Json, map: Vec<u32>) -> Result<Solution, String> {
+    Ok(Solution {
+        x: j.get("x")?.floats()?,
+        s: j.get("s")?.floats()?,
+        z: j.get("z")?.floats()?,
+        tau: j.get("tau")?.float()?,
+        kappa: j.get("kappa")?.float()?,
         map,
-    };
-    let answer = expected::join(route, &join_input(p, &solution), None);
-    judge(
-        "joining",
-        match (&answer, joined.refused()) {
-            (Err(number), Some(stored)) if *number == stored => None,
-            (Ok(answer), None) => {
-                let stored = Joined {
-                    x: joined.get("x")?.floats()?,
-                    s: joined.get("s")?.floats()?,
-                    z: joined.get("z")?.floats()?,
-                    tau: joined.get("tau")?.float()?,
-                    kappa: joined.get("kappa")?.float()?,
-                };
-                join_difference(answer, &stored).map(|w| format!("{w} differs"))
-            }
-            (answer, stored) => Some(format!("refusal {:?}, stored {stored:?}", answer.as_ref().err())),
-        },
-    );
+    })
+}
+
+// a problem; on each route sizes, cut, and a solution with what it is joined to
+fn base(run: &mut Run, case: &Json) -> Result<(), String> {
+    let p = problem(case.get("problem")?)?;
+    for route in [Route::Compact, Route::Standard] {
+        let stored = case.get(route.name())?;
+        run.cut(route, &p, stored, 3)?;
+        if let (Ok(given), Ok(joined)) = (stored.get("solution"), stored.get("joined")) {
+            let map = expected::solution_shape(route, &p).map(|s| s.2).unwrap_or_default();
+            run.join(route, &p, &solution(given, map)?, joined)?;
+        }
+    }
     Ok(())
 }
 
-/// Reads each line of the file and compares the plain reading with the stored answers; calls `also` with each
-/// problem.
-pub fn compare(report: &mut Report, text: &str, mut also: impl FnMut(&mut Report, &Problem)) -> Result<(), String> {
-    for (line, case) in text.lines().enumerate() {
-        if case.trim().is_empty() {
-            continue;
-        }
-        let one = |report: &mut Report| -> Result<Problem, String> {
-            let mut reader = Reader { bytes: case.as_bytes(), at: 0 };
-            let case = reader.value()?;
-            let p = problem(case.get("problem")?)?;
-            check(report, &case, Route::Compact, &p)?;
-            check(report, &case, Route::Standard, &p)?;
-            Ok(p)
-        };
-        let p = one(report).map_err(|e| format!("line {}: {e}", line + 1))?;
-        also(report, &p);
+// a problem; sizes and cut on each route; mostly a compact solution, its cone map and what it is joined to
+fn cuts(run: &mut Run, case: &Json) -> Result<(), String> {
+    let p = problem(case.get("problem")?)?;
+    for route in [Route::Compact, Route::Standard] {
+        run.cut(route, &p, case.get(route.name())?, 1)?;
+    }
+    if let (Ok(given), Ok(joined)) = (case.get("solution"), case.get("joined")) {
+        let map = case.get("cone_map")?.map()?;
+        run.join(Route::Compact, &p, &solution(given, map)?, joined)?;
+    }
+    Ok(())
+}
+
+// what reads and compares a case of a file
+type Form = fn(&mut Run, &Json) -> Result<(), String>;
+
+const FORMS: [(&str, Form); 2] = [("cases", base), ("q-7", cuts)];
+
+/// Compares each case of the file, whose name without its ending is one of `FORMS`.
+pub fn compare(report: &mut Report, draws: &mut Draws, file: &Path) -> Result<(), String> {
+    let stem = file.file_stem().and_then(|s| s.to_str()).unwrap_or_default();
+    let (_, form) = FORMS.iter().find(|(name, _)| *name == stem).ok_or(format!("{stem}: no such cases are known"))?;
+    let text = std::fs::read_to_string(file).map_err(|e| format!("{}: {e}", file.display()))?;
+    let run = &mut Run { report, draws };
+    for (line, case) in text.lines().enumerate().filter(|(_, case)| !case.trim().is_empty()) {
+        let read = Reader { bytes: case.as_bytes(), at: 0 }.value();
+        read.and_then(|case| form(run, &case)).map_err(|e| format!("line {}: {e}", line + 1))?;
     }
     Ok(())
 }

@@ -130,6 +130,7 @@ pub fn sizes(route: Route, problem: &Problem) -> Result<Sizes, Refusal> {
 }
 
 /// Cuts the PSD cones that have a pattern into their cliques: the augmented problem, and where its cones come from.
+/// There may be nothing to adjust: with n = 0 the overlaps' columns are the only ones.
 ///
 /// ```
 /// use tejiwakpa::{cut, Cone, Problem, Refusal, Route};

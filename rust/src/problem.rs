@@ -96,7 +96,7 @@ impl Columns {
 /// ```
 #[derive(Clone, Debug, Default, PartialEq)]
 pub struct Problem {
-    /// The number of unknowns.
+    /// The number of unknowns; there may be none.
     pub n: u32,
     /// The number of rows.
     pub m: u32,

@@ -31,7 +31,8 @@ pub enum Refusal {
     /// 7: snodes have an empty one or do not hold each vertex exactly once and no other number, or a separator repeats a
     /// member or has one that its parent's clique does not hold.
     Cliques = 7,
-    /// 8: the route is compact and n is 0.
+    /// 8: does not occur any more, since the compact route takes a problem without columns too. The number is not used
+    /// again.
     NoColumns = 8,
     /// 9: the route is compact, and a stored entry of A or a b unequal to zero lies in a decomposed cone's row that no
     /// clique covers.
@@ -45,7 +46,7 @@ pub enum Refusal {
 }
 
 impl Refusal {
-    /// All refusals, by number.
+    /// All refusals, by number, the one that does not occur any more among them.
     ///
     /// ```
     /// use tejiwakpa::Refusal;
@@ -94,7 +95,7 @@ impl Refusal {
     /// What the check found, in a few words.
     ///
     /// ```
-    /// assert_eq!(tejiwakpa::Refusal::NoColumns.meaning(), "the compact route needs a column");
+    /// assert_eq!(tejiwakpa::Refusal::Short.meaning(), "an output is too short");
     /// ```
     pub fn meaning(self) -> &'static str {
         match self {
@@ -105,7 +106,7 @@ impl Refusal {
             Refusal::Patterns => "pattern words or a pattern's cone are wrong, or an ordering is no permutation",
             Refusal::Tree => "a pattern's cliques are no tree with the last as its root",
             Refusal::Cliques => "snodes do not hold each vertex once, or a separator is wrong",
-            Refusal::NoColumns => "the compact route needs a column",
+            Refusal::NoColumns => "no columns, which is not refused any more",
             Refusal::Uncovered => "an entry of A or a value of b lies in a row that no clique covers",
             Refusal::TooLarge => "there are too many augmented rows or overlaps",
             Refusal::Short => "an output is too short",

@@ -5,7 +5,6 @@ use mathlib.Core.Path.{_≡_, refl, sym, ap, _∙_}
 use mathlib.Core.List.{List, [], _∷_, _++_, append-nil}
 use lib.ListN.{length, take, drop, set, length-set, length-drop, drop-of-length-le}
 use lib.Seq.{take-all, take-at, drop-at, drop-drop, length-take-le}
-use lib.Dec.{lit<}
 use Rattle.layout.specs.Lists.{written}
 use Rattle.layout.specs.Problem.{Problem, Csc, Route, standard}
 use Rattle.layout.specs.Blocks.{Part, standardRows, blockRowCount}
@@ -13,7 +12,8 @@ use Rattle.layout.specs.Checks.{Sound, layout, refusal, checks}
 use Rattle.layout.specs.Standard.{standardA}
 use Rattle.layout.specs.Answers.{joinedParts}
 use Rattle.layout.proofs.Tests.{leb-iff}
-use Rattle.layout.proofs.Accepted.{passed, accepted-checked}
+use Rattle.layout.proofs.Order.{passed}
+use Rattle.layout.proofs.Accepted.{accepted-checked}
 use Rattle.layout.proofs.Laid.{sound-laid}
 use Rattle.layout.proofs.Columns.{right-P}
 use Rattle.layout.proofs.Sizes.{standard-count}
@@ -97,7 +97,7 @@ module _ {p : Problem} (h : Accepted standard p) where
   -- with as many columns as the blocks have rows
   module _ (k : ℕ) (e : k ≡ blockRowCount (layout p)) where
     pub few-rows : p .m + k ≤ 262144
-    few-rows = omega (arith, e, leb-iff (p .m + blockRowCount (layout p)) 262144 .0 (passed 0 9 (checks standard (whole h)) (h .accepted) (lit< tt)))
+    few-rows = omega (arith, e, leb-iff (p .m + blockRowCount (layout p)) 262144 .0 (passed 10 (checks standard (whole h)) tt (h .accepted)))
 
     pub few-ends : length (p .A .values) + 2 * k < 4294967296
     few-ends = omega (arith, few-entries h, few-rows)

@@ -7,7 +7,7 @@ use mathlib.Core.Bool.{Bool, true, false, cond}
 use mathlib.Core.List.{List, [], _∷_, map}
 use lib.ListN.{length, getD, set, length-set, length-map}
 use lib.Seq.{getD-set-same, getD-set-other}
-use lib.Dec.{T, ltb, leb, lit<}
+use lib.Dec.{T, ltb, leb}
 use borrow.Author.Tests.{lt-ltb}
 use Rattle.layout.specs.Lists.{has, all, below, rises, Below}
 use Rattle.layout.specs.Problem.{Problem, compact}
@@ -15,7 +15,8 @@ use Rattle.layout.specs.Blocks.{Row, kept, owned, overlap, originalRow, compact
 use Rattle.layout.specs.Checks.{layout, refusal, checks, columnRows, coveredRows}
 use Rattle.layout.proofs.Tests.{and-iff, leb-iff, ltb-iff}
 use Rattle.layout.proofs.Members.{getD-map, has-map, has-getD, has-below, all-has}
-use Rattle.layout.proofs.Accepted.{passed, accepted-checked}
+use Rattle.layout.proofs.Order.{passed}
+use Rattle.layout.proofs.Accepted.{accepted-checked}
 use Rattle.layout.proofs.Laid.{accepted-count}
 use Rattle.layout.proofs.Moves.{rowAt, isMoved, RightRows}
 use Rattle.layout.proofs.Cut.{right-rows, covered-entries}
@@ -144,7 +145,7 @@ module _ (p : Problem) (ok : refusal compact p ≡ 0) where
 
   pub few-rows : length (map cutCode (compactRows (layout p))) ≤ 262144
   few-rows =
-      let k = and-iff (leb (blockRowCount (layout p)) 262144) (leb (overlapCount (layout p)) 131072) .0 (passed 0 9 (checks compact p) ok (lit< tt)) in
+      let k = and-iff (leb (blockRowCount (layout p)) 262144) (leb (overlapCount (layout p)) 131072) .0 (passed 10 (checks compact p) tt ok) in
       omega (arith, length-map R cutCode, accepted-count compact p ok, leb-iff (blockRowCount (layout p)) 262144 .0 (k .0))
 
   pub rows-known : Below (p .m) (p .A .rows)

@@ -1,42 +1,30 @@
--- The first failing test of a list, group by group.
-use Prim.Native.Nat.{ℕ, zero, suc, _+_, _≤_}
+-- The first failing check, group by group.
+use Prim.Native.Nat.{ℕ, zero, suc, _≤_}
 use native.Mathlib.Omega.{arith}
 use mathlib.Core.Path.{_≡_, refl, ap, _∙_}
 use mathlib.Core.Bool.{Bool, true, false, cond, _&&_}
 use mathlib.Core.List.{List, [], _∷_, _++_}
-use lib.ListN.{length, take, drop}
+use lib.ListN.{length}
 use lib.Dec.{T, leb, eqb}
 use lib.Ieee.{Float}
-use Rattle.layout.specs.Problem.{Problem, Route, standard}
+use Rattle.layout.specs.Problem.{Problem, Route}
 use Rattle.layout.specs.Patterns.{readPatterns, endsRight}
-use Rattle.layout.specs.Checks.{conesBounded, conesRead, alphasAsMany, patternsRead, check1, check8, check9, check10, checks, firstFailing, refusal, layout}
+use Rattle.layout.specs.Checks.{conesBounded, conesRead, alphasAsMany, patternsRead, check1, check2, check3, check4, check10, Check, check, firstFailing, patternChecks, problemChecks, routeChecks, refusal}
 use Rattle.layout.proofs.Tests.{and-iff, leb-iff, passed, passes, differ}
+use Rattle.layout.proofs.Order.{failing-append}
 use Rattle.layout.specs.Answers.{joinBounded, orElse, problemRefusal, joinChecks, joinedParts}
-use Rattle.checks.specs.Order.{matricesRefusal, recordsRefusal, patternsRefusal, joinedTests, joinedRefusal}
-
--- two groups: the second counts on
-pub failing-append : (k : ℕ) (xs ys : List Bool)
-    → firstFailing (suc k) (xs ++ ys) ≡ orElse (firstFailing (suc k) xs) (firstFailing (suc k + length xs) ys)
-failing-append k [] ys = let e : suc k ≡ suc k + 0 = omega arith in ap (λ (j : ℕ). firstFailing j ys) e
-failing-append k (true ∷ xs) ys =
-    let e : suc (suc k) + length xs ≡ suc k + suc (length xs) = omega arith in
-    failing-append (suc k) xs ys ∙ ap (λ (j : ℕ). orElse (firstFailing (suc (suc k)) xs) (firstFailing j ys)) e
-failing-append k (false ∷ xs) ys = refl
+use Rattle.checks.specs.Order.{matricesRefusal, recordsRefusal, patternsRefusal, joinedChecks, joinedRefusal}
 
 -- checks 1 to 10 of a problem: 1 to 7, then those of the route
-pub problem-then-route : (route : Route) (p : Problem)
-    → refusal route p
-    ≡ orElse (problemRefusal p) (firstFailing 8 (check8 route (p .n) ∷ check9 route p ∷ check10 route (p .m) (layout p) ∷ []))
-problem-then-route route p =
-    failing-append 0 (take 7 (checks standard p)) (check8 route (p .n) ∷ check9 route p ∷ check10 route (p .m) (layout p) ∷ [])
+pub problem-then-route : (route : Route) (p : Problem) → refusal route p ≡ orElse (problemRefusal p) (firstFailing (routeChecks route p))
+problem-then-route route p = failing-append (problemChecks p) (routeChecks route p) tt
 
 -- and those of a joining
 pub joined-then-route : (route : Route) (n m : ℕ) (cones : List ℕ) (count : ℕ) (words : List ℕ)
     → joinChecks route n m cones count words
-    ≡ orElse (joinedRefusal n m cones count words)
-    (firstFailing 8 (check8 route n ∷ true ∷ check10 route m (joinedParts cones count words) ∷ []))
+    ≡ orElse (joinedRefusal n m cones count words) (cond (check10 route m (joinedParts cones count words)) 0 10)
 joined-then-route route n m cones count words =
-    failing-append 0 (joinedTests n m cones count words) (check8 route n ∷ true ∷ check10 route m (joinedParts cones count words) ∷ [])
+    failing-append (joinedChecks n m cones count words) (check 10 (check10 route m (joinedParts cones count words)) ∷ []) tt
 
 -- checks 1 to 7 in their groups
 pub in-groups : (p : Problem)
@@ -46,11 +34,12 @@ pub in-groups : (p : Problem)
     (orElse (recordsRefusal (p .n) (p .m) (p .q) (p .b) (p .cones) (p .alphas))
     (patternsRefusal (p .cones) (p .patternCount) (p .patternWords))))
 in-groups p =
-    let tests = take 7 (checks standard p) in
-    failing-append 0 (take 1 tests) (drop 1 tests)
+    let matrices : List Check = check 2 (check2 p) ∷ check 3 (check3 p) ∷ [] in
+    let records : List Check = check 4 (check4 p) ∷ [] in
+    failing-append (check 1 (check1 p) ∷ []) (matrices ++ records ++ patternChecks p) tt
     ∙ ap (orElse (cond (check1 p) 0 1))
-    (failing-append 1 (take 2 (drop 1 tests)) (drop 3 tests)
-    ∙ ap (orElse (matricesRefusal (p .n) (p .m) (p .P) (p .A))) (failing-append 3 (take 1 (drop 3 tests)) (drop 4 tests)))
+    (failing-append matrices (records ++ patternChecks p) tt
+    ∙ ap (orElse (matricesRefusal (p .n) (p .m) (p .P) (p .A))) (failing-append records (patternChecks p) tt))
 
 -- ---- two numbers, the second where the first is 0
 

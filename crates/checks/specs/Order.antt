@@ -1,6 +1,6 @@
 -- Checks 1 to 7 in the groups that the code makes them in.
 use Prim.Native.Nat.{ℕ}
-use mathlib.Core.Bool.{Bool, true, _&&_}
+use mathlib.Core.Bool.{Bool, _&&_}
 use mathlib.Core.List.{List, [], _∷_}
 use lib.ListN.{length}
 use lib.Dec.{leb, eqb}
@@ -8,7 +8,7 @@ use lib.Ieee.{Float}
 use Rattle.layout.specs.Lists.{all}
 use Rattle.layout.specs.Problem.{Csc}
 use Rattle.layout.specs.Patterns.{patterns}
-use Rattle.layout.specs.Checks.{conesBounded, startsRight, rowsRight, conesRead, alphasAsMany, patternsRead, treeRight, cliquesRight, firstFailing}
+use Rattle.layout.specs.Checks.{conesBounded, startsRight, rowsRight, conesRead, alphasAsMany, patternsRead, treeRight, cliquesRight, Check, check, firstFailing}
 use Rattle.layout.specs.Answers.{joinBounded}
 
 -- 1
@@ -18,25 +18,25 @@ bounds n m aEntries pEntries cones = leb n 65536 && leb m 65536 && leb aEntries 
 -- 2 and 3
 abbrev pub matricesRefusal : ℕ → ℕ → Csc → Csc → ℕ
 matricesRefusal n m P A =
-    firstFailing 2 ((startsRight n A && startsRight n P) ∷ (rowsRight m n A && rowsRight n n P) ∷ [])
+    firstFailing (check 2 (startsRight n A && startsRight n P) ∷ check 3 (rowsRight m n A && rowsRight n n P) ∷ [])
 
 -- 4
 abbrev pub recordsRefusal : ℕ → ℕ → List Float → List Float → List ℕ → List Float → ℕ
 recordsRefusal n m q b cones alphas =
-    firstFailing 4 ((conesRead m cones && alphasAsMany cones alphas && eqb (length q) n && eqb (length b) m) ∷ [])
+    firstFailing (check 4 (conesRead m cones && alphasAsMany cones alphas && eqb (length q) n && eqb (length b) m) ∷ [])
 
 -- 5, 6 and 7
 abbrev pub patternsRefusal : List ℕ → ℕ → List ℕ → ℕ
 patternsRefusal cones count words =
     let ps = patterns count words in
-    firstFailing 5 (patternsRead cones count words ∷ all treeRight ps ∷ all cliquesRight ps ∷ [])
+    firstFailing (check 5 (patternsRead cones count words) ∷ check 6 (all treeRight ps) ∷ check 7 (all cliquesRight ps) ∷ [])
 
 -- those of a joining, which lacks the inputs of 2 and 3 and, of 4, all but the records and m
-abbrev pub joinedTests : ℕ → ℕ → List ℕ → ℕ → List ℕ → List Bool
-joinedTests n m cones count words =
+abbrev pub joinedChecks : ℕ → ℕ → List ℕ → ℕ → List ℕ → List Check
+joinedChecks n m cones count words =
     let ps = patterns count words in
-    joinBounded n m cones ∷ true ∷ true ∷ conesRead m cones
-    ∷ patternsRead cones count words ∷ all treeRight ps ∷ all cliquesRight ps ∷ []
+    check 1 (joinBounded n m cones) ∷ check 4 (conesRead m cones)
+    ∷ check 5 (patternsRead cones count words) ∷ check 6 (all treeRight ps) ∷ check 7 (all cliquesRight ps) ∷ []
 
 abbrev pub joinedRefusal : ℕ → ℕ → List ℕ → ℕ → List ℕ → ℕ
-joinedRefusal n m cones count words = firstFailing 1 (joinedTests n m cones count words)
+joinedRefusal n m cones count words = firstFailing (joinedChecks n m cones count words)

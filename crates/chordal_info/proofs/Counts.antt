@@ -4,7 +4,7 @@ use native.Mathlib.Omega.{arith}
 use mathlib.Core.Path.{_≡_, refl, sym, ap, subst}
 use mathlib.Core.List.{List, [], _∷_, map}
 use lib.ListN.{length, getD}
-use lib.Dec.{T, leb, lit<}
+use lib.Dec.{T, leb}
 use Rattle.layout.specs.Lists.{all, sum}
 use Rattle.layout.specs.Triangle.{triangle}
 use Rattle.layout.specs.Problem.{Problem, Route}
@@ -16,7 +16,8 @@ use Rattle.layout.proofs.Tests.{and-iff, leb-iff}
 use Rattle.layout.proofs.Triangles.{triangle-mono}
 use Rattle.layout.proofs.Tree.{cliques-right}
 use Rattle.layout.proofs.Laid.{sound-laid}
-use Rattle.layout.proofs.Accepted.{passed, accepted-checked}
+use Rattle.layout.proofs.Order.{passed}
+use Rattle.layout.proofs.Accepted.{accepted-checked}
 use Rattle.chordal_info.specs.Sizes.{Fitting}
 use Rattle.chordal_info.proofs.Sizes.{rows-fit}
 
@@ -73,4 +74,4 @@ pub accepted-fitting : (route : Route) (p : Problem) → refusal route p ≡ 0
 accepted-fitting route p ok =
     let ps = layout p in
     let h = accepted-checked route p ok in
-    (h .fewColumns, h .fewEntriesA, subst T (sym (rows-fit route (p .m) ps)) (passed 0 9 (checks route p) ok (lit< tt)), overlaps-few ps, sound-cones (h .sound))
+    (h .fewColumns, h .fewEntriesA, subst T (sym (rows-fit route (p .m) ps)) (passed 10 (checks route p) tt ok), overlaps-few ps, sound-cones (h .sound))

@@ -1,38 +1,28 @@
--- Checks 8 to 10 in order, by a route's number.
+-- Checks 9 and 10 in order, by a route's number.
 use Prim.Native.Nat.{ℕ, zero, suc}
 use mathlib.Core.Path.{_≡_, refl, ap}
 use mathlib.Core.Bool.{Bool, true, false, cond}
 use mathlib.Core.List.{List, [], _∷_}
-use borrow.Author.Tests.{ne-eqb}
 use lib.Ieee.{Float}
 use Rattle.layout.specs.Problem.{Problem, Route, standard, compact}
 use Rattle.layout.specs.Blocks.{Part}
-use Rattle.layout.specs.Checks.{layout, check8, check9, check10, firstFailing}
+use Rattle.layout.specs.Checks.{layout, check9, check10, check, firstFailing}
 use Rattle.layout.specs.Answers.{routeOf}
 use Rattle.covered_rows.specs.Covered.{entriesRight}
 use Rattle.chordal_info.specs.Sizes.{rowsFit}
-use Rattle.chordal_info.specs.Routes.{entriesCheck, joinRouteChecks, joinCountChecks, Counted}
+use Rattle.chordal_info.specs.Routes.{entriesCheck, Counted}
 use Rattle.chordal_info.proofs.Sizes.{rows-fit}
 
--- ---- the first that fails, whatever checks 9 and 10 are
+-- ---- the first that fails, whatever check 10 is
 
-abbrev inOrder : ℕ → ℕ → Bool → Bool → ℕ
-inOrder r n entries rows = firstFailing 8 (check8 (routeOf r) n ∷ entries ∷ rows ∷ [])
+abbrev inOrder : Bool → Bool → ℕ
+inOrder entries rows = firstFailing (check 9 entries ∷ check 10 rows ∷ [])
 
-pub standard-rows : (r n : ℕ) (entries rows : Bool) → r ≡ 0 → entries ≡ true → inOrder r n entries rows ≡ cond rows 0 10
-standard-rows r n entries rows e f = rw (e, f)
+pub entries-fail : (entries rows : Bool) → entries ≡ false → inOrder entries rows ≡ 9
+entries-fail entries rows e = rw e
 
-pub no-columns : (r n : ℕ) (entries rows : Bool) → (r ≡ 0 → ⊥) → n ≡ 0 → inOrder r n entries rows ≡ 8
-no-columns zero n entries rows h e = absurd (h refl)
-no-columns (suc r) n entries rows h e = rw e
-
-pub entries-fail : (r n : ℕ) (entries rows : Bool) → (r ≡ 0 → ⊥) → (n ≡ 0 → ⊥) → entries ≡ false → inOrder r n entries rows ≡ 9
-entries-fail zero n entries rows h k e = absurd (h refl)
-entries-fail (suc r) n entries rows h k e = rw (ne-eqb n 0 k, e)
-
-pub compact-rows : (r n : ℕ) (entries rows : Bool) → (r ≡ 0 → ⊥) → (n ≡ 0 → ⊥) → entries ≡ true → inOrder r n entries rows ≡ cond rows 0 10
-compact-rows zero n entries rows h k e = absurd (h refl)
-compact-rows (suc r) n entries rows h k e = rw (ne-eqb n 0 k, e)
+pub entries-pass : (entries rows : Bool) → entries ≡ true → inOrder entries rows ≡ cond rows 0 10
+entries-pass entries rows e = rw e
 
 -- ---- check 9 by the route's number
 
@@ -53,9 +43,6 @@ module _ (route : Route) (m : ℕ) (ps : List Part) (rows overlaps : ℕ) (h : C
 
   pub counted-rows : let tenth : Bool → ℕ = λ t. cond t 0 10 in tenth (rowsFit route m rows overlaps) ≡ tenth (check10 route m ps)
   counted-rows = let tenth : Bool → ℕ = λ t. cond t 0 10 in ap tenth counted-fit
-
-  pub counted-join : (n : ℕ) → firstFailing 8 (joinCountChecks route n m rows overlaps) ≡ firstFailing 8 (joinRouteChecks route n m ps)
-  counted-join n = ap (λ (t : Bool). firstFailing 8 (check8 route n ∷ true ∷ t ∷ [])) counted-fit
 
 -- check 9 of a problem, from what it reads of it
 pub entries-check : (route : Route) (p : Problem) → check9 route p ≡ entriesCheck route (p .m) (p .A .rows) (p .b) (layout p)

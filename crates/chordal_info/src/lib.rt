@@ -1,4 +1,4 @@
-// Checks 8 to 10 of a route, and the sizes of the cut's outputs.
+// Checks 9 and 10 of a route, and the sizes of the cut's outputs.
 ghost use mathlib.Core.Path.{_≡_};
 ghost use Prim.Native.Nat.{_≤_, _<_};
 ghost use mathlib.Core.Bool.{cond};
@@ -11,7 +11,7 @@ ghost use Rattle.layout.specs.Blocks.{parts};
 ghost use Rattle.layout.specs.Checks.{Sound, firstFailing};
 ghost use Rattle.layout.specs.Answers.{routeOf};
 ghost use Rattle.chordal_info.specs.Sizes.{rowsFit, routeSizes, Fitting};
-ghost use Rattle.chordal_info.specs.Routes.{Counted, routeChecks, joinCountChecks};
+ghost use Rattle.chordal_info.specs.Routes.{Counted, routeTests};
 use covered_rows::entries_right;
 use csc::copy_numbers;
 
@@ -32,8 +32,8 @@ pub fn rows_right(route: u32, m: u32, rows: u64, overlaps: u64) -> bool
 
 // ---- the route's checks in order
 
-// Check 10 alone: 0 or 10.
-fn rows_refusal(route: u32, m: u32, rows: u64, overlaps: u64) -> u32
+// Check 10 alone, which is all that a route adds to a joining's checks: 0 or 10.
+pub fn rows_refusal(route: u32, m: u32, rows: u64, overlaps: u64) -> u32
     ensures { λ r. ⌜ r ≡ cond (rowsFit (routeOf route) m rows overlaps) 0 10 ⌝ }
 {
     if rows_right(route, m, rows, overlaps) {
@@ -42,10 +42,9 @@ fn rows_refusal(route: u32, m: u32, rows: u64, overlaps: u64) -> u32
     10
 }
 
-// Checks 8 to 10 of a whole problem whose blocks' rows and overlaps are counted: the number of the first that fails.
+// Checks 9 and 10 of a whole problem whose blocks' rows and overlaps are counted: the number of the first that fails.
 pub fn check_route(
     route: u32,
-    n: u32,
     m: u32,
     a_rows: &[u32],
     b: &[f64],
@@ -58,29 +57,13 @@ pub fn check_route(
     requires { ⌜ Sound m (now cones) count (now words) ⌝ }
     requires { ⌜ T (all (λ r. ltb r m) (now «a_rows»)) × (length (now b) ≡ m) ⌝ }
     requires { ⌜ Counted (parts (records (now cones)) (patterns count (now words))) rows overlaps ⌝ }
-    ensures { λ r. ⌜ r ≡ firstFailing 8 (routeChecks (routeOf route) n m (now («a_rows» .entry)) (now (b .entry)) (parts (records (now (cones .entry))) (patterns count (now (words .entry))))) ⌝ }
+    ensures { λ r. ⌜ r ≡ firstFailing (routeTests (routeOf route) m (now («a_rows» .entry)) (now (b .entry)) (parts (records (now (cones .entry))) (patterns count (now (words .entry))))) ⌝ }
 {
     if route == 0 {
         return rows_refusal(route, m, rows, overlaps);
-    }
-    if n == 0 {
-        return 8;
     }
     if !entries_right(m, cones, count, words, a_rows, b) {
         return 9;
-    }
-    rows_refusal(route, m, rows, overlaps)
-}
-
-// Checks 8 and 10 of a joining, which lacks the inputs of check 9.
-pub fn check_join_counted(route: u32, n: u32, m: u32, rows: u64, overlaps: u64) -> u32
-    ensures { λ r. ⌜ r ≡ firstFailing 8 (joinCountChecks (routeOf route) n m rows overlaps) ⌝ }
-{
-    if route == 0 {
-        return rows_refusal(route, m, rows, overlaps);
-    }
-    if n == 0 {
-        return 8;
     }
     rows_refusal(route, m, rows, overlaps)
 }

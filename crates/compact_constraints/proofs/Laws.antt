@@ -6,7 +6,7 @@ use mathlib.Core.Bool.{Bool, false}
 use mathlib.Core.List.{List, map}
 use lib.ListN.{length, take, replicate, length-replicate, replicate-append-replicate}
 use lib.Seq.{take-at, length-take-le}
-use lib.Dec.{T, leb, lit<}
+use lib.Dec.{T, leb}
 use mir.Syntax.{w64}
 use mir.Val.{Fits}
 use Rattle.layout.specs.Lists.{written}
@@ -18,7 +18,7 @@ use Rattle.layout.specs.Answers.{joinedParts}
 use Rattle.layout.proofs.Tests.{and-iff, leb-iff}
 use Rattle.layout.proofs.Starts.{length-written}
 use Rattle.layout.proofs.Buffers.{take-written}
-use Rattle.layout.proofs.Accepted.{passed}
+use Rattle.layout.proofs.Order.{passed}
 use Rattle.layout.proofs.Laid.{sound-laid}
 use Rattle.codes.specs.Codes.{cutCode, RowsInside}
 use Rattle.codes.proofs.Rows.{accepted-inside}
@@ -83,7 +83,7 @@ module _ {p : Problem} (h : Accepted compact p) where
   -- the entries of the cut's A
   pub few-ends : (k : ℕ) → k ≡ overlapCount (layout p) → length (p .A .values) + 2 * k < 4294967296
   few-ends k e =
-      let tenth = and-iff (leb (blockRowCount (layout p)) 262144) (leb (overlapCount (layout p)) 131072) .0 (passed 0 9 (checks compact (whole h)) (h .accepted) (lit< tt)) in
+      let tenth = and-iff (leb (blockRowCount (layout p)) 262144) (leb (overlapCount (layout p)) 131072) .0 (passed 10 (checks compact (whole h)) tt (h .accepted)) in
       omega (arith, e, few-entries h, leb-iff (overlapCount (layout p)) 131072 .0 (tenth .1))
 
   -- ---- what the writers ask of A, b and the codes

@@ -7,24 +7,24 @@ use lib.ListN.{length}
 use Rattle.layout.specs.Lists.{written}
 use Rattle.layout.specs.Problem.{Problem, Route}
 use Rattle.layout.specs.Blocks.{blockRowCount, overlapCount, coneCount}
-use Rattle.layout.specs.Checks.{layout, check8, check10, firstFailing, refusal}
+use Rattle.layout.specs.Checks.{layout, check10, check, firstFailing, refusal}
 use Rattle.layout.specs.Answers.{orElse, roomRefusal, routeOf, onRoute, problemRefusal, sizesRefusal, sizes}
 use Rattle.checks.proofs.Order.{problem-then-route, first-given}
 use Rattle.chordal_info.specs.Sizes.{Fitting, routeSizes}
-use Rattle.chordal_info.specs.Routes.{routeChecks}
+use Rattle.chordal_info.specs.Routes.{routeTests}
 use Rattle.chordal_info.proofs.Routes.{entries-check}
 use Rattle.chordal_info.proofs.Sizes.{route-sizes}
 use Rattle.chordal_info.proofs.Counts.{accepted-fitting}
 use Rattle.decomp.proofs.Answers.{on-route}
 
--- what checks 8 to 10 answer
+-- what checks 9 and 10 answer
 abbrev pub later : Route → Problem → ℕ
-later route p = firstFailing 8 (routeChecks route (p .n) (p .m) (p .A .rows) (p .b) (layout p))
+later route p = firstFailing (routeTests route (p .m) (p .A .rows) (p .b) (layout p))
 
 in-order : (route : Route) (p : Problem) → refusal route p ≡ orElse (problemRefusal p) (later route p)
 in-order route p =
     problem-then-route route p
-    ∙ ap (λ (t : Bool). orElse (problemRefusal p) (firstFailing 8 (check8 route (p .n) ∷ t ∷ check10 route (p .m) (layout p) ∷ []))) (entries-check route p)
+    ∙ ap (λ (t : Bool). orElse (problemRefusal p) (firstFailing (check 9 t ∷ check 10 (check10 route (p .m) (layout p)) ∷ []))) (entries-check route p)
 
 refused-late : (route : Route) (p : Problem) → problemRefusal p ≡ 0 → refusal route p ≡ later route p
 refused-late route p e = in-order route p ∙ ap (λ (k : ℕ). orElse k (later route p)) e
@@ -39,7 +39,7 @@ module _ (k : ℕ) (p : Problem) (room : ℕ) (l : k ≤ 1) where
   stopped-early x e h =
       stopped x (in-order (routeOf k) p ∙ first-given (problemRefusal p) (later (routeOf k) p) (λ z. h (e ∙ z)) ∙ sym e) h
 
-  -- one of checks 8 to 10 fails
+  -- check 9 or 10 fails
   pub stopped-late : (x : ℕ) → problemRefusal p ≡ 0 → x ≡ later (routeOf k) p → (x ≡ 0 → ⊥) → x ≡ onRoute k (λ rt. sizesRefusal rt p room)
   stopped-late x z e h = stopped x (refused-late (routeOf k) p z ∙ sym e) h
 

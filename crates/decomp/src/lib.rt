@@ -51,18 +51,7 @@ pub fn sizes(
         return r;
     }
     let d = parts::get_decomposed_dim_and_overlaps(m, cones, count, words);
-    let t = chordal_info::check_route(
-        route,
-        n,
-        m,
-        a_rows,
-        b,
-        cones,
-        count,
-        words,
-        d.rows,
-        d.overlaps,
-    );
+    let t = chordal_info::check_route(route, m, a_rows, b, cones, count, words, d.rows, d.overlaps);
     if t != 0 {
         return t;
     }

@@ -1,2 +1,3 @@
 pub mod Rooms
 pub mod Demand3
+pub mod NoColumns

@@ -5,22 +5,23 @@ use mathlib.Core.Path.{_≡_, refl, sym, ap, subst, _∙_}
 use mathlib.Core.Bool.{Bool, true, false, cond, _&&_}
 use mathlib.Core.List.{List, [], _∷_}
 use lib.ListN.{length, take}
-use lib.Dec.{T, eqb, lit<}
+use lib.Dec.{T, eqb}
 use lib.Ieee.{Float}
 use borrow.Author.Tests.{ne-eqb}
 use Rattle.layout.specs.Problem.{Route, standard, compact, Solution, solution, one64}
 use Rattle.layout.specs.Blocks.{Part, blockRowCount, overlapCount}
-use Rattle.layout.specs.Checks.{Sound, firstFailing}
+use Rattle.layout.specs.Checks.{Sound, check10, check}
 use Rattle.layout.specs.Answers.{orElse, roomy, routeOf, joinedParts, joinChecks, joinRefusal, joined, solutionFits, mapRight, scalars}
 use Rattle.layout.proofs.Tests.{and-iff, leb-iff, eqb-iff}
-use Rattle.layout.proofs.Accepted.{passed}
+use Rattle.layout.proofs.Order.{passed}
+use Rattle.layout.proofs.Accepted.{joinTests}
 use Rattle.checks.specs.Order.{joinedRefusal}
 use Rattle.checks.proofs.Order.{joined-then-route, first-given, both-zero}
 use Rattle.checks.proofs.Checked.{joined-sound}
-use Rattle.chordal_info.specs.Routes.{joinRouteChecks, Counted}
+use Rattle.chordal_info.specs.Routes.{Counted}
 use Rattle.chordal_info.proofs.Sizes.{rows-fit, rows-few}
 use Rattle.chordal_info.proofs.Counts.{overlaps-few}
-use Rattle.chordal_info.proofs.Routes.{counted-join}
+use Rattle.chordal_info.proofs.Routes.{counted-rows}
 use Rattle.reverse.specs.Joined.{Joinable, joinedOf, routeOf as routeIs}
 use Rattle.decomp_reverse.specs.Fits.{lengthsFit, fitsBy, countedRefusal, refusalBy}
 
@@ -41,16 +42,15 @@ pub checks-passed : (route : Route) (n m : ℕ) (cones : List ℕ) (count : ℕ)
     → Sound m cones count words × (blockRowCount (joinedParts cones count words) ≤ 262144)
 checks-passed route n m cones count words e =
     let ps = joinedParts cones count words in
-    let last = joinRouteChecks route n m ps in
-    let (seven, later) = both-zero (joinedRefusal n m cones count words) (firstFailing 8 last) (sym (joined-then-route route n m cones count words) ∙ e) in (
+    let (seven, _) = both-zero (joinedRefusal n m cones count words) (cond (check10 route m ps) 0 10) (sym (joined-then-route route n m cones count words) ∙ e) in (
       joined-sound n m cones count words seven,
-      rows-few route m (blockRowCount ps) (overlapCount ps) (subst T (sym (rows-fit route m ps)) (passed 7 2 last later (lit< tt))),
+      rows-few route m (blockRowCount ps) (overlapCount ps) (subst T (sym (rows-fit route m ps)) (passed 10 (joinTests route n m cones count words) tt e)),
     )
 
--- the first seven, where they refuse; and those of the route, where they do not
+-- checks 1 to 7, where they refuse; and check 10, where they do not
 module _ (route : Route) (n m : ℕ) (cones : List ℕ) (count : ℕ) (words : List ℕ) where
   abbrev later : ℕ
-  later = firstFailing 8 (joinRouteChecks route n m (joinedParts cones count words))
+  later = cond (check10 route m (joinedParts cones count words)) 0 10
 
   pub seven-refused : (joinedRefusal n m cones count words ≡ 0 → ⊥) → joinedRefusal n m cones count words ≡ joinChecks route n m cones count words
   seven-refused h = sym (joined-then-route route n m cones count words ∙ first-given (joinedRefusal n m cones count words) later h)
@@ -109,10 +109,10 @@ module _ (route : Route) (n m : ℕ) (cones : List ℕ) (count : ℕ) (words : L
     unfolding countedRefusal before-map
     same =
         ap (λ (a : ℕ). orElse a (orElse (cond room 0 11) (cond (lengthsFit route n m rows overlaps x s z) 0 12)))
-        (counted-join route m ps rows overlaps c n ∙ seven-passed route n m cones count words e)
+        (counted-rows route m ps rows overlaps c ∙ seven-passed route n m cones count words e)
         ∙ ap (λ (t : Bool). orElse ten (orElse (cond room 0 11) (cond t 0 12))) (counted-fits route n m rows overlaps ps c x s z)
 
-    -- one of checks 8 to 12 fails, the map aside
+    -- one of checks 10 to 12 fails, the map aside
     pub refused-counted : (r : ℕ) → r ≡ countedRefusal route n m rows overlaps x s z rooms → (r ≡ 0 → ⊥) → r ≡ refusalBy route n m cones count words x s z entries rooms
     unfolding refusalBy before-map
     refused-counted r f h =
@@ -151,8 +151,8 @@ join-accepted route n m cones count words sol entries x s z k e =
     let fit : Bool = fits && mapRight route ps entries in
     let (ten, rest) = both-zero (joinChecks route n m cones count words) (orElse (cond room 0 11) (cond fit 0 12)) e in
     let (eleven, twelve) = both-zero (cond room 0 11) (cond fit 0 12) rest in
-    let rooms = simp (and-iff, leb-iff) at (passed 10 0 (room ∷ []) eleven (lit< tt)) in
-    let lengths = simp (and-iff, eqb-iff) at (and-iff fits (mapRight route ps entries) .0 (passed 11 0 (fit ∷ []) twelve (lit< tt)) .0) in
+    let rooms = simp (and-iff, leb-iff) at (passed 11 (check 11 room ∷ []) tt eleven) in
+    let lengths = simp (and-iff, eqb-iff) at (and-iff fits (mapRight route ps entries) .0 (passed 12 (check 12 fit ∷ []) tt twelve) .0) in
     let (sound, few) = checks-passed route n m cones count words ten in
     record {
       joinable = record { sound = sound; few = few; slacks = lengths .0 .1; duals = lengths .1 };

@@ -5,19 +5,18 @@ use mathlib.Core.List.{List, [], _∷_}
 use lib.Dec.{eqb}
 use Rattle.layout.specs.Problem.{Route, standard, compact}
 use Rattle.layout.specs.Blocks.{Part}
-use Rattle.layout.specs.Checks.{firstFailing}
 use Rattle.layout.specs.Answers.{orElse, roomy, addedCount, slackCount, joinedParts, mapRight, joinChecks}
-use Rattle.chordal_info.specs.Routes.{joinCountChecks}
+use Rattle.chordal_info.specs.Sizes.{rowsFit}
 
 -- the lengths of check 12
 abbrev pub lengthsFit : Route → ℕ → ℕ → ℕ → ℕ → ℕ → ℕ → ℕ → Bool
 lengthsFit standard n m rows overlaps x s z = eqb x (n + rows) && eqb s (m + rows) && eqb z (m + rows)
 lengthsFit compact n m rows overlaps x s z = eqb x (n + overlaps) && eqb s rows && eqb z rows
 
--- checks 8 to 12 but for the cone map
+-- checks 10 to 12 but for the cone map
 unfoldable pub countedRefusal : Route → ℕ → ℕ → ℕ → ℕ → ℕ → ℕ → ℕ → List ℕ → ℕ
 countedRefusal route n m rows overlaps x s z rooms =
-    orElse (firstFailing 8 (joinCountChecks route n m rows overlaps))
+    orElse (cond (rowsFit route m rows overlaps) 0 10)
     (orElse (cond (roomy (n ∷ m ∷ m ∷ 2 ∷ []) rooms) 0 11)
     (cond (lengthsFit route n m rows overlaps x s z) 0 12))
 

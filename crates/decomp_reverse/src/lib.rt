@@ -140,7 +140,7 @@ pub fn lengths_fit(
     lengths_are(x, s, z, n as usize + overlaps as usize, k)
 }
 
-// Checks 8 to 12 in order but for the cone map, from counts and lengths.
+// Checks 10 to 12 in order but for the cone map, from counts and lengths.
 fn refuse_counted(
     route: u32,
     n: u32,
@@ -158,7 +158,7 @@ fn refuse_counted(
     requires { ⌜ overlaps ≤ rows ⌝ }
     ensures { λ r. ⌜ r ≡ countedRefusal (routeOf route) n m rows overlaps x s z («x_room» ∷ «s_room» ∷ «z_room» ∷ «scalars_room» ∷ []) ⌝ }
 {
-    let r = chordal_info::check_join_counted(route, n, m, rows, overlaps);
+    let r = chordal_info::rows_refusal(route, m, rows, overlaps);
     if r != 0 {
         return r;
     }

@@ -18,7 +18,7 @@ fn check_join(n: u32, m: u32, cones: &[u32], count: u32, words: &[u32]) -> u32
     if c.refusal != 0 {
         return c.refusal;
     }
-    chordal_info::check_join_counted(1, n, m, c.rows, c.overlaps)
+    chordal_info::rows_refusal(1, m, c.rows, c.overlaps)
 }
 
 // Checks 11 and 12 after checks 1 to 10, whose answer is given: the number of the first that fails, or 0. Whether the map is the problem's is

@@ -2,7 +2,7 @@
 use Prim.Native.Nat.{ℕ, zero, suc, _+_}
 use mathlib.Core.Bool.{Bool, true, false, cond, _&&_}
 use mathlib.Core.List.{List, [], _∷_, map}
-use lib.ListN.{length, take}
+use lib.ListN.{length}
 use lib.Dec.{leb, eqb}
 use lib.Ieee.{Float}
 use Rattle.layout.specs.Lists.{below, all, written, sameNumbers}
@@ -11,7 +11,7 @@ use Rattle.layout.specs.Problem.{Problem, Csc, Route, standard, compact,
 use Rattle.layout.specs.Cones.{records}
 use Rattle.layout.specs.Patterns.{Pattern, noPattern, readPattern, endsRight, wholly, patterns, renumber, patternWordsOf, placeOf}
 use Rattle.layout.specs.Blocks.{Part, parts, blockRowCount, overlapCount}
-use Rattle.layout.specs.Checks.{conesBounded, conesRead, patternsRead, treeRight, cliquesRight, isPermutation, check8, check10, firstFailing, layout, checks, refusal}
+use Rattle.layout.specs.Checks.{conesBounded, conesRead, patternsRead, treeRight, cliquesRight, isPermutation, check10, check, firstFailing, layout, problemChecks, refusal}
 use Rattle.layout.specs.Compact.{coneMap, mapWords, compactA, compactB, compactP, compactQ, compactCones}
 use Rattle.layout.specs.Standard.{standardA, standardB, standardP, standardQ, standardCones}
 use Rattle.layout.specs.Reverse.{compactReverse, standardReverse}
@@ -69,7 +69,7 @@ onlyRead ws = endsRight (readPattern ws) && isPermutation (onlyPattern ws .order
 abbrev pub renumberRefusal : List ℕ → ℕ → ℕ
 renumberRefusal ws room =
     let p = onlyPattern ws in
-    orElse (firstFailing 5 (onlyRead ws ∷ treeRight p ∷ cliquesRight p ∷ [])) (roomRefusal (length ws) room)
+    orElse (firstFailing (check 5 (onlyRead ws) ∷ check 6 (treeRight p) ∷ check 7 (cliquesRight p) ∷ [])) (roomRefusal (length ws) room)
 
 abbrev pub renumbered : List ℕ → List ℕ
 renumbered ws = patternWordsOf (renumber (onlyPattern ws))
@@ -153,10 +153,10 @@ solutionFits route n m ps sol =
 abbrev pub joinChecks : Route → ℕ → ℕ → List ℕ → ℕ → List ℕ → ℕ
 joinChecks route n m cones count words =
     let pats = patterns count words in
-    firstFailing 1
-    (joinBounded n m cones ∷ true ∷ true ∷ conesRead m cones
-    ∷ patternsRead cones count words ∷ all treeRight pats ∷ all cliquesRight pats
-    ∷ check8 route n ∷ true ∷ check10 route m (joinedParts cones count words) ∷ [])
+    firstFailing
+    (check 1 (joinBounded n m cones) ∷ check 4 (conesRead m cones)
+    ∷ check 5 (patternsRead cones count words) ∷ check 6 (all treeRight pats) ∷ check 7 (all cliquesRight pats)
+    ∷ check 10 (check10 route m (joinedParts cones count words)) ∷ [])
 
 -- with the cone map's words, and the room of x, s, z and the two scalars
 abbrev pub joinRefusal : Route → ℕ → ℕ → List ℕ → ℕ → List ℕ → Solution → List ℕ → List ℕ → ℕ
@@ -176,7 +176,7 @@ scalars sol = sol .tau ∷ sol .kappa ∷ []
 -- ---- same layout: checks 1 to 7 of the first, then of the second, then whether they agree
 
 abbrev pub problemRefusal : Problem → ℕ
-problemRefusal p = firstFailing 1 (take 7 (checks standard p))
+problemRefusal p = firstFailing (problemChecks p)
 
 abbrev pub sameLayoutRefusal : Problem → Problem → ℕ → ℕ
 sameLayoutRefusal p q room = orElse (problemRefusal p) (orElse (problemRefusal q) (roomRefusal 1 room))

@@ -1,22 +1,21 @@
 use Prim.Native.Nat.{ℕ}
 use mathlib.Core.Path.{_≡_, sym, _∙_}
-use mathlib.Core.Bool.{Bool, true}
+use mathlib.Core.Bool.{Bool, true, cond}
 use mathlib.Core.List.{[], _∷_}
-use lib.Dec.{lit<}
 use borrow.Author.Tests.{not-true, not-false}
-use Rattle.layout.specs.Checks.{firstFailing}
+use Rattle.layout.specs.Checks.{check}
 use Rattle.layout.specs.Answers.{routeOf, roomy}
-use Rattle.layout.proofs.Accepted.{passed}
-use Rattle.chordal_info.specs.Routes.{joinCountChecks}
+use Rattle.layout.proofs.Order.{passed}
+use Rattle.chordal_info.specs.Sizes.{rowsFit}
 use Rattle.chordal_info.proofs.Sizes.{rows-few}
 use Rattle.decomp_reverse.specs.Fits.{lengthsFit, countedRefusal}
 use Rattle.decomp_reverse.proofs.Order.{join-order}
 use Rattle.decomp_reverse.proofs.refuse_counted.Statement.{statement}
 use Rattle.decomp_reverse.proofs.refuse_counted.Tie as tie
 
--- checks 8 to 10, 11, and the lengths of 12
+-- checks 10, 11, and the lengths of 12
 abbrev ten : tie.Start → ℕ
-ten s = let a = s .args in firstFailing 8 (joinCountChecks (routeOf (a .route)) (a .n) (a .m) (a .rows) (a .overlaps))
+ten s = let a = s .args in cond (rowsFit (routeOf (a .route)) (a .m) (a .rows) (a .overlaps)) 0 10
 
 abbrev room : tie.Start → Bool
 room s = let a = s .args in roomy (a .n ∷ a .m ∷ a .m ∷ 2 ∷ []) (a .x-room ∷ a .s-room ∷ a .z-room ∷ a .scalars-room ∷ [])
@@ -25,19 +24,19 @@ abbrev fit : tie.Start → Bool
 fit s = let a = s .args in lengthsFit (routeOf (a .route)) (a .n) (a .m) (a .rows) (a .overlaps) (a .x) (a .s) (a .z)
 
 fine : (c : tie.Else1) → ten (c .before .before) ≡ 0
-fine c = sym (c .before .check-join-counted .ensures) ∙ c .if1 .left
+fine c = sym (c .before .rows-refusal .ensures) ∙ c .if1 .left
 
 roomed : (c : tie.Else2) → room (c .before .before .before .before) ≡ true
 roomed c = sym (c .before .room-enough .ensures) ∙ not-false _ (c .if2 .left)
 
-check-join-counted-requires : tie.Need-check-join-counted-requires
-check-join-counted-requires c κs = tt
+rows-refusal-requires : tie.Need-rows-refusal-requires
+rows-refusal-requires c κs = tt
 
 returns : tie.Need-returns
 unfolding countedRefusal
 returns c =
     let s = c .before .before in
-    let e = c .before .check-join-counted .ensures in
+    let e = c .before .rows-refusal .ensures in
     e ∙ sym (join-order (ten s) (room s) (fit s) .0 (λ z. c .if1 .taken (e ∙ z)))
 
 room-enough-requires : tie.Need-room-enough-requires
@@ -55,8 +54,8 @@ lengths-fit-requires c κs =
     let e = c .before .before in
     let s = e .before .before in
     let a = s .args in
-    let tests = joinCountChecks (routeOf (a .route)) (a .n) (a .m) (a .rows) (a .overlaps) in
-    (rows-few (routeOf (a .route)) (a .m) (a .rows) (a .overlaps) (passed 7 2 tests (fine e) (lit< tt)), s .pre)
+    let tenth = check 10 (rowsFit (routeOf (a .route)) (a .m) (a .rows) (a .overlaps)) in
+    (rows-few (routeOf (a .route)) (a .m) (a .rows) (a .overlaps) (passed 10 (tenth ∷ []) tt (fine e)), s .pre)
 
 returns-3 : tie.Need-returns-3
 unfolding countedRefusal
@@ -78,7 +77,7 @@ pub refuse-counted-spec : {M : Type 1} → statement M
 refuse-counted-spec =
     tie.close
     (tie.spec
-    check-join-counted-requires
+    rows-refusal-requires
     returns
     room-enough-requires
     returns-2

@@ -1,0 +1,54 @@
+-- The order of checks: where nothing is refused every check passes, and checks made in groups.
+use Prim.Native.Nat.{ℕ, zero, suc}
+use native.Mathlib.Omega.{arith}
+use mathlib.Core.Path.{_≡_, refl, subst}
+use mathlib.Core.Bool.{Bool, true, false, not, cond, _&&_}
+use mathlib.Core.List.{List, [], _∷_, _++_}
+use lib.Dec.{T, eqb}
+use Rattle.layout.specs.Checks.{Check, check, firstFailing}
+use Rattle.layout.specs.Answers.{orElse}
+use Rattle.layout.proofs.Tests.{and-iff, eqb-iff}
+
+-- no check has the number 0, which stands for nothing refused
+abbrev pub numbered : List Check → Bool
+numbered [] = true
+numbered (check zero b ∷ cs) = false
+numbered (check (suc k) b ∷ cs) = numbered cs
+
+-- the first check of number k passes, if there is one
+abbrev pub passing : ℕ → List Check → Bool
+passing k [] = true
+passing k (check j b ∷ cs) = let r = passing k cs in cond (eqb k j) b r
+
+pub passed : (k : ℕ) (cs : List Check) → T (numbered cs) → firstFailing cs ≡ 0 → T (passing k cs)
+passed k [] h e = tt
+passed k (check zero b ∷ cs) h e = absurd h
+passed k (check (suc j) false ∷ cs) h e = absurd (omega arith)
+passed k (check (suc j) true ∷ cs) h e = go (eqb k (suc j)) (passed k cs h e)
+  where
+    go : (t : Bool) → T (passing k cs) → T (cond t true (passing k cs))
+    go true r = tt
+    go false r = r
+
+-- no check has the number k
+abbrev pub lacks : ℕ → List Check → Bool
+lacks k [] = true
+lacks k (check j b ∷ cs) = not (eqb j k) && lacks k cs
+
+-- then it is not given
+pub never-given : (k : ℕ) (cs : List Check) → T (lacks (suc k) cs) → firstFailing cs ≡ suc k → ⊥
+never-given k [] h e = absurd (omega arith)
+never-given k (check j true ∷ cs) h e = never-given k cs (and-iff (not (eqb j (suc k))) (lacks (suc k) cs) .0 h .1) e
+never-given k (check j false ∷ cs) h e = go (eqb j (suc k)) refl (and-iff (not (eqb j (suc k))) (lacks (suc k) cs) .0 h .0)
+  where
+    go : (t : Bool) → eqb j (suc k) ≡ t → T (not t) → ⊥
+    go true q n = n
+    go false q n = absurd (subst T q (eqb-iff j (suc k) .1 e))
+
+-- two groups, one after the other
+pub failing-append : (cs ds : List Check) → T (numbered cs)
+    → firstFailing (cs ++ ds) ≡ orElse (firstFailing cs) (firstFailing ds)
+failing-append [] ds h = refl
+failing-append (check zero b ∷ cs) ds h = absurd h
+failing-append (check (suc k) true ∷ cs) ds h = failing-append cs ds h
+failing-append (check (suc k) false ∷ cs) ds h = refl
