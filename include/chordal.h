@@ -95,7 +95,10 @@ uint32_t chordal_join(
     double *x_out, size_t x_out_len, double *s_out, size_t s_out_len, double *z_out, size_t z_out_len,
     double *scalars_out, size_t scalars_out_len);
 
-/* out[0]: 1 where n, m, cone records and pattern words of two problems agree, else 0. Refusals 1 to 7, 11. */
+/* out[0]: 1 where two problems agree in n, m, cone records, pattern words, alphas, and the starts and rows of A and of P, else 0.
+ * Alphas are compared bit by bit: +0.0 and -0.0 differ; one NaN is not told from another. Where it is 1 and a route accepts both
+ * problems, their cuts on it have the same starts and rows of A and P, cones and map, and outputs of one length serve both.
+ * Refusals 1 to 7, 11. */
 uint32_t chordal_same_layout(
     uint32_t n, uint32_t m,
     const uint32_t *p_starts, size_t p_starts_len, const uint32_t *p_rows, size_t p_rows_len,

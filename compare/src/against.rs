@@ -157,6 +157,28 @@ pub fn compare(report: &mut Report, route: Route, p: &Problem, solution: Option<
     }
 }
 
+/// Two problems with the same layout, both accepted by a route, have cuts with the same places, cones, exponents and map.
+pub fn compare_same_layout(report: &mut Report, first: &Problem, second: &Problem) {
+    if expected::same_layout(first, second, 1) != Ok(true) {
+        return;
+    }
+    for route in [Route::Compact, Route::Standard] {
+        let cuts = (expected::cut(route, first, None), expected::cut(route, second, None));
+        let (Ok(a), Ok(b)) = cuts else { continue };
+        let same = (&a.p.starts, &a.p.rows, &a.a.starts, &a.a.rows) == (&b.p.starts, &b.p.rows, &b.a.starts, &b.a.rows)
+            && (&a.cones, &a.map) == (&b.cones, &b.map)
+            && all_same(&a.alphas, &b.alphas)
+            && (a.q.len(), a.b.len()) == (b.q.len(), b.b.len());
+        if same {
+            report.count(format!("{}: cuts of one layout have the same places", route.name()));
+        } else {
+            report.fail(format!("{}: cuts of one layout differ in their places", route.name()), first.weight(), || {
+                format!("{}\n{}", problem_text(first), problem_text(second))
+            });
+        }
+    }
+}
+
 /// The small calls against clarabel's functions, where document 01 accepts.
 pub fn compare_small(report: &mut Report, words: &[u32], permutation: &[u32]) {
     if let Ok(ours) = expected::renumber(words, words.len()) {

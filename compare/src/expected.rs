@@ -767,10 +767,15 @@ pub fn same_layout(first: &Problem, second: &Problem, room: usize) -> Result<boo
     if room < 1 {
         return Err(11);
     }
+    let same_places = |a: &Columns, b: &Columns| a.starts == b.starts && a.rows == b.rows;
     Ok(first.n == second.n
         && first.m == second.m
         && first.cones == second.cones
-        && first.pattern_words == second.pattern_words)
+        && first.pattern_words == second.pattern_words
+        // bit by bit, save for which NaN
+        && all_same(&first.alphas, &second.alphas)
+        && same_places(&first.a, &second.a)
+        && same_places(&first.p, &second.p))
 }
 
 #[cfg(test)]
@@ -841,6 +846,27 @@ mod marked_cases {
         p.a = Columns { starts: vec![0, 1], rows: vec![3], values: vec![0.0] };
         assert_eq!(cut(Route::Compact, &p, None).unwrap_err(), 9);
         assert!(cut(Route::Standard, &p, None).is_ok());
+    }
+
+    #[test]
+    fn same_layout_sees_exponents_and_places() {
+        let mut first = three_projectors();
+        first.m = 9;
+        first.cones.extend([4, 0, 0]);
+        first.alphas = vec![0.0];
+        first.b.extend([0.0; 3]);
+        let changed = |change: &dyn Fn(&mut Problem)| {
+            let mut second = first.clone();
+            change(&mut second);
+            same_layout(&first, &second, 1)
+        };
+        assert_eq!(changed(&|_| {}), Ok(true));
+        assert_eq!(changed(&|p| p.a.values[0] = f64::NAN), Ok(true));
+        assert_eq!(changed(&|p| p.b[0] = 9.0), Ok(true));
+        assert_eq!(changed(&|p| p.q[0] = 9.0), Ok(true));
+        assert_eq!(changed(&|p| p.alphas[0] = -0.0), Ok(false));
+        assert_eq!(changed(&|p| p.a.rows[2] = 3), Ok(false));
+        assert_eq!(changed(&|p| p.p = Columns { starts: vec![0, 1], rows: vec![0], values: vec![0.0] }), Ok(false));
     }
 
     // the seam of a dome that has nothing left to adjust

@@ -95,17 +95,21 @@ fn case(report: &mut Report, o: &Options, index: u64, scale: Scale) {
     against::compare_small(report, &words, &permutation);
     if door::LINKED {
         door::compare_small(report, &mut d, &words, &permutation);
-        let mut second = p.clone();
-        match d.below(4) {
-            0 => {
-                let check = 1 + d.below(9);
-                random::damage(&mut d, &mut second, check);
-            }
-            1 => second.a.values.iter_mut().for_each(|v| *v = 2.0),
-            2 => second = case_problem(&mut d, scale),
-            _ => {}
+    }
+    // two problems, mostly the same but for one table
+    let (mut first, mut second) = (p.clone(), p);
+    match d.below(8) {
+        0..=1 => {
+            let check = 1 + d.below(9);
+            random::damage(&mut d, &mut second, check);
         }
-        door::compare_same_layout(report, &mut d, &p, &second);
+        2 => second = case_problem(&mut d, scale),
+        3 => {}
+        _ => random::nearly_same(&mut d, &mut first, &mut second),
+    }
+    against::compare_same_layout(report, &first, &second);
+    if door::LINKED {
+        door::compare_same_layout(report, &mut d, &first, &second);
     }
 }
 

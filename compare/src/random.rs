@@ -223,6 +223,48 @@ pub fn no_columns(p: &mut Problem) {
     p.p = p.a.clone();
 }
 
+// moves an entry to the row above or below it, or to the column beside its own, or takes the last one away
+fn change_places(d: &mut Draws, c: &mut Columns) {
+    if c.rows.is_empty() {
+        return;
+    }
+    let at = d.below(c.rows.len());
+    match d.below(4) {
+        0 => c.rows[at] = c.rows[at].wrapping_sub(1),
+        1 => c.rows[at] = c.rows[at].wrapping_add(1),
+        2 if c.starts.len() > 2 => {
+            let column = 1 + d.below(c.starts.len() - 2);
+            c.starts[column] = if d.chance(50) { c.starts[column].wrapping_sub(1) } else { c.starts[column] + 1 };
+        }
+        _ => {
+            c.rows.pop();
+            c.values.pop();
+            let entries = c.values.len() as u32;
+            c.starts.iter_mut().for_each(|start| *start = (*start).min(entries));
+        }
+    }
+}
+
+/// Makes `second` the same problem as `first` save for one table, on which it then depends whether they have the same
+/// layout: an exponent in both, places or values of A or P, q or b.
+pub fn nearly_same(d: &mut Draws, first: &mut Problem, second: &mut Problem) {
+    *second = first.clone();
+    match d.below(8) {
+        0..=2 if !first.alphas.is_empty() => {
+            let at = d.below(first.alphas.len());
+            let pairs = [(0.0, -0.0), (0.0, 0.0), (f64::NAN, -f64::NAN), (f64::NAN, 0.5), (0.5, 0.5f64.next_up())];
+            let pair = d.pick(&pairs);
+            (first.alphas[at], second.alphas[at]) = if d.chance(50) { pair } else { (pair.1, pair.0) };
+        }
+        0..=3 => change_places(d, &mut second.a),
+        4..=5 => change_places(d, &mut second.p),
+        _ => {
+            let tables = [&mut second.a.values, &mut second.p.values, &mut second.q, &mut second.b];
+            tables.into_iter().for_each(|values| values.iter_mut().for_each(|v| *v = 0.0));
+        }
+    }
+}
+
 /// A solution of the lengths that the problem gives.
 pub fn solution(d: &mut Draws, shape: &(usize, usize, Vec<u32>)) -> Solution {
     Solution {

@@ -319,6 +319,39 @@ fn renumbering(name: &str, words: &[u32]) {
     line(name, "renumbering", Some(middle(clarabel)), door::LINKED.then(|| middle(door)));
 }
 
+// ---- what a request is held to: one of the door's calls beside a measure of it
+
+fn beside_line(input: &str, call: &str, measure: &str, times: [f64; 2]) {
+    let [call_time, measure_time] = times.map(|t| shown(Some(t)));
+    println!("| {input} | {call} | {call_time} | {measure} | {measure_time} | {:.2} |", times[0] / times[1]);
+}
+
+// beside comparing what same layout compares since then, α and the starts and rows of A and P, alone
+fn same_layout_tables(name: &str, p: &Problem) {
+    let second = p.clone();
+    let mut out = [0];
+    let times = medians([
+        &mut || {
+            black_box(door::same_layout(p, &second, &mut out));
+        },
+        &mut || {
+            let [a, b] = black_box([p, &second]);
+            let places = |a: &Columns, b: &Columns| a.starts == b.starts && a.rows == b.rows;
+            black_box(all_same(&a.alphas, &b.alphas) && places(&a.a, &b.a) && places(&a.p, &b.p));
+        },
+    ]);
+    assert_eq!(out, [1]);
+    beside_line(name, "same layout", "its added tables compared alone, in Rust", times);
+}
+
+fn requests() {
+    println!("\n| input | call | door | beside | time | door / beside |");
+    println!("|---|---|---|---|---|---|");
+    for (name, p) in inputs() {
+        same_layout_tables(&name, &p);
+    }
+}
+
 pub fn print() {
     println!("door: {}\n", if door::LINKED { "linked" } else { "not linked" });
     println!("| input | call | clarabel | door | clarabel / door |");
@@ -327,4 +360,7 @@ pub fn print() {
         one(&name, &p);
     }
     small_calls();
+    if door::LINKED {
+        requests();
+    }
 }

@@ -93,9 +93,11 @@ fn check_problem(d: &mut Draws, index: u64) -> Case {
 }
 
 fn same_layout(d: &mut Draws, index: u64) -> Case {
-    let p = some_problem(d, index & 1);
+    let mut p = some_problem(d, index & 1);
     let mut q = p.clone();
-    if d.chance(30) {
+    if index % 3 == 2 {
+        random::nearly_same(d, &mut p, &mut q);
+    } else if d.chance(30) {
         q = some_problem(d, 0);
     } else if d.chance(50) {
         let check = 1 + d.below(7);

@@ -14,7 +14,7 @@ use std::path::Path;
 #[derive(Clone, Debug)]
 enum Json {
     Null,
-    Bool,
+    Bool(bool),
     Number(f64),
     Text(String),
     List(Vec<Json>),
@@ -66,8 +66,8 @@ impl Reader<'_> {
     fn value(&mut self) -> Result<Json, String> {
         match self.peek()? {
             b'n' => self.word("null", Json::Null),
-            b't' => self.word("true", Json::Bool),
-            b'f' => self.word("false", Json::Bool),
+            b't' => self.word("true", Json::Bool(true)),
+            b'f' => self.word("false", Json::Bool(false)),
             b'"' => Ok(Json::Text(self.text()?)),
             b'[' => {
                 self.at += 1;
@@ -342,10 +342,27 @@ fn cuts(run: &mut Run, case: &Json) -> Result<(), String> {
     Ok(())
 }
 
+// two problems, and whether they have the same layout
+fn same_layout(run: &mut Run, case: &Json) -> Result<(), String> {
+    let (first, second) = (problem(case.get("first")?)?, problem(case.get("second")?)?);
+    let same = expected::same_layout(&first, &second, 1);
+    run.answered("same layout", &first, &same, case.get("answer")?, |same, stored| match stored {
+        Json::Bool(stored) => Ok((stored != same).then(|| format!("answers {same}, stored {stored}"))),
+        _ => Err("no answer".into()),
+    })?;
+    against::compare_same_layout(run.report, &first, &second);
+    if door::LINKED {
+        for _ in 0..TIMES {
+            door::compare_same_layout(run.report, run.draws, &first, &second);
+        }
+    }
+    Ok(())
+}
+
 // what reads and compares a case of a file
 type Form = fn(&mut Run, &Json) -> Result<(), String>;
 
-const FORMS: [(&str, Form); 2] = [("cases", base), ("q-7", cuts)];
+const FORMS: [(&str, Form); 3] = [("cases", base), ("q-7", cuts), ("q-10", same_layout)];
 
 /// Compares each case of the file, whose name without its ending is one of `FORMS`.
 pub fn compare(report: &mut Report, draws: &mut Draws, file: &Path) -> Result<(), String> {

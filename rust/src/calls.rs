@@ -215,18 +215,27 @@ pub fn join(route: Route, problem: &Problem, map: &[ConeMapEntry], solution: &So
     Ok(Solution { x, s, z, tau: scalars[0], kappa: scalars[1] })
 }
 
-/// Whether n, m, the cones' records and the patterns of two problems agree. Where a route accepts both, their cuts then
-/// have as many rows and as many added unknowns, the same kinds and sizes of cones, and the same map. Nothing else is
-/// compared: neither exponents, nor which entries A and P have, nor any value.
+/// Whether n, m, the cones with their exponents, the patterns, and the starts and rows of A and P of two problems agree.
+/// Where a route accepts both, their cuts then have the same starts and rows of A and P, the same cones and the same map,
+/// so that buffers and all that was worked out from places serve both: examples/reuse.rs. Values of A, P, q and b are not
+/// compared. Exponents are compared bit by bit, +0.0 and -0.0 being two; which NaN one is does not count.
 ///
 /// ```
-/// use tejiwakpa::{same_layout, Problem};
+/// use tejiwakpa::{same_layout, Cone, Problem};
 ///
-/// let first = Problem::three_projectors();
+/// let mut first = Problem::three_projectors();
+/// first.cones.push(Cone::Power(0.5));
+/// first.m += 3;
+/// first.b.extend([0.0; 3]);
 /// let mut second = first.clone();
 /// second.a.values[0] = 11.0;
 /// assert_eq!(same_layout(&first, &second), Ok(true));
-/// second.patterns.clear();
+///
+/// second.cones[1] = Cone::Power(0.25);
+/// assert_eq!(same_layout(&first, &second), Ok(false));
+///
+/// let mut second = first.clone();
+/// second.a.rows[4] = 6;
 /// assert_eq!(same_layout(&first, &second), Ok(false));
 /// ```
 pub fn same_layout(first: &Problem, second: &Problem) -> Result<bool, Refusal> {

@@ -350,7 +350,8 @@ pub fn join(route: u32, joining: &Joining, out: &mut JoinOutputs) -> Result<(), 
     })
 }
 
-/// `out[0]`: 1 where n, m, cone records and pattern words of two problems agree, else 0.
+/// `out[0]`: 1 where n, m, cone records, exponents bit by bit (save for which NaN), pattern words, and the starts and rows
+/// of A and P of two problems agree, else 0.
 ///
 /// ```
 /// use tejiwakpa::{flat, Problem};
@@ -360,6 +361,12 @@ pub fn join(route: u32, joining: &Joining, out: &mut JoinOutputs) -> Result<(), 
 /// let mut out = [0];
 /// flat::same_layout(&problem.tables(&words), &problem.tables(&words), &mut out)?;
 /// assert_eq!(out, [1]);
+///
+/// // an entry in another row
+/// let mut other = problem.clone();
+/// other.a.rows[2] = 3;
+/// flat::same_layout(&problem.tables(&words), &other.tables(&words), &mut out)?;
+/// assert_eq!(out, [0]);
 /// # Ok::<(), tejiwakpa::Refusal>(())
 /// ```
 #[rustfmt::skip]

@@ -11,7 +11,7 @@
 //! | [`sizes`] | how large the augmented problem is |
 //! | [`cut`] | the augmented problem on a [`Route`] |
 //! | [`join`] | the original problem's solution from the augmented one's |
-//! | [`same_layout`] | whether two problems are laid out alike |
+//! | [`same_layout`] | whether what was worked out from one problem's places serves another |
 //!
 //! The code behind the calls is proved: given anything at all, a call ends with its full result or with one [`Refusal`].
 //! Each fits a thread with 2 MB of stack, Rust's usual one, and calls on several threads do not meet. [`flat`] has the

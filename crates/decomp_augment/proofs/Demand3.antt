@@ -3,9 +3,8 @@ use Prim.Native.Nat.{ℕ}
 use native.Mathlib.Omega.{arith}
 use mathlib.Core.Path.{_≡_, sym, ap, subst, _∙_}
 use mathlib.Core.List.{List}
-use lib.ListN.{length, getD, take}
+use lib.ListN.{length, getD}
 use lib.Ieee.{Float}
-use Rattle.layout.specs.Lists.{written}
 use Rattle.layout.specs.Problem.{Problem, Csc, compact}
 use Rattle.layout.specs.Blocks.{blockRowCount}
 use Rattle.layout.specs.Checks.{layout, refusal}
@@ -13,16 +12,11 @@ use Rattle.layout.specs.Compact.{compactA, compactB}
 use Rattle.layout.specs.Equations.{AllFinite}
 use Rattle.layout.specs.Answers.{Augmented, lengths}
 use Rattle.layout.specs.Calls.Cut.{Cut}
-use Rattle.layout.proofs.Buffers.{take-written}
+use Rattle.layout.proofs.Buffers.{front-read}
 use Rattle.layout.proofs.Demand3.{demand3}
 use Rattle.layout.proofs.Sizes.{compact-sizes}
+use Rattle.layout.proofs.Promises.{taken}
 use Rattle.decomp_augment.specs.Equations.{writtenA, writtenB, SameSolutionsAs}
-use Rattle.decomp_augment.proofs.Rooms.{taken}
-
-module _ {A : Type 0} where
-  -- the front of what was written
-  read : (new old : List A) {out : List A} → out ≡ written new old → take (length new) out ≡ new
-  read new old w = ap (take (length new)) w ∙ take-written new old
 
 matrix-same : (M N : Csc) → M .starts ≡ N .starts → M .rows ≡ N .rows → M .values ≡ N .values → M ≡ N
 matrix-same M N e f g = λ i. record { starts = e i; rows = f i; values = g i }
@@ -46,8 +40,8 @@ demand3-written p before after cut finite =
     let t = cut .tables .constrained in
     subst (λ (M : Csc). SameSolutionsAs p M (writtenB p after))
     (sym (matrix-same (writtenA p after) (compactA p)
-    (read (compactA p .starts) (before .A .starts) (t .a-starts))
-    (read (compactA p .rows) (before .A .rows) (t .a-rows))
-    (read (compactA p .values) (before .A .values) (t .a-values))))
-    (subst (λ (v : List Float). SameSolutionsAs p (compactA p) v) (sym (read (compactB p) (before .b) (t .b)))
+    (front-read (compactA p .starts) (before .A .starts) (t .a-starts))
+    (front-read (compactA p .rows) (before .A .rows) (t .a-rows))
+    (front-read (compactA p .values) (before .A .values) (t .a-values))))
+    (subst (λ (v : List Float). SameSolutionsAs p (compactA p) v) (sym (front-read (compactB p) (before .b) (t .b)))
     (defined p (taken 1 p (lengths before) (sym (cut .number)) .1 .0) finite))

@@ -2,37 +2,23 @@
 use Prim.Native.Nat.{ℕ, zero, suc, _+_, _*_, _≤_, _<_}
 use native.Mathlib.Omega.{arith}
 use mathlib.Core.Path.{_≡_, refl, sym, ap, subst, _∙_}
-use mathlib.Core.Bool.{Bool, true, false, cond}
 use mathlib.Core.List.{List, [], _∷_}
 use lib.ListN.{length, getD}
 use lib.Dec.{T, leb, lit<}
 use Rattle.layout.specs.Lists.{written}
 use Rattle.layout.specs.Problem.{Problem, Route, standard, compact}
 use Rattle.layout.specs.Blocks.{blockRowCount, overlapCount, coneCount}
-use Rattle.layout.specs.Checks.{startsRight, layout, refusal}
-use Rattle.layout.specs.Answers.{Augmented, lengths, augmented, orElse, onRoute, routeOf, roomy, sizes, addedCount, slackCount, cutRefusal}
+use Rattle.layout.specs.Checks.{startsRight, layout}
+use Rattle.layout.specs.Answers.{Augmented, lengths, augmented, roomy, sizes, addedCount, slackCount}
 use Rattle.layout.specs.Calls.Cut.{Objective, objectiveOf, HoldsObjective, Constrained, constrainedOf, HoldsConstrained}
 use Rattle.layout.proofs.Tests.{and-iff, leb-iff}
 use Rattle.layout.proofs.Accepted.{accepted-checked}
+use Rattle.layout.proofs.Promises.{Taken}
 use Rattle.chordal_info.specs.Sizes.{routeSizes}
 use Rattle.chordal_info.proofs.Sizes.{route-sizes}
 use Rattle.augment_standard.specs.Constraints.{constraints, Accepted}
 use Rattle.augment.specs.Fits.{extended, ObjectiveFits, ConstrainedFits}
 use Rattle.augment.proofs.Laws.{rooms-P}
-
-abbrev pub Taken : Route → Problem → List ℕ → Type 0
-Taken route p rooms = (refusal route p ≡ 0) × T (roomy (sizes route p) rooms)
-
-both : (a : ℕ) (t : Bool) → orElse a (cond t 0 11) ≡ 0 → (a ≡ 0) × T t
-both zero true h = (refl, tt)
-both zero false h = absurd (omega arith)
-both (suc a) t h = absurd (omega arith)
-
-pub taken : (k : ℕ) (p : Problem) (rooms : List ℕ) → onRoute k (λ rt. cutRefusal rt p rooms) ≡ 0
-    → (k ≤ 1) × Taken (routeOf k) p rooms
-taken zero p rooms h = (omega arith, both (refusal standard p) (roomy (sizes standard p) rooms) h)
-taken (suc zero) p rooms h = (omega arith, both (refusal compact p) (roomy (sizes compact p) rooms) h)
-taken (suc (suc k)) p rooms h = absurd (omega arith)
 
 -- ---- what a cut writes, from the columns that it adds and from A, b, cones and patterns alone
 

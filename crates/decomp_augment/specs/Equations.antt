@@ -2,18 +2,19 @@
 use Prim.Native.Nat.{ℕ, _<_}
 use mathlib.Core.Path.{_≡_}
 use mathlib.Core.List.{List}
-use lib.ListN.{length, getD, take}
+use lib.ListN.{length, getD}
 use lib.IntN.{ℤ, pos, _+ℤ_, _*ℤ_}
 use lib.Ieee.{Float, nan}
 use Rattle.layout.specs.Problem.{Problem, Csc, compact}
 use Rattle.layout.specs.Blocks.{overlapCount}
 use Rattle.layout.specs.Checks.{layout}
 use Rattle.layout.specs.Equations.{count, unit, at, columnsTerm, MeetsOriginal, slackSums, ExactlyOne}
-use Rattle.layout.specs.Answers.{sizes, Augmented}
+use Rattle.layout.specs.Answers.{Augmented}
+use Rattle.layout.specs.Calls.Cut.{frontOn}
 
--- the front of an output, as long as the sizes say for the output with this number
+-- the front of output i of a compact cut
 abbrev pub front : {A : Type 0} → Problem → ℕ → List A → List A
-front p i out = take (getD (sizes compact p) i 0) out
+front p i out = frontOn compact p i out
 
 -- the written A and b: outputs 4, 5 and 6 are the starts, rows and values of A, and 7 is b
 abbrev pub writtenA : Problem → Augmented → Csc

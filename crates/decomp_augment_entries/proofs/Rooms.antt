@@ -21,7 +21,8 @@ use Rattle.layout.proofs.Sizes.{compact-sizes}
 use Rattle.tables.proofs.Laws.{threes}
 use Rattle.chordal_info.proofs.Counts.{accepted-fitting}
 use Rattle.augment.specs.Fits.{extended, ObjectiveFits, ConstrainedFits}
-use Rattle.decomp_augment.proofs.Rooms.{Taken, taken, only, uncut, objective-cut, objective-asked, Rooms, on-route, accepted-constraints}
+use Rattle.layout.proofs.Promises.{Taken, taken}
+use Rattle.decomp_augment.proofs.Rooms.{only, uncut, objective-cut, objective-asked, Rooms, on-route, accepted-constraints}
 use Rattle.decomp_augment_entries.specs.Rooms.{wordsOf}
 
 enough : (k entries : ℕ) → k ≤ 789504 → leb k (wordsOf entries) ≡ leb k (entries * 3)

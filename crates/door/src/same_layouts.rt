@@ -1,4 +1,4 @@
-// Whether two problems have the same layout.
+// Whether two problems agree in all but the values of P, q, A and b.
 ghost use Rattle.layout.specs.Problem.{problem};
 ghost use Rattle.layout.specs.Calls.SameLayout.{SameLayout};
 

@@ -161,14 +161,17 @@ module _ (p : Problem) (ok : refusal compact p ≡ 0) where
   compact-map : length (mapWords (coneMap (layout p))) ≡ 3 * coneCount (layout p)
   compact-map = omega (arith, parts-length mapPart 1 map-part (layout p), entries-length (coneMap (layout p)))
 
+-- from n, the entries of P and of A, the number of α and the parts
+abbrev pub compactSizes : ℕ → ℕ → ℕ → ℕ → List Part → List ℕ
+compactSizes n entriesP entriesA alphas ps =
+    let added = overlapCount ps in
+    let moved = entriesA + 2 * added in
+    suc (n + added) ∷ entriesP ∷ entriesP ∷ (n + added)
+    ∷ suc (n + added) ∷ moved ∷ moved ∷ blockRowCount ps
+    ∷ (3 * coneCount ps) ∷ alphas ∷ (3 * coneCount ps) ∷ []
+
 pub compact-sizes : (p : Problem) → refusal compact p ≡ 0
-    → let added = overlapCount (layout p) in
-    let entries = length (p .P .values) in
-    let moved = length (p .A .values) + 2 * added in
-    sizes compact p ≡
-    suc (p .n + added) ∷ entries ∷ entries ∷ (p .n + added)
-    ∷ suc (p .n + added) ∷ moved ∷ moved ∷ blockRowCount (layout p)
-    ∷ (3 * coneCount (layout p)) ∷ length (p .alphas) ∷ (3 * coneCount (layout p)) ∷ []
+    → sizes compact p ≡ compactSizes (p .n) (length (p .P .values)) (length (p .A .values)) (length (p .alphas)) (layout p)
 compact-sizes p ok =
     let q-length = extended (p .q) (p .n) (overlapCount (layout p)) zero64 (accepted-checked compact p ok .lengthQ) in
     λ i.
@@ -210,14 +213,17 @@ module _ (p : Problem) (ok : refusal standard p ≡ 0) where
   standard-cones : length (standardCones p) ≡ 3 * suc (coneCount (layout p))
   standard-cones = omega (arith, parts-length standardPart 3 standard-part (layout p))
 
+-- from n, m, the entries of P and of A, the number of α and the parts
+abbrev pub standardSizes : ℕ → ℕ → ℕ → ℕ → ℕ → List Part → List ℕ
+standardSizes n m entriesP entriesA alphas ps =
+    let added = blockRowCount ps in
+    let beside = entriesA + 2 * added in
+    suc (n + added) ∷ entriesP ∷ entriesP ∷ (n + added)
+    ∷ suc (n + added) ∷ beside ∷ beside ∷ (m + added)
+    ∷ (3 * suc (coneCount ps)) ∷ alphas ∷ 0 ∷ []
+
 pub standard-sizes : (p : Problem) → refusal standard p ≡ 0
-    → let added = blockRowCount (layout p) in
-    let entries = length (p .P .values) in
-    let beside = length (p .A .values) + 2 * added in
-    sizes standard p ≡
-    suc (p .n + added) ∷ entries ∷ entries ∷ (p .n + added)
-    ∷ suc (p .n + added) ∷ beside ∷ beside ∷ (p .m + added)
-    ∷ (3 * suc (coneCount (layout p))) ∷ length (p .alphas) ∷ 0 ∷ []
+    → sizes standard p ≡ standardSizes (p .n) (p .m) (length (p .P .values)) (length (p .A .values)) (length (p .alphas)) (layout p)
 standard-sizes p ok =
     let q-length = extended (p .q) (p .n) (blockRowCount (layout p)) zero64 (accepted-checked standard p ok .lengthQ) in
     let b-length = extended (p .b) (p .m) (blockRowCount (layout p)) zero64 (accepted-checked standard p ok .lengthB) in

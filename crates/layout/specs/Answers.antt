@@ -1,11 +1,12 @@
--- What each public call answers: its refusal, and what its outputs hold. A refused call's outputs hold what they held.
+-- What each public call of document 01 answers: its refusal, and what its outputs hold. A refused call's outputs hold what they held.
 use Prim.Native.Nat.{ℕ, zero, suc, _+_}
 use mathlib.Core.Bool.{Bool, true, false, cond, _&&_}
 use mathlib.Core.List.{List, [], _∷_, map}
+use mathlib.Core.Path.{_≡_}
 use lib.ListN.{length}
-use lib.Dec.{leb, eqb}
-use lib.Ieee.{Float}
-use Rattle.layout.specs.Lists.{below, all, written, sameNumbers}
+use lib.Dec.{T, leb, eqb}
+use lib.Ieee.{Float, toBits, binary64}
+use Rattle.layout.specs.Lists.{below, all, written, sameBy, sameNumbers}
 use Rattle.layout.specs.Triangle.{pairIndex, indexRow, indexColumn}
 use Rattle.layout.specs.Problem.{Problem, Csc, Route, standard, compact, Solution}
 use Rattle.layout.specs.Cones.{records}
@@ -173,7 +174,7 @@ joined compact n m ps sol = compactReverse n m ps sol
 abbrev pub scalars : Solution → List Float
 scalars sol = sol .tau ∷ sol .kappa ∷ []
 
--- ---- same layout: checks 1 to 7 of the first, then of the second, then whether they agree
+-- ---- same layout: checks 1 to 7 of the first, then of the second, then whether they agree in all but the values of P, q, A and b
 
 abbrev pub problemRefusal : Problem → ℕ
 problemRefusal p = firstFailing (problemChecks p)
@@ -181,10 +182,32 @@ problemRefusal p = firstFailing (problemChecks p)
 abbrev pub sameLayoutRefusal : Problem → Problem → ℕ → ℕ
 sameLayoutRefusal p q room = orElse (problemRefusal p) (orElse (problemRefusal q) (roomRefusal 1 room))
 
+-- the same double bit by bit: +0.0 and -0.0 differ, and one NaN is not told from another
+abbrev pub sameBits : Float → Float → Bool
+sameBits x y = eqb (toBits binary64 x) (toBits binary64 y)
+
+-- the same starts and rows: a matrix's values are not compared
+abbrev pub samePlaces : Csc → Csc → Bool
+samePlaces M N = sameNumbers (M .starts) (N .starts) && sameNumbers (M .rows) (N .rows)
+
+-- the pattern counts need not be compared: words that pass check 5 have one count
 abbrev pub sameLayout : Problem → Problem → Bool
 sameLayout p q =
     eqb (p .n) (q .n) && eqb (p .m) (q .m) && sameNumbers (p .cones) (q .cones)
     && sameNumbers (p .patternWords) (q .patternWords)
+    && sameBy sameBits (p .alphas) (q .alphas) && samePlaces (p .A) (q .A) && samePlaces (p .P) (q .P)
+
+-- what the cuts of two problems with the same layout have in common, where a route accepts both
+pub record SameAugmented (a c : Augmented) : Type 0 where
+  pub starts : a .A .starts ≡ c .A .starts
+  pub rows : a .A .rows ≡ c .A .rows
+  pub cones : a .cones ≡ c .cones
+  pub alphas : T (sameBy sameBits (a .alphas) (c .alphas))
+  pub map : a .map ≡ c .map
+  pub startsP : a .P .starts ≡ c .P .starts
+  pub rowsP : a .P .rows ≡ c .P .rows
+  -- all outputs are equally long
+  pub lengths : lengths a ≡ lengths c
 
 abbrev pub sameLayoutWords : Problem → Problem → List ℕ
 sameLayoutWords p q = cond (sameLayout p q) 1 0 ∷ []

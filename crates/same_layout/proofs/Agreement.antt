@@ -28,7 +28,9 @@ in-turn (suc a) b c = refl
 module _ (p q : Problem) (old : List ℕ) (k : ℕ) (e : k ≡ orElse (problemRefusal p) (problemRefusal q)) where
   ends : (r : ℕ) (out : List ℕ) → orElse k (roomRefusal 1 (length old)) ≡ r → out ≡ output r (sameLayoutWords p q) old → SameLayout p q old out r
   ends r out h o = record {
-    number = sym (in-turn (problemRefusal p) (problemRefusal q) (roomRefusal 1 (length old)) ∙ ap (λ (j : ℕ). orElse j (roomRefusal 1 (length old))) (sym e) ∙ h);
+    number =
+        sym (in-turn (problemRefusal p) (problemRefusal q) (roomRefusal 1 (length old))
+        ∙ ap (λ (j : ℕ). orElse j (roomRefusal 1 (length old))) (sym e) ∙ h);
     out = o;
   }
 
@@ -40,5 +42,6 @@ module _ (p q : Problem) (old : List ℕ) (k : ℕ) (e : k ≡ orElse (problemRe
 
   pub answered : k ≡ 0 → 1 ≤ length old → (v : ℕ) → v ≡ cond (sameLayout p q) 1 0 → SameLayout p q old (set old 0 v) k
   answered z l v g =
-      let o : set old 0 v ≡ output 0 (sameLayoutWords p q) old = ap (λ (u : ℕ). set old 0 u) g ∙ set-written [] old (cond (sameLayout p q) 1 0) 0 refl l in
+      let o : set old 0 v ≡ output 0 (sameLayoutWords p q) old =
+      ap (λ (u : ℕ). set old 0 u) g ∙ set-written [] old (cond (sameLayout p q) 1 0) 0 refl l in
       ends k (set old 0 v) (rw (z, le-leb 1 (length old) l)) (o ∙ ap (λ (j : ℕ). output j (sameLayoutWords p q) old) (sym z))

@@ -2,9 +2,10 @@
 use Prim.Native.Nat.{ℕ}
 use mathlib.Core.Path.{_≡_}
 use mathlib.Core.List.{List}
+use lib.ListN.{getD, take}
 use lib.Ieee.{Float}
-use Rattle.layout.specs.Problem.{Problem, Csc}
-use Rattle.layout.specs.Answers.{Augmented, lengths, output, onRoute, routeOf, augmented, cutRefusal}
+use Rattle.layout.specs.Problem.{Problem, Csc, Route}
+use Rattle.layout.specs.Answers.{Augmented, lengths, output, onRoute, routeOf, augmented, sizes, cutRefusal}
 
 -- ---- P, q and the exponents
 
@@ -69,3 +70,7 @@ pub record Holds (r : ℕ) (new before after : Augmented) : Type 0 where
 pub record Cut (route : ℕ) (p : Problem) (before after : Augmented) (r : ℕ) : Type 0 where
   pub number : r ≡ onRoute route (λ rt. cutRefusal rt p (lengths before))
   pub tables : Holds r (augmented (routeOf route) p) before after
+
+-- the front of output i, as long as the sizes say
+abbrev pub frontOn : {A : Type 0} → Route → Problem → ℕ → List A → List A
+frontOn route p i out = take (getD (sizes route p) i 0) out

@@ -63,7 +63,7 @@ returns-2 c =
     let j = c .before .before .before .before in
     let s = start (j .before) in
     answered (given s) (given2 s) (s .args .out .now) (j .if1 .refusal) (both j) (c .before .before .before .if2 .taken) (c .before .before .if3 .left)
-    _ (c .word-of .ensures ∙ ap (λ (b : Bool). cond b 1 0) (c .before .layouts-agree .ensures))
+    (c .word-of .result) (c .word-of .ensures ∙ ap (λ (b : Bool). cond b 1 0) (c .before .layouts-agree .ensures))
 
 returns-3 : tie.Need-returns-3
 returns-3 c =

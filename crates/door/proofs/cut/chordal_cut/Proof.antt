@@ -3,8 +3,8 @@ use Rattle.layout.specs.Problem.{Problem, problem}
 use Rattle.layout.specs.Answers.{Augmented, lengths, onRoute, routeOf, cutRefusal}
 use Rattle.layout.specs.Calls.Cut.{outputs}
 use Rattle.layout.proofs.Accepted.{accepted-sound}
-use Rattle.layout.proofs.Promises.{cut-refused}
-use Rattle.decomp_augment.proofs.Rooms.{Taken, taken, objective-fits, constrained-fits, map-fits, objective-cut, constrained-cut, map-cut}
+use Rattle.layout.proofs.Promises.{cut-refused, Taken, taken}
+use Rattle.decomp_augment.proofs.Rooms.{objective-fits, constrained-fits, map-fits, objective-cut, constrained-cut, map-cut}
 use Rattle.door.proofs.cut.chordal_cut.Statement.{statement}
 use Rattle.door.proofs.cut.chordal_cut.Tie as tie
 
