@@ -37,6 +37,10 @@ static const uint32_t pattern_words[] = {0, 3, 2, 0, 1, 2, 1, 1, 1, 0, 1, CHORDA
 enum { P_STARTS, P_ROWS, P_VALUES, Q, A_STARTS, A_ROWS, A_VALUES, B, CONES, ALPHAS, MAP, TABLES };
 static const size_t element[TABLES] = {4, 4, 8, 8, 4, 4, 8, 8, 4, 8, 4};
 
+/* the words of a cone map's entry */
+enum { ORIG_INDEX, PATTERN, CLIQUE, FIRST_ROW, ROWS, ENTRY };
+#define CLIQUES 2
+
 static void print_values(const char *name, const double *values, size_t count) {
     printf("  %s:", name);
     for (size_t k = 0; k < count; k++) printf(" %g", values[k]);
@@ -56,6 +60,15 @@ static int equal(const char *what, const double *got, const double *want, size_t
     if (memcmp(got, want, count * sizeof *got) == 0) return 1;
     printf("  %s: not what must come out\n", what);
     return 0;
+}
+
+/* A clique's values of b, found by one entry of the compact map: the only pattern's cliques stand from last to first. */
+static int view_block(uint32_t clique, const uint32_t *map, const double *augmented_b, const double *want, size_t count) {
+    const uint32_t *entry = map + ENTRY * (CLIQUES - 1 - clique);
+    printf("  clique %u: %u rows from row %u\n", (unsigned)entry[CLIQUE], (unsigned)entry[ROWS], (unsigned)entry[FIRST_ROW]);
+    print_values("  its b", augmented_b + entry[FIRST_ROW], entry[ROWS]);
+    return entry[ORIG_INDEX] == 0 && entry[PATTERN] == 0 && entry[CLIQUE] == clique && entry[ROWS] == count &&
+           equal("the block", augmented_b + entry[FIRST_ROW], want, count);
 }
 
 static int run(uint32_t route, const double *solved, const double *joined_s, const double *joined_z) {
@@ -82,6 +95,12 @@ static int run(uint32_t route, const double *solved, const double *joined_s, con
         printf("  %d rows and %d columns become %u and %u\n", M, N, (unsigned)size[B], (unsigned)size[Q]);
         print_columns(table[A_STARTS], table[A_ROWS], table[A_VALUES], size[Q]);
         print_values("b", table[B], size[B]);
+        int seen = 1;
+        if (route == 1) {
+            static const double leaf[] = {1, 2, 0}, root[] = {3, 4, 5};
+            seen = size[MAP] == CLIQUES * ENTRY && view_block(0, table[MAP], table[B], leaf, 3) &&
+                   view_block(1, table[MAP], table[B], root, 3);
+        }
 
         /* here the solver solves; these values show which rows are joined */
         double x[7] = {0.5}, x_out[N], s[M], z[M], scalars[2];
@@ -92,7 +111,7 @@ static int run(uint32_t route, const double *solved, const double *joined_s, con
         if (refusal == CHORDAL_DONE) {
             print_values("joined s", s, M);
             print_values("joined z", z, M);
-            right = equal("s", s, joined_s, M) & equal("z", z, joined_z, M) & equal("x", x_out, x, N);
+            right = seen & equal("s", s, joined_s, M) & equal("z", z, joined_z, M) & equal("x", x_out, x, N);
         }
     }
     if (refusal != CHORDAL_DONE) printf("  refused, number %u\n", (unsigned)refusal);

@@ -67,8 +67,8 @@ uint32_t chordal_sizes(
     uint32_t pattern_count, const uint32_t *pattern_words, size_t pattern_words_len,
     uint32_t *out, size_t out_len);
 
-/* The augmented problem. The map has three words for each cone: orig_index, pattern number or CHORDAL_NONE, clique
- * number or 0; it is empty on the standard route. Refusals 1 to 7, 9 to 11. */
+/* The augmented problem. The map has five words for each cone: orig_index, pattern number or CHORDAL_NONE, clique
+ * number or 0, first augmented row (the number of rows before it), row count; it is empty on the standard route. Refusals 1 to 7, 9 to 11. */
 uint32_t chordal_cut(
     uint32_t route, uint32_t n, uint32_t m,
     const uint32_t *p_starts, size_t p_starts_len, const uint32_t *p_rows, size_t p_rows_len,

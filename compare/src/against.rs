@@ -29,7 +29,7 @@ fn narrow(xs: &[usize]) -> Option<Vec<u32>> {
     xs.iter().map(|&x| u32::try_from(x).ok()).collect()
 }
 
-/// The reference's cut in this program's types; none where it holds a row that was never set.
+/// The reference's cut in this program's types, its map three words an entry; none where it holds a row that was never set.
 pub fn narrowed(cut: &reference::door::Cut) -> Option<Cut> {
     let columns = |c: &reference::door::Columns| {
         Some(Columns { starts: narrow(&c.starts)?, rows: narrow(&c.rows)?, values: c.values.clone() })
@@ -51,6 +51,11 @@ pub fn narrowed(cut: &reference::door::Cut) -> Option<Cut> {
             })
             .collect(),
     })
+}
+
+/// The cut without the first rows and row counts of its cone map, which clarabel's has not: equality leaves them out.
+fn without_rows(cut: &Cut) -> Cut {
+    Cut { map: cut.map.chunks(MAP_WORDS).flat_map(|entry| &entry[..3]).copied().collect(), ..cut.clone() }
 }
 
 /// The first output in which two cuts differ. What is copied keeps its bits, NaNs included.
@@ -123,7 +128,7 @@ pub fn compare(report: &mut Report, route: Route, p: &Problem, solution: Option<
     let plain = prepared.plain(&raw);
     let difference = match narrowed(&plain) {
         None => Some("a row that was never set"),
-        Some(cut) => cut_difference(&expected, &cut),
+        Some(cut) => cut_difference(&without_rows(&expected), &cut),
     };
     match difference {
         None => report.count(format!("{r}: cut equal to clarabel's")),

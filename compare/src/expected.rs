@@ -463,12 +463,19 @@ impl Layout {
         if route == Route::Standard {
             return out;
         }
+        // an entry's first row is the number of rows before it, also for a cone without rows
+        let mut first_row = 0;
+        let mut push = |place: [u32; 3], rows: u64| {
+            out.extend(place);
+            out.extend([first_row, rows as u32]);
+            first_row += rows as u32;
+        };
         for (i, part) in self.parts.iter().enumerate() {
             match part.pattern {
-                None => out.extend([i as u32, NONE, 0]),
+                None => push([i as u32, NONE, 0], part.cone.rows()),
                 Some(k) => {
-                    for c in (0..self.patterns[k].cliques.len()).rev() {
-                        out.extend([i as u32, k as u32, c as u32]);
+                    for (c, clique) in self.patterns[k].cliques.iter().enumerate().rev() {
+                        push([i as u32, k as u32, c as u32], triangle(clique.size()));
                     }
                 }
             }
@@ -820,6 +827,7 @@ mod marked_cases {
         assert_eq!(c.a.rows, [0, 1, 2, 3, 4, 0, 5]);
         assert_eq!(c.a.values, [30.0, 40.0, 50.0, 10.0, 20.0, -1.0, 1.0]);
         assert_eq!(c.b, [3.0, 4.0, 5.0, 1.0, 2.0, 0.0]);
+        assert_eq!(c.map, [0, 0, 1, 0, 3, 0, 0, 0, 3, 3]);
         let tail = vec![3.0, 4.0, 5.0, 1.0, 2.0, 7.0];
         let solution = Solution { x: vec![0.0; 2], s: tail.clone(), z: tail, map: c.map, ..Solution::default() };
         fn input<'a>(p: &'a Problem, solution: &'a Solution) -> JoinInput<'a> {
@@ -846,6 +854,22 @@ mod marked_cases {
         p.a = Columns { starts: vec![0, 1], rows: vec![3], values: vec![0.0] };
         assert_eq!(cut(Route::Compact, &p, None).unwrap_err(), 9);
         assert!(cut(Route::Standard, &p, None).is_ok());
+    }
+
+    // cones without rows, before, between and after others
+    #[test]
+    fn first_rows() {
+        let mut p = three_projectors();
+        p.cones = vec![0, 0, 0, 6, 3, 0, 1, 0, 0, 3, 0, 0, 6, 0, 0];
+        p.m = 9;
+        p.b.extend([0.0; 3]);
+        p.pattern_words[0] = 1;
+        let mut map = cut(Route::Compact, &p, None).unwrap().map;
+        let rows: Vec<&[u32]> = map.chunks(MAP_WORDS).map(|entry| &entry[3..]).collect();
+        assert_eq!(rows, [[0, 0], [0, 3], [3, 3], [6, 0], [6, 3], [9, 0]]);
+        map[MAP_WORDS * 5 + 3] = 0;
+        let solution = Solution { x: vec![0.0; 2], s: vec![0.0; 9], z: vec![0.0; 9], map, ..Solution::default() };
+        assert_eq!(join(Route::Compact, &join_input(&p, &solution), None).unwrap_err(), 12);
     }
 
     #[test]

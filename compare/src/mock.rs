@@ -1,5 +1,5 @@
 //! A door made of the plain reading, with the door's own signatures, so that the comparison through it can be
-//! tried without libdoor.a. `COMPARE_MOCK_FAULT` (1 to 10) plants a fault that the comparison must find.
+//! tried without libdoor.a. `COMPARE_MOCK_FAULT` (1 to 11) plants a fault that the comparison must find.
 #![allow(clippy::too_many_arguments, clippy::missing_safety_doc)]
 
 use crate::expected;
@@ -291,6 +291,21 @@ pub unsafe extern "C" fn chordal_join(
         kappa,
         map: from_raw_parts(map, mapl).to_vec(),
     };
+    let mut solution = solution;
+    if fault() == 11 {
+        // a map wrong in a first row joined all the same
+        let p = Problem {
+            n,
+            m,
+            cones: from_raw_parts(cones, cones_len).to_vec(),
+            pattern_count,
+            pattern_words: from_raw_parts(w, wl).to_vec(),
+            ..Problem::default()
+        };
+        let right = expected::solution_shape(route, &p).unwrap_or_default().2;
+        let words = solution.map.iter_mut().zip(right);
+        words.skip(3).step_by(MAP_WORDS).for_each(|(word, right)| *word = right);
+    }
     let input = expected::JoinInput {
         n,
         m,

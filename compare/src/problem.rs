@@ -2,6 +2,10 @@
 
 pub const NONE: u32 = u32::MAX;
 
+/// The words of a cone map's entry: `orig_index`, pattern number or NONE, clique number or 0, first augmented row, row
+/// count.
+pub const MAP_WORDS: usize = 5;
+
 #[derive(Clone, Copy, PartialEq, Eq, Debug)]
 pub enum Route {
     Standard,
@@ -60,7 +64,7 @@ impl Problem {
     }
 }
 
-/// What the cut writes. `map` is words, three an entry; empty on the standard route.
+/// What the cut writes. `map` is words, MAP_WORDS an entry; empty on the standard route.
 #[derive(Clone, Debug, Default)]
 pub struct Cut {
     pub p: Columns,

@@ -526,7 +526,7 @@ fn damage_pattern(d: &mut Draws, patterns: &mut Vec<Pattern>, k: usize, check: u
 
 /// One fault in a solution's lengths or in its cone map.
 pub fn damage_solution(d: &mut Draws, solution: &mut Solution) {
-    match d.below(6) {
+    match d.below(7) {
         0 => solution.x.push(0.0),
         1 => {
             solution.x.pop();
@@ -536,6 +536,11 @@ pub fn damage_solution(d: &mut Draws, solution: &mut Solution) {
             solution.z.pop();
         }
         4 => solution.map.push(0),
+        // places alone
+        5 => {
+            solution.map =
+                solution.map.chunks(MAP_WORDS).flat_map(|entry| &entry[..entry.len().min(3)]).copied().collect()
+        }
         _ => {
             if !solution.map.is_empty() {
                 let at = d.below(solution.map.len());

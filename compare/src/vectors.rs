@@ -160,8 +160,9 @@ impl Json {
     fn refused(&self) -> Option<u32> {
         self.get("refused").and_then(Json::number).ok()
     }
-    // entries [orig_index, null or [pattern, clique]] as words
-    fn map(&self) -> Result<Vec<u32>, String> {
+    // Entries [orig_index, null or [pattern, clique], first row, row count] as words. One from before Q-3 ends after its
+    // block, and takes the first row and row count of the entry of `ours` at its place.
+    fn map(&self, ours: &[u32]) -> Result<Vec<u32>, String> {
         let mut out = vec![];
         for entry in self.list()? {
             let l = entry.list()?;
@@ -171,6 +172,10 @@ impl Json {
                     let block = block.numbers()?;
                     out.extend([l[0].number()?, block[0], block[1]]);
                 }
+            }
+            match l {
+                [_, _, first_row, rows] => out.extend([first_row.number()?, rows.number()?]),
+                _ => out.extend(ours.get(out.len()..out.len() + 2).unwrap_or(&[0, 0])),
             }
         }
         Ok(out)
@@ -192,7 +197,7 @@ fn problem(j: &Json) -> Result<Problem, String> {
     })
 }
 
-fn stored_cut(j: &Json) -> Result<Cut, String> {
+fn stored_cut(j: &Json, ours: &Cut) -> Result<Cut, String> {
     let columns = |name: &str| -> Result<Columns, String> {
         Ok(Columns {
             starts: j.get(&format!("{name}_starts"))?.numbers()?,
@@ -207,7 +212,7 @@ fn stored_cut(j: &Json) -> Result<Cut, String> {
         b: j.get("b")?.floats()?,
         cones: j.get("cones")?.numbers()?,
         alphas: j.get("alpha")?.floats()?,
-        map: j.get("cone_map")?.map()?,
+        map: j.get("cone_map")?.map(&ours.map)?,
     })
 }
 
@@ -257,13 +262,13 @@ impl Run<'_> {
         Ok(())
     }
 
-    // sizes and the cut on a route; `map_words` are those that a stored size counts as one
-    fn cut(&mut self, route: Route, p: &Problem, stored: &Json, map_words: usize) -> Result<(), String> {
+    // sizes and the cut on a route; a stored size counts `entry` for an entry of the map
+    fn cut(&mut self, route: Route, p: &Problem, stored: &Json, entry: usize) -> Result<(), String> {
         let r = route.name();
         let sizes = expected::sizes(route, p, 11);
         self.answered(&format!("{r} sizes"), p, &sizes, stored.get("sizes")?, |lengths, stored| {
             for (name, &length) in NAMES.iter().zip(lengths) {
-                let length = if *name == "cone_map" { length / map_words } else { length };
+                let length = if *name == "cone_map" { length / MAP_WORDS * entry } else { length };
                 if stored.get(name)?.number()? as usize != length {
                     return Ok(Some(format!("{name} differs")));
                 }
@@ -272,7 +277,7 @@ impl Run<'_> {
         })?;
         let cut = expected::cut(route, p, None);
         self.answered(&format!("{r} cut"), p, &cut, stored.get("cut")?, |cut, stored| {
-            Ok(cut_difference(cut, &stored_cut(stored)?).map(|w| format!("{w} differs")))
+            Ok(cut_difference(cut, &stored_cut(stored, cut)?).map(|w| format!("{w} differs")))
         })?;
         against::compare(self.report, route, p, None, 0);
         if door::LINKED {
@@ -315,28 +320,31 @@ fn solution(j: &Json, map: Vec<u32>) -> Result<Solution, String> {
     })
 }
 
+fn our_map(route: Route, p: &Problem) -> Vec<u32> {
+    expected::solution_shape(route, p).map(|shape| shape.2).unwrap_or_default()
+}
+
 // a problem; on each route sizes, cut, and a solution with what it is joined to
 fn base(run: &mut Run, case: &Json) -> Result<(), String> {
     let p = problem(case.get("problem")?)?;
     for route in [Route::Compact, Route::Standard] {
         let stored = case.get(route.name())?;
-        run.cut(route, &p, stored, 3)?;
+        run.cut(route, &p, stored, 1)?;
         if let (Ok(given), Ok(joined)) = (stored.get("solution"), stored.get("joined")) {
-            let map = expected::solution_shape(route, &p).map(|s| s.2).unwrap_or_default();
-            run.join(route, &p, &solution(given, map)?, joined)?;
+            run.join(route, &p, &solution(given, our_map(route, &p))?, joined)?;
         }
     }
     Ok(())
 }
 
 // a problem; sizes and cut on each route; mostly a compact solution, its cone map and what it is joined to
-fn cuts(run: &mut Run, case: &Json) -> Result<(), String> {
+fn cuts(run: &mut Run, case: &Json, entry: usize) -> Result<(), String> {
     let p = problem(case.get("problem")?)?;
     for route in [Route::Compact, Route::Standard] {
-        run.cut(route, &p, case.get(route.name())?, 1)?;
+        run.cut(route, &p, case.get(route.name())?, entry)?;
     }
     if let (Ok(given), Ok(joined)) = (case.get("solution"), case.get("joined")) {
-        let map = case.get("cone_map")?.map()?;
+        let map = case.get("cone_map")?.map(&our_map(Route::Compact, &p))?;
         run.join(Route::Compact, &p, &solution(given, map)?, joined)?;
     }
     Ok(())
@@ -362,7 +370,12 @@ fn same_layout(run: &mut Run, case: &Json) -> Result<(), String> {
 // what reads and compares a case of a file
 type Form = fn(&mut Run, &Json) -> Result<(), String>;
 
-const FORMS: [(&str, Form); 3] = [("cases", base), ("q-7", cuts), ("q-10", same_layout)];
+const FORMS: [(&str, Form); 4] = [
+    ("cases", base),
+    ("q-7", |run, case| cuts(run, case, 3)),
+    ("q-10", same_layout),
+    ("q-3", |run, case| cuts(run, case, MAP_WORDS)),
+];
 
 /// Compares each case of the file, whose name without its ending is one of `FORMS`.
 pub fn compare(report: &mut Report, draws: &mut Draws, file: &Path) -> Result<(), String> {

@@ -227,9 +227,10 @@ fn run(compact: bool) -> Result<DefaultVariables, Refusal> {
     println!("  b: {newb:?}");
     println!("  cones: {newcones:?}");
     for (cone, entry) in info.cone_maps.iter().enumerate() {
+        let rows = entry.range();
         match entry.tree_and_clique {
-            Some((tree, clique)) => println!("  cone {cone}: clique {clique} of pattern {tree}"),
-            None => println!("  cone {cone}: cone {} as it was", entry.orig_index),
+            Some((tree, clique)) => println!("  cone {cone}, rows {rows:?}: clique {clique} of pattern {tree}"),
+            None => println!("  cone {cone}, rows {rows:?}: cone {} as it was", entry.orig_index),
         }
     }
 

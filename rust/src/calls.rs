@@ -103,7 +103,7 @@ pub struct Sizes {
     pub cones: usize,
     /// The exponents of the power cones.
     pub alphas: usize,
-    /// The cone map, three words an entry.
+    /// The cone map, five words an entry.
     pub map: usize,
 }
 

@@ -106,7 +106,8 @@ pub struct CutOutputs<'a> {
     pub cones: &'a mut [u32],
     /// The exponents of the power cones.
     pub alphas: &'a mut [f64],
-    /// The cone map, three words an entry: `orig_index`, pattern number or [`NONE`], clique number or 0.
+    /// The cone map, five words an entry: `orig_index`, pattern number or [`NONE`], clique number or 0, first row, row
+    /// count.
     pub map: &'a mut [u32],
 }
 
@@ -266,7 +267,7 @@ pub fn sizes(route: u32, problem: &Tables, out: &mut [u32]) -> Result<(), Refusa
 /// let problem = Problem::three_projectors();
 /// let (mut p_starts, mut q, mut a_starts) = ([0; 3], [0.0; 2], [0; 3]);
 /// let (mut a_rows, mut a_values, mut b) = ([0; 7], [0.0; 7], [0.0; 6]);
-/// let (mut cones, mut map) = ([0; 6], [0; 6]);
+/// let (mut cones, mut map) = ([0; 6], [0; 10]);
 /// let mut out = CutOutputs {
 ///     p_starts: &mut p_starts,
 ///     q: &mut q,
@@ -282,7 +283,7 @@ pub fn sizes(route: u32, problem: &Tables, out: &mut [u32]) -> Result<(), Refusa
 /// assert_eq!(a_starts, [0, 5, 7]);
 /// assert_eq!(a_rows, [0, 1, 2, 3, 4, 0, 5]);
 /// assert_eq!(a_values, [30.0, 40.0, 50.0, 10.0, 20.0, -1.0, 1.0]);
-/// assert_eq!(map, [0, 0, 1, 0, 0, 0]);
+/// assert_eq!(map, [0, 0, 1, 0, 3, 0, 0, 0, 3, 3]);
 /// # Ok::<(), tejiwakpa::Refusal>(())
 /// ```
 #[rustfmt::skip]
@@ -324,7 +325,7 @@ pub fn cut(route: u32, problem: &Tables, out: &mut CutOutputs) -> Result<(), Ref
 ///     x: &[0.5, 0.0],
 ///     s: &[3.0, 4.0, 5.0, 1.0, 2.0, 7.0],
 ///     z: &[3.0, 4.0, 5.0, 1.0, 2.0, 7.0],
-///     map: &[0, 0, 1, 0, 0, 0],
+///     map: &[0, 0, 1, 0, 3, 0, 0, 0, 3, 3],
 ///     ..Joining::default()
 /// };
 /// let (mut x, mut s, mut z, mut scalars) = ([0.0], [0.0; 6], [0.0; 6], [0.0; 2]);

@@ -164,7 +164,7 @@ impl Problem {
     /// let words = problem.words();
     /// let mut lengths = [0; 11];
     /// flat::sizes(Route::Compact.number(), &problem.tables(&words), &mut lengths)?;
-    /// assert_eq!(lengths, [3, 0, 0, 2, 3, 7, 7, 6, 6, 0, 6]);
+    /// assert_eq!(lengths, [3, 0, 0, 2, 3, 7, 7, 6, 6, 0, 10]);
     /// # Ok::<(), tejiwakpa::Refusal>(())
     /// ```
     pub fn tables<'a>(&'a self, words: &'a Words) -> flat::Tables<'a> {
@@ -184,6 +184,35 @@ impl Problem {
             pattern_count: words.pattern_count,
             pattern_words: &words.pattern_words,
         }
+    }
+
+    /// The place in the compact cut's map of the entry of a pattern's clique, if there is such a clique. A viewer so finds
+    /// a projector's block by one entry, without walking the map.
+    ///
+    /// ```
+    /// use tejiwakpa::{cut, Cone, Problem, Route};
+    ///
+    /// // three projectors, behind a cone that is not cut
+    /// let mut problem = Problem::three_projectors();
+    /// problem.cones.insert(0, Cone::Exponential);
+    /// problem.m += 3;
+    /// problem.b.splice(0..0, [0.0; 3]);
+    /// problem.a.rows.iter_mut().for_each(|row| *row += 3);
+    /// problem.patterns[0].orig_index = 1;
+    ///
+    /// let augmented = cut(Route::Compact, &problem)?;
+    /// let entry = augmented.map[problem.map_place(0, 1).unwrap()];
+    /// assert_eq!(entry.tree_and_clique, Some((0, 1)));
+    /// assert_eq!(augmented.problem.b[entry.range()], [3.0, 4.0, 5.0]);
+    /// assert_eq!(problem.map_place(0, 2), None);
+    /// # Ok::<(), tejiwakpa::Refusal>(())
+    /// ```
+    pub fn map_place(&self, pattern: usize, clique: usize) -> Option<usize> {
+        let cut = self.patterns.get(pattern)?;
+        // each cone before it has one entry, but a cut one has an entry for each clique; cliques go from last to first
+        let more: usize = self.patterns[..pattern].iter().map(|p| p.cliques.len().saturating_sub(1)).sum();
+        let after = cut.cliques.len().checked_sub(clique)?.checked_sub(1)?;
+        Some(cut.orig_index as usize + more + after)
     }
 
     /// The example of these pages: three projectors, one seam. One unknown and a PSD cone of dimension 3, cut into the

@@ -72,8 +72,11 @@ fn p9_compact_overlap() {
     let Augmented { problem, map } = compact();
     let column: Vec<(u32, f64)> = problem.a.column(1).collect();
     assert_eq!(column, [(0, -1.0), (5, 1.0)]);
-    let entry = |clique| ConeMapEntry { orig_index: 0, tree_and_clique: Some((0, clique)) };
-    assert_eq!(map, [entry(1), entry(0)]);
+    let entry = |clique, first_row| {
+        let tree_and_clique = Some((0, clique));
+        ConeMapEntry { orig_index: 0, tree_and_clique, first_row, rows: 3 }
+    };
+    assert_eq!(map, [entry(1, 0), entry(0, 3)]);
 }
 
 #[test]

@@ -10,3 +10,4 @@ pub mod Places
 pub mod Operands
 pub mod Walking
 pub mod Values
+pub mod Arrays

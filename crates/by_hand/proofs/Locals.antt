@@ -7,7 +7,7 @@
 --     value, pointer, len      a local is read, and the two fields of one that is a slice
 --     sets, lands-in, lands-over       one that is room is assigned to; it takes a call's result; one that holds a value takes it.        equals    what is assigned, said otherwise
 --     free-all         its locals, which stand last in the context, are freed, whatever they hold
-use Prim.Native.Nat.{ℕ, zero}
+use Prim.Native.Nat.{ℕ, zero, suc}
 use mathlib.Core.Path.{_≡_, refl, sym, ap, subst}
 use mathlib.Core.List.{List, [], _∷_, _++_, map, append-assoc}
 use mathlib.Core.Option.{Option, some, none}
@@ -35,6 +35,12 @@ Blocks (l ∷ ls) = ℕ × Blocks ls
 abbrev pub env : (ls : List Local) → Blocks ls → List (Ty × ℕ)
 env [] bs = []
 env (local τ h ∷ ls) bs = (τ, bs .0) ∷ env ls (bs .1)
+
+-- the block of local i
+abbrev pub block-of : (ls : List Local) → Blocks ls → ℕ → ℕ
+block-of [] bs i = zero
+block-of (l ∷ ls) bs zero = bs .0
+block-of (l ∷ ls) bs (suc i) = block-of ls (bs .1) i
 
 abbrev cell : {M : Type 1} {𝓤 : URA M} → Ty → ℕ → Option Val → Item 𝓤
 cell τ b none = ‵ (froom τ b zero)

@@ -49,7 +49,7 @@ module _ (n m p a α rows overlaps cones : ℕ) {added b coneWords mapWords : �
       let g′ : coneWords ≡ 3 * suc cones = omega arith in
       rw (r, e, f′, g′, h)
 
-  pub lengths-compact : {route : Route} → route ≡ compact → added ≡ overlaps → b ≡ rows → coneWords ≡ 3 * cones → mapWords ≡ 3 * cones
+  pub lengths-compact : {route : Route} → route ≡ compact → added ≡ overlaps → b ≡ rows → coneWords ≡ 3 * cones → mapWords ≡ 5 * cones
       → outputLengths (n + added) p (a + 2 * added) b coneWords α mapWords ≡ routeSizes route n m p a α rows overlaps cones
   lengths-compact r e f g h = rw (r, e, f, g, h)
 

@@ -19,7 +19,7 @@ abbrev pub routeSizes : Route → ℕ → ℕ → ℕ → ℕ → ℕ → ℕ �
 routeSizes standard n m p a α rows overlaps cones =
     outputLengths (n + rows) p (a + 2 * rows) (m + rows) (3 * suc cones) α 0
 routeSizes compact n m p a α rows overlaps cones =
-    outputLengths (n + overlaps) p (a + 2 * overlaps) rows (3 * cones) α (3 * cones)
+    outputLengths (n + overlaps) p (a + 2 * overlaps) rows (3 * cones) α (5 * cones)
 
 -- what checks 1 and 10 say of the counts
 abbrev pub Fitting : Route → ℕ → ℕ → ℕ → ℕ → ℕ → ℕ → Type 0

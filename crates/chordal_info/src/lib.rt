@@ -70,6 +70,9 @@ pub fn check_route(
 
 // ---- the sizes
 
+// The words of an entry of the cone map.
+const ENTRY_WORDS: u32 = 5;
+
 // The length of each output of the cut, from the counts of parts' `get_decomposed_dim_and_overlaps`.
 pub fn write_sizes(
     route: u32,
@@ -90,7 +93,7 @@ pub fn write_sizes(
     let mut added = overlaps as u32;
     let mut b = rows as u32;
     let mut cone_words = 3 * cones as u32;
-    let mut map_words = cone_words;
+    let mut map_words = ENTRY_WORDS * cones as u32;
     if route == 0 {
         added = b;
         b += m;

@@ -1,3 +1,3 @@
 pub mod Entries
-pub mod Walking
 pub mod Maps
+pub mod Few

@@ -1,5 +1,5 @@
 -- What layout's `sameMap` says: the same map is an equal one.
-use mathlib.Core.Path.{_≡_, refl, sym, ap, ap₂}
+use mathlib.Core.Path.{_≡_, refl, sym, ap₂}
 use mathlib.Core.List.{List, [], _∷_}
 use mathlib.Core.Logic.{_↔_}
 use lib.Dec.{T, eqb, eqb-refl}
@@ -7,19 +7,20 @@ use Rattle.layout.specs.Compact.{MapEntry, wholeCone, blockOf}
 use Rattle.layout.proofs.Tests.{and-iff, eqb-iff}
 use Rattle.layout.specs.Calls.JoinEntries.{sameEntry, sameMap}
 
--- ---- the same entry, the same map
-
 entry-equal : (a b : MapEntry) → T (sameEntry a b) → a ≡ b
-entry-equal (wholeCone i) (wholeCone j) h = ap wholeCone (eqb-iff i j .0 h)
-entry-equal (wholeCone i) (blockOf j l d) h = absurd h
-entry-equal (blockOf i k c) (wholeCone j) h = absurd h
-entry-equal (blockOf i k c) (blockOf j l d) h =
+entry-equal (wholeCone i a n) (wholeCone j b o) h =
     let t = simp (and-iff, eqb-iff) at h in
-    λ z. blockOf (t .0 z) (t .1 .0 z) (t .1 .1 z)
+    λ z. wholeCone (t .0 z) (t .1 .0 z) (t .1 .1 z)
+entry-equal (wholeCone i a n) (blockOf j l d b o) h = absurd h
+entry-equal (blockOf i k c a n) (wholeCone j b o) h = absurd h
+entry-equal (blockOf i k c a n) (blockOf j l d b o) h =
+    let t = simp (and-iff, eqb-iff) at h in
+    λ z. blockOf (t .0 z) (t .1 .0 z) (t .1 .1 .0 z) (t .1 .1 .1 .0 z) (t .1 .1 .1 .1 z)
 
 entry-same : (a : MapEntry) → T (sameEntry a a)
-entry-same (wholeCone i) = eqb-refl i
-entry-same (blockOf i k c) = and-iff (eqb i i) _ .1 (eqb-refl i, and-iff (eqb k k) (eqb c c) .1 (eqb-refl k, eqb-refl c))
+entry-same (wholeCone i a n) = and-iff (eqb i i) _ .1 (eqb-refl i, and-iff (eqb a a) (eqb n n) .1 (eqb-refl a, eqb-refl n))
+entry-same (blockOf i k c a n) =
+    and-iff (eqb i i) _ .1 (eqb-refl i, and-iff (eqb k k) _ .1 (eqb-refl k, and-iff (eqb c c) _ .1 (eqb-refl c, and-iff (eqb a a) (eqb n n) .1 (eqb-refl a, eqb-refl n))))
 
 map-same : (es : List MapEntry) → T (sameMap es es)
 map-same [] = tt

@@ -1,29 +1,60 @@
 -- The cone map's entries: what a struct stands for among layout's, and its words.
-use Prim.Native.Nat.{ℕ}
+use Prim.Native.Nat.{ℕ, _+_, _*_, _<_}
+use mathlib.Core.Bool.{cond}
+use mathlib.Core.List.{List, [], _∷_}
+use lib.ListN.{getD}
+use lib.Dec.{eqb}
 use Rattle.layout.specs.Compact.{MapEntry, wholeCone, blockOf, noPatternNumber}
+use Rattle.layout.specs.Lists.{join}
 use Rattle.cone_map.specs.declared.ConeMapEntry.{ConeMapEntry}
 use Rattle.cone_map.specs.declared.TreeAndClique.{TreeAndClique}
 use Rattle.cone_map.specs.declared.TreeAndClique.the-variants.{None, In}
 
 -- ---- a struct and the entry that it stands for
 
-abbrev pub placed : ℕ → TreeAndClique → MapEntry
-placed i None = wholeCone i
-placed i (In k c) = blockOf i k c
+abbrev pub placed : ℕ → TreeAndClique → ℕ → ℕ → MapEntry
+placed i None first rows = wholeCone i first rows
+placed i (In k c) first rows = blockOf i k c first rows
 
 abbrev pub meant : ConeMapEntry → MapEntry
-meant e = placed (e .«orig_index») (e .«tree_and_clique»)
+meant e = placed (e .«orig_index») (e .«tree_and_clique») (e .«first_row») (e .«row_count»)
 
 abbrev pub structOf : MapEntry → ConeMapEntry
-structOf (wholeCone i) = record { «orig_index» = i; «tree_and_clique» = None }
-structOf (blockOf i k c) = record { «orig_index» = i; «tree_and_clique» = In k c }
+structOf (wholeCone i first rows) = record { «orig_index» = i; «tree_and_clique» = None; «first_row» = first; «row_count» = rows }
+structOf (blockOf i k c first rows) = record { «orig_index» = i; «tree_and_clique» = In k c; «first_row» = first; «row_count» = rows }
 
--- ---- an entry's words
+-- ---- words
 
 abbrev pub patternWord : TreeAndClique → ℕ
 patternWord None = noPatternNumber
 patternWord (In k c) = k
 
+-- a pattern with the mark's number is told from none by a clique that none has
 abbrev pub cliqueWord : TreeAndClique → ℕ
 cliqueWord None = 0
-cliqueWord (In k c) = c
+cliqueWord (In k c) = cond (eqb k noPatternNumber) 1 c
+
+abbrev pub structWords : ConeMapEntry → List ℕ
+structWords e = e .«orig_index» ∷ patternWord (e .«tree_and_clique») ∷ cliqueWord (e .«tree_and_clique») ∷ e .«first_row» ∷ e .«row_count» ∷ []
+
+-- of a whole map
+abbrev pub allWords : List ConeMapEntry → List ℕ
+allWords ys = join structWords ys
+
+-- and back
+abbrev pub treeOf : ℕ → ℕ → TreeAndClique
+treeOf k c = cond (eqb k noPatternNumber) None (In k c)
+
+abbrev pub structAt : List ℕ → ℕ → ConeMapEntry
+structAt ws k = record {
+  «orig_index» = getD ws (k * 5) 0;
+  «tree_and_clique» = treeOf (getD ws (k * 5 + 1) 0) (getD ws (k * 5 + 2) 0);
+  «first_row» = getD ws (k * 5 + 3) 0;
+  «row_count» = getD ws (k * 5 + 4) 0;
+}
+
+-- patterns' numbers are below the mark
+abbrev pub Told : List MapEntry → Type 0
+Told [] = Unit {0}
+Told (wholeCone i first rows ∷ es) = Told es
+Told (blockOf i k c first rows ∷ es) = (k < noPatternNumber) × Told es

@@ -1,2 +1,2 @@
-pub mod Entries
-pub mod Problem
+pub mod Lists
+pub mod Rows

@@ -1,54 +1,32 @@
-// The cone map as a slice of entry structs. Both functions are proved by hand; what they do for one entry is in the functions that they call.
+// The cone map as a slice of entry structs, and as words. Both functions are proved by hand; what they do for one entry is in the functions that they call.
 ghost use mathlib.Core.Path.{_≡_};
 ghost use mathlib.Core.List.{map};
-ghost use Prim.Native.Nat.{_≤_};
-ghost use lib.ListN.{length};
-ghost use Rattle.layout.specs.Checks.{Sound};
-ghost use Rattle.layout.specs.Compact.{coneMap};
-ghost use Rattle.layout.specs.Answers.{joinedParts, output};
-ghost use Rattle.layout.specs.Calls.JoinEntries.{sameMap};
-ghost use Rattle.cone_map.specs.Entries.{meant, structOf};
+ghost use Prim.Native.Nat.{_*_, _≤_};
+ghost use lib.ListN.{length, take};
+ghost use Rattle.layout.specs.Lists.{below, written};
+ghost use Rattle.cone_map.specs.Entries.{allWords, structAt};
 use cone_map::ConeMapEntry;
-use cone_map::MapPlace;
 
-// Writes the map of a problem; of a refused one nothing.
-pub fn write_map(
-    refused: u32,
-    m: u32,
-    cones: &[u32],
-    count: u32,
-    words: &[u32],
-    entries: &mut [ConeMapEntry],
-)
-    requires { ⌜ (refused ≡ 0 → Sound m (now cones) count (now words) × (length (coneMap (joinedParts (now cones) count (now words))) ≤ length (now entries))) ⌝ }
-    ensures { λ _. ⌜ now (entries .exit) ≡ output refused (map structOf (coneMap (joinedParts (now (cones .entry)) count (now (words .entry))))) (now (entries .entry)) ⌝ }
+// Writes the first `count` entries of a map's words.
+pub fn write_entries(words: &[u32], count: usize, entries: &mut [ConeMapEntry])
+    requires { ⌜ (count * 5 ≤ length (now words)) × (count ≤ length (now entries)) ⌝ }
+    ensures { λ _. ⌜ now (entries .exit) ≡ written (map (structAt (now (words .entry))) (below count)) (now (entries .entry)) ⌝ }
 {
-    let mut at = MapPlace::start(refused, m, cones, count, words);
     let mut k = 0;
-    while at.here {
-        entries[k] = at.entry;
-        at = at.next(m, cones, words);
+    while k < count {
+        entries[k] = ConeMapEntry::read(words, k);
         k += 1;
     }
 }
 
-// Whether the entries are the map of a problem; of a refused one nothing is said.
-pub fn same_map(
-    refused: u32,
-    m: u32,
-    cones: &[u32],
-    count: u32,
-    words: &[u32],
-    entries: &[ConeMapEntry],
-) -> bool
-    requires { ⌜ (refused ≡ 0 → Sound m (now cones) count (now words)) ⌝ }
-    ensures { λ r. ⌜ (refused ≡ 0 → r ≡ sameMap (map meant (now (entries .entry))) (coneMap (joinedParts (now (cones .entry)) count (now (words .entry))))) ⌝ }
+// Writes the first `count` words of entries.
+pub fn write_words(entries: &[ConeMapEntry], count: usize, out: &mut [u32])
+    requires { ⌜ (count ≤ length (now entries) * 5) × (count ≤ length (now out)) ⌝ }
+    ensures { λ _. ⌜ now (out .exit) ≡ written (take count (allWords (now (entries .entry)))) (now (out .entry)) ⌝ }
 {
-    let mut at = MapPlace::start(refused, m, cones, count, words);
-    let mut k = 0;
-    while k < entries.len() {
-        at = at.compare(entries[k], m, cones, words);
-        k += 1;
+    let mut w = 0;
+    while w < count {
+        out[w] = entries[w / 5].word(w % 5);
+        w += 1;
     }
-    at.all_agreed()
 }

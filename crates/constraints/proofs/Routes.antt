@@ -1,14 +1,17 @@
 -- A route by its number: what the writers ask and write on each.
 use Prim.Native.Nat.{ℕ, _≤_}
-use mathlib.Core.Path.{_≡_, sym, ap, subst}
+use mathlib.Core.Path.{_≡_, refl, sym, ap, subst, _∙_}
 use mathlib.Core.List.{List}
 use lib.ListN.{length}
 use Rattle.layout.specs.Lists.{written}
-use Rattle.layout.specs.Problem.{Problem, Route}
-use Rattle.layout.specs.Blocks.{Part}
+use Rattle.layout.specs.Problem.{Problem, Route, compact}
+use Rattle.layout.specs.Blocks.{Part, blockRowCount}
+use Rattle.layout.specs.Checks.{layout}
 use Rattle.layout.specs.Answers.{augmented, addedCount}
 use Rattle.layout.specs.Calls.Cut.{Constrained, constrainedOf, HoldsConstrained}
+use Rattle.augment_standard.specs.Constraints.{Accepted}
 use Rattle.augment.specs.Fits.{ConstrainedFits}
+use Rattle.compact_constraints.proofs.Laws.{few-rows}
 
 -- the columns that a route adds
 pub added-on : (ps : List Part) {route other : Route} → route ≡ other → addedCount other ps ≡ addedCount route ps
@@ -19,6 +22,10 @@ pub fits-on : {p : Problem} {k : ℕ} {out : Constrained} {route other : Route} 
 fits-on {p} {k} {out} e h = subst (λ (r : Route). ConstrainedFits r p k out) e h
 
 module _ (p : Problem) {route other : Route} (e : route ≡ other) where
+  -- on the compact route the blocks' rows are few
+  pub few-on : {k : ℕ} {out : Constrained} → other ≡ compact → ConstrainedFits route p k out → blockRowCount (layout p) ≤ 262144
+  few-on c h = few-rows (subst (λ (r : Route). Accepted r p) (e ∙ c) (h .accepted)) refl
+
   -- a map that fits, and what was written
   pub map-fits-on : (room : ℕ) → length (augmented route p .map) ≤ room → length (augmented other p .map) ≤ room
   map-fits-on room h = subst (λ (r : Route). length (augmented r p .map) ≤ room) e h

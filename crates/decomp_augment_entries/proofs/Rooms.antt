@@ -1,37 +1,42 @@
 -- The room of a slice of entries, in words: it is counted no further than any map goes.
-use Prim.Native.Nat.{ℕ, zero, suc, _+_, _*_, _≤_}
+use Prim.Native.Nat.{ℕ, zero, suc, _+_, _*_, _≤_, _<_}
 use native.Mathlib.Omega.{arith}
 use mathlib.Core.Path.{_≡_, refl, sym, ap, subst, _∙_}
 use mathlib.Core.Logic.{inl, inr}
 use mathlib.Core.Bool.{Bool, cond, _&&_}
-use mathlib.Core.List.{List, [], _∷_, _++_}
-use lib.ListN.{length, getD}
+use mathlib.Core.List.{List, [], _∷_, _++_, map}
+use lib.ListN.{length, getD, List·getD-append}
 use lib.Dec.{leb, ltb}
-use Rattle.layout.specs.Lists.{written}
+use Rattle.layout.specs.Lists.{below, written}
 use Rattle.layout.specs.Problem.{Problem, compact}
 use Rattle.layout.specs.Blocks.{blockRowCount, overlapCount}
 use Rattle.layout.specs.Checks.{Sound, layout, refusal}
-use Rattle.layout.specs.Compact.{MapEntry, wholeCone, blockOf, coneMap, entryWords}
-use Rattle.layout.specs.Answers.{augmented, orElse, roomy, sizes, cutRefusal}
+use Rattle.layout.specs.Compact.{MapEntry, wholeCone, coneMap, mapWords}
+use Rattle.layout.specs.Answers.{augmented, joinedParts, output, orElse, roomy, sizes, cutRefusal}
 use Rattle.layout.specs.Calls.Cut.{Objective, objectiveOf, HoldsObjective, Constrained, HoldsConstrained}
 use Rattle.layout.specs.Calls.CutEntries.{EntryTables, entryRooms}
 use Rattle.layout.proofs.Tests.{and-iff, leb-iff, ltb-iff, tested, cond-passed, cond-failed, passed}
 use Rattle.layout.proofs.Accepted.{accepted-sound}
-use Rattle.layout.proofs.Sizes.{compact-sizes}
-use Rattle.tables.proofs.Laws.{threes}
+use Rattle.layout.proofs.Members.{has-below}
+use Rattle.layout.proofs.Joins.{map-same, map-drop}
+use Rattle.layout.proofs.Sizes.{compact-sizes, map-count, entries-length}
+use Rattle.cone_map.specs.declared.ConeMapEntry.{ConeMapEntry}
+use Rattle.cone_map.specs.Entries.{structOf, treeOf, structAt, Told}
+use Rattle.cone_map.proofs.Entries.{read-back}
+use Rattle.cone_map.proofs.Few.{map-told, map-few as entries-few}
 use Rattle.chordal_info.proofs.Counts.{accepted-fitting}
 use Rattle.augment.specs.Fits.{extended, ObjectiveFits, ConstrainedFits}
 use Rattle.layout.proofs.Promises.{Taken, taken}
 use Rattle.decomp_augment.proofs.Rooms.{only, uncut, objective-cut, objective-asked, Rooms, on-route, accepted-constraints}
-use Rattle.decomp_augment_entries.specs.Rooms.{wordsOf}
+use Rattle.decomp_augment_entries.specs.Rooms.{wordsOf, unlessRefused}
 
-enough : (k entries : ℕ) → k ≤ 789504 → leb k (wordsOf entries) ≡ leb k (entries * 3)
-enough k entries few = elim (tested (ltb 263168 entries)) [
+enough : (k entries : ℕ) → k ≤ 81920 → leb k (wordsOf entries) ≡ leb k (entries * 5)
+enough k entries few = elim (tested (ltb 16384 entries)) [
   | inl h ↦
-      ap (leb k) (cond-passed (ltb 263168 entries) 789504 (entries * 3) h)
-      ∙ passed (leb k 789504) (leb-iff k 789504 .1 few)
-      ∙ sym (passed (leb k (entries * 3)) (leb-iff k (entries * 3) .1 (omega (arith, ltb-iff 263168 entries .0 h))))
-  | inr h ↦ ap (leb k) (cond-failed (ltb 263168 entries) 789504 (entries * 3) h)
+      ap (leb k) (cond-passed (ltb 16384 entries) 81920 (entries * 5) h)
+      ∙ passed (leb k 81920) (leb-iff k 81920 .1 few)
+      ∙ sym (passed (leb k (entries * 5)) (leb-iff k (entries * 5) .1 (omega (arith, ltb-iff 16384 entries .0 h))))
+  | inr h ↦ ap (leb k) (cond-failed (ltb 16384 entries) 81920 (entries * 5) h)
 ]
 
 last-room : (ks rs : List ℕ) (a b : ℕ) → leb (getD ks (length rs) 0) a ≡ leb (getD ks (length rs) 0) b
@@ -40,25 +45,23 @@ last-room [] rs a b e = refl
 last-room (k ∷ ks) [] a b e = ap (λ (t : Bool). t && roomy ks []) e
 last-room (k ∷ ks) (r ∷ rs) a b e = ap (λ (t : Bool). leb k r && t) (last-room ks rs a b e)
 
-map-few : (p : Problem) → refusal compact p ≡ 0 → getD (sizes compact p) 10 0 ≤ 789504
+map-few : (p : Problem) → refusal compact p ≡ 0 → getD (sizes compact p) 10 0 ≤ 81920
 map-few p ok =
-    let h = accepted-fitting compact p ok in
-    let rows = leb-iff (blockRowCount (layout p)) 262144 .0 (and-iff (leb (blockRowCount (layout p)) 262144) (leb (overlapCount (layout p)) 131072) .0 (h .2) .0) in
-    omega (arith, ap (λ (ks : List ℕ). getD ks 10 0) (compact-sizes p ok), h .4, rows)
+    omega (arith, ap (λ (ks : List ℕ). getD ks 10 0) (compact-sizes p ok), map-count 0 (layout p), entries-few (accepted-sound compact p ok))
 
 same-refusal : (p : Problem) (rs : List ℕ) (entries : ℕ) → length rs ≡ 10
-    → cutRefusal compact p (rs ++ (wordsOf entries ∷ [])) ≡ cutRefusal compact p (rs ++ (entries * 3 ∷ []))
-same-refusal p rs entries ten = go (refusal compact p) (λ ok. last-room (sizes compact p) rs (wordsOf entries) (entries * 3)
-    (enough (getD (sizes compact p) (length rs) 0) entries (subst (λ (i : ℕ). getD (sizes compact p) i 0 ≤ 789504) (sym ten) (map-few p ok))))
+    → cutRefusal compact p (rs ++ (wordsOf entries ∷ [])) ≡ cutRefusal compact p (rs ++ (entries * 5 ∷ []))
+same-refusal p rs entries ten = go (refusal compact p) (λ ok. last-room (sizes compact p) rs (wordsOf entries) (entries * 5)
+    (enough (getD (sizes compact p) (length rs) 0) entries (subst (λ (i : ℕ). getD (sizes compact p) i 0 ≤ 81920) (sym ten) (map-few p ok))))
   where
-    go : (a : ℕ) → (a ≡ 0 → roomy (sizes compact p) (rs ++ (wordsOf entries ∷ [])) ≡ roomy (sizes compact p) (rs ++ (entries * 3 ∷ [])))
-        → orElse a (cond (roomy (sizes compact p) (rs ++ (wordsOf entries ∷ []))) 0 11) ≡ orElse a (cond (roomy (sizes compact p) (rs ++ (entries * 3 ∷ []))) 0 11)
+    go : (a : ℕ) → (a ≡ 0 → roomy (sizes compact p) (rs ++ (wordsOf entries ∷ [])) ≡ roomy (sizes compact p) (rs ++ (entries * 5 ∷ [])))
+        → orElse a (cond (roomy (sizes compact p) (rs ++ (wordsOf entries ∷ []))) 0 11) ≡ orElse a (cond (roomy (sizes compact p) (rs ++ (entries * 5 ∷ []))) 0 11)
     go zero e = ap (λ (t : Bool). cond t 0 11) (e refl)
     go (suc a) e = refl
 
 -- the refusal with the room of ten outputs, and of the map
 pub refused-entries : (p : Problem) (rs : List ℕ) (entries : ℕ) {r k : ℕ} → length rs ≡ 10 → r ≡ cutRefusal compact p (rs ++ (k ∷ [])) → k ≡ wordsOf entries
-    → r ≡ cutRefusal compact p (rs ++ (entries * 3 ∷ []))
+    → r ≡ cutRefusal compact p (rs ++ (entries * 5 ∷ []))
 refused-entries p rs entries ten e words = e ∙ ap (λ (k : ℕ). cutRefusal compact p (rs ++ (k ∷ []))) words ∙ same-refusal p rs entries ten
 
 -- ---- what the writers ask and write
@@ -80,10 +83,6 @@ objective-cut-by p (suc r) k e h = record { p-starts = h .p-starts; p-rows = h .
 pub fit-counted : {p : Problem} {k : ℕ} {out : Constrained} → k ≡ overlapCount (layout p) → ConstrainedFits compact p (overlapCount (layout p)) out → ConstrainedFits compact p k out
 fit-counted {p} {k} {out} e h = subst (λ (j : ℕ). ConstrainedFits compact p j out) (sym e) h
 
-entry-words : (e : MapEntry) → length (entryWords e) ≡ 3
-entry-words (wholeCone i) = refl
-entry-words (blockOf i k c) = refl
-
 module _ {E : Type 0} (p : Problem) (before : EntryTables E) (e : cutRefusal compact p (entryRooms before) ≡ 0) where
   ok : Taken compact p (entryRooms before)
   ok = taken 1 p (entryRooms before) e .1
@@ -101,5 +100,65 @@ module _ {E : Type 0} (p : Problem) (before : EntryTables E) (e : cutRefusal com
       let h = objective-asked p (entryRooms before) compact ok k f in
       record { right = h .0; starts = h .1 .0; rows = h .1 .1; values = h .1 .2; costs = h .1 .3; alphas = h .1 .4 }
 
-  pub map-fits : Sound (p .m) (p .cones) (p .patternCount) (p .patternWords) × (length (coneMap (layout p)) ≤ length (before .map))
-  map-fits = (accepted-sound compact p (ok .0), omega (arith, there .1 .5, threes entryWords entry-words (coneMap (layout p))))
+  pub map-fits : Sound (p .m) (p .cones) (p .patternCount) (p .patternWords) × (blockRowCount (layout p) ≤ 262144)
+  map-fits =
+      let h = accepted-fitting compact p (ok .0) in
+      (accepted-sound compact p (ok .0), leb-iff (blockRowCount (layout p)) 262144 .0 (and-iff (leb (blockRowCount (layout p)) 262144) (leb (overlapCount (layout p)) 131072) .0 (h .2) .0))
+
+  pub entries-fit : length (coneMap (layout p)) ≤ length (before .map)
+  entries-fit = omega (arith, there .1 .5, entries-length (coneMap (layout p)))
+
+-- ---- the entries
+
+read-first : (xs rest : List ℕ) (k : ℕ) → k * 5 + 5 ≤ length xs → structAt (xs ++ rest) k ≡ structAt xs k
+read-first xs rest k l =
+    let word : (j : ℕ) → j < length xs → getD (xs ++ rest) j 0 ≡ getD xs j 0 = λ j h. List·getD-append xs rest 0 j h in
+    λ z. record {
+      «orig_index» = word (k * 5) (omega arith) z;
+      «tree_and_clique» = treeOf (word (k * 5 + 1) (omega arith) z) (word (k * 5 + 2) (omega arith) z);
+      «first_row» = word (k * 5 + 3) (omega arith) z;
+      «row_count» = word (k * 5 + 4) (omega arith) z;
+    }
+
+all-read : (es : List MapEntry) → Told es → (k : ℕ) (ws old : List ℕ) → k ≡ length es → ws ≡ written (mapWords es) old → map (structAt ws) (below k) ≡ map structOf es
+all-read es h k ws old n e =
+    map-same (structAt ws) (λ j. structOf (getD es j (wholeCone 0 0 0))) (below k)
+    (λ j t.
+    let l : j < length es = omega (arith, n, has-below j k .0 t) in
+    ap (λ (us : List ℕ). structAt us j) e ∙ read-first (mapWords es) _ j (omega (arith, entries-length es)) ∙ read-back es j (wholeCone 0 0 0) l h)
+    ∙ sym (map-drop structOf (wholeCone 0 0 0) es 0 k (omega (arith, n)))
+
+module _ {m : ℕ} {cones : List ℕ} {count : ℕ} {words : List ℕ} (refused : ℕ) (sound : refused ≡ 0 → Sound m cones count words) where
+  abbrev es : List MapEntry
+  es = coneMap (joinedParts cones count words)
+
+  entries-in : length (unlessRefused refused (coneMap (joinedParts cones count words))) ≤ 16384
+  entries-in = go refused sound
+    where
+      go : (r : ℕ) → (r ≡ 0 → Sound m cones count words) → length (unlessRefused r es) ≤ 16384
+      go zero h = entries-few (h refl)
+      go (suc r) h = omega arith
+
+  -- their words are in the table
+  pub table-fits : (k : ℕ) (ws : List ℕ) → k ≡ length (unlessRefused refused (coneMap (joinedParts cones count words))) → length ws ≡ 81920 → k * 5 ≤ length ws
+  table-fits k ws n e = omega (arith, n, e, entries-in)
+
+  -- read back from a table where their words stand first
+  pub entries-read : (k : ℕ) (ws old : List ℕ) (ys : List ConeMapEntry) → k ≡ length (unlessRefused refused (coneMap (joinedParts cones count words)))
+      → ws ≡ written (mapWords (unlessRefused refused (coneMap (joinedParts cones count words)))) old
+      → written (map (structAt ws) (below k)) ys ≡ output refused (map structOf (coneMap (joinedParts cones count words))) ys
+  entries-read k ws old ys = go refused sound
+    where
+      go : (r : ℕ) → (r ≡ 0 → Sound m cones count words) → k ≡ length (unlessRefused r es) → ws ≡ written (mapWords (unlessRefused r es)) old
+          → written (map (structAt ws) (below k)) ys ≡ output r (map structOf es) ys
+      go zero h n e = ap (λ (xs : List ConeMapEntry). written xs ys) (all-read es (map-told (h refl)) k ws old n e)
+      go (suc r) h n e = ap (λ (j : ℕ). written (map (structAt ws) (below j)) ys) n
+
+pub none-refused : {A : Type 0} (r : ℕ) (xs : List A) → (r ≡ 0 → ⊥) → unlessRefused r xs ≡ []
+none-refused zero xs h = absurd (h refl)
+none-refused (suc r) xs h = refl
+
+-- there is room for as many
+pub room-for : (r : ℕ) (es : List MapEntry) (n : ℕ) → (r ≡ 0 → length es ≤ n) → (k : ℕ) → k ≡ length (unlessRefused r es) → k ≤ n
+room-for zero es n h k e = omega (arith, e, h refl)
+room-for (suc r) es n h k e = omega (arith, e)

@@ -1,27 +1,31 @@
 // The cut on the compact route where the cone map is a slice of entries.
 ghost use mathlib.Core.Path.{_≡_};
 ghost use mathlib.Core.List.{[], _∷_};
-ghost use Prim.Native.Nat.{_*_};
+ghost use Prim.Native.Nat.{_*_, _≤_};
+ghost use lib.ListN.{length};
+ghost use Rattle.layout.specs.Lists.{written};
 ghost use Rattle.layout.specs.Problem.{problem, compact};
-ghost use Rattle.layout.specs.Blocks.{overlapCount};
-ghost use Rattle.layout.specs.Checks.{layout};
-ghost use Rattle.layout.specs.Answers.{augmented, cutRefusal};
+ghost use Rattle.layout.specs.Blocks.{blockRowCount, overlapCount};
+ghost use Rattle.layout.specs.Checks.{Sound, layout};
+ghost use Rattle.layout.specs.Compact.{coneMap, mapWords};
+ghost use Rattle.layout.specs.Answers.{augmented, cutRefusal, joinedParts};
 ghost use Rattle.layout.specs.Calls.Cut.{objective, HoldsObjective, constrained, constrainedOf, HoldsConstrained};
 ghost use Rattle.layout.specs.Calls.CutEntries.{entryOutputs, CutEntries};
 ghost use Rattle.cone_map.specs.Entries.{structOf};
 ghost use Rattle.augment_standard.specs.Constraints.{constraints};
 ghost use Rattle.augment.specs.Fits.{extended, ObjectiveFits, ConstrainedFits};
-ghost use Rattle.decomp_augment_entries.specs.Rooms.{wordsOf};
+ghost use Rattle.decomp_augment_entries.specs.Rooms.{wordsOf, unlessRefused};
 use cone_map::ConeMapEntry;
+use tables::Table;
 
-// The words of so many entries, or of the most that a problem has: entries of 1,024 cones and of 262,144 blocks.
+// The words of so many entries, or of the most that a problem has, 16,384.
 fn words_of(entries: usize) -> usize
     ensures { λ r. ⌜ r ≡ wordsOf entries ⌝ }
 {
-    if 263168 < entries {
-        return 789504;
+    if 16384 < entries {
+        return 81920;
     }
-    entries * 3
+    entries * 5
 }
 
 // Checks 1 to 11 in order, with room for so much in each output: the number of the first that fails, or 0.
@@ -54,7 +58,7 @@ fn refuse_cut_compact(
 ) -> u32
     ensures { λ r.
         let p = problem n m (now («p_starts» .entry)) (now («p_rows» .entry)) (now («p_values» .entry)) (now (q .entry)) (now («a_starts» .entry)) (now («a_rows» .entry)) (now («a_values» .entry)) (now (b .entry)) (now (cones .entry)) (now (alphas .entry)) count (now (words .entry)) in
-        ⌜ r ≡ cutRefusal compact p («p_starts_room» ∷ «p_rows_room» ∷ «p_values_room» ∷ «q_room» ∷ «a_starts_room» ∷ «a_rows_room» ∷ «a_values_room» ∷ «b_room» ∷ «cones_room» ∷ «alphas_room» ∷ «map_room» * 3 ∷ []) ⌝ }
+        ⌜ r ≡ cutRefusal compact p («p_starts_room» ∷ «p_rows_room» ∷ «p_values_room» ∷ «q_room» ∷ «a_starts_room» ∷ «a_rows_room» ∷ «a_values_room» ∷ «b_room» ∷ «cones_room» ∷ «alphas_room» ∷ «map_room» * 5 ∷ []) ⌝ }
 {
     let rooms = [
         p_starts_room,
@@ -185,6 +189,26 @@ fn cut_objective(
     );
 }
 
+// Writes the words of a problem's cone map to a table, of a refused one nothing. How many entries it has.
+fn map_table(
+    refused: u32,
+    m: u32,
+    cones: &[u32],
+    count: u32,
+    words: &[u32],
+    table: &mut [u32],
+) -> usize
+    requires { ⌜ (refused ≡ 0 → Sound m (now cones) count (now words) × (blockRowCount (joinedParts (now cones) count (now words)) ≤ 262144)) × (81920 ≤ length (now table)) ⌝ }
+    ensures { λ r.
+        let es = unlessRefused refused (coneMap (joinedParts (now (cones .entry)) count (now (words .entry)))) in
+        ⌜ (r ≡ length es) × (now (table .exit) ≡ written (mapWords es) (now (table .entry))) ⌝ }
+{
+    if refused != 0 {
+        return 0;
+    }
+    tables::write_table(Table::ConeMap, m, cones, count, words, table) / 5
+}
+
 // An accepted problem's cut at the front of the outputs.
 pub fn cut_compact_entries(
     n: u32,
@@ -278,6 +302,8 @@ pub fn cut_compact_entries(
         q_out,
         alphas_out,
     );
-    cone_maps::write_map(refused, m, cones, count, words, map_out);
+    let mut table = [0u32; 81920];
+    let entries = map_table(refused, m, cones, count, words, &mut table);
+    cone_maps::write_entries(&table, entries, map_out);
     refused
 }

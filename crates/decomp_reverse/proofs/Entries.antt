@@ -1,21 +1,20 @@
 -- A list of words compared part by part: with the entries of a pattern's cliques, and with those of the parts ahead.
-use Prim.Native.Nat.{ℕ, _+_, _-_, _≤_, _<_}
+use Prim.Native.Nat.{ℕ, suc, _+_, _-_, _≤_, _<_}
 use native.Mathlib.Numerals.{add-one}
 use native.Mathlib.Omega.{arith}
 use mathlib.Core.Path.{_≡_, refl, ap, sym, _∙_}
 use mathlib.Core.Bool.{Bool, true, false, _&&_, and-assoc, and-true as all-of}
 use mathlib.Core.Logic.{_⊎_, inl, inr}
-use mathlib.Core.List.{List, [], _∷_, _++_, map, reverse}
+use mathlib.Core.List.{List, [], _∷_, _++_}
 use lib.ListN.{length, getD, drop, length-drop, drop-of-length-le}
 use lib.Seq.{drop-cons, drop-drop}
 use lib.Dec.{eqb}
 use borrow.Author.Tests.{eq-eqb, ne-eqb}
-use Rattle.layout.specs.Lists.{below, sameNumbers}
-use Rattle.layout.specs.Blocks.{Part}
-use Rattle.layout.specs.Compact.{blockOf, entryWords, mapPart, coneMap, mapWords}
+use Rattle.layout.specs.Lists.{sameNumbers}
+use Rattle.layout.specs.Blocks.{Part, partRows}
+use Rattle.layout.specs.Compact.{mapPart, mapFrom, mapWords}
 use Rattle.layout.proofs.Tests.{lt-or-le, and-true, and-false, and-right, differ}
-use Rattle.layout.proofs.Joins.{reverse-below}
-use Rattle.layout.proofs.Starts.{join-append}
+use Rattle.layout.proofs.ConeMap.{words-part}
 use Rattle.decomp_reverse.specs.Begins.{begins}
 
 -- ---- a list that begins with another
@@ -40,6 +39,10 @@ inside ws t ys l e = elim (lt-or-le (length (drop t ws)) (length ys)) [
 pub word-hit : (ws : List ℕ) (t y : ℕ) (ys : List ℕ) → t < length ws → getD ws t 0 ≡ y
     → begins (drop t ws) (y ∷ ys) ≡ begins (drop (t + 1) ws) ys
 word-hit ws t y ys h e = rw (add-one, drop-cons ws t 0 h, eq-eqb (getD ws t 0) y e)
+
+pub next-hit : (ws : List ℕ) (t k y : ℕ) (ys : List ℕ) → t + k < length ws → getD ws (t + k) 0 ≡ y
+    → begins (drop (t + k) ws) (y ∷ ys) ≡ begins (drop (t + suc k) ws) ys
+next-hit ws t k y ys h e = let next : t + k + 1 ≡ t + suc k = omega arith in word-hit ws (t + k) y ys h e ∙ ap (λ (n : ℕ). begins (drop n ws) ys) next
 
 pub word-miss : (ws : List ℕ) (t y : ℕ) (ys : List ℕ) → t < length ws → (getD ws t 0 ≡ y → ⊥) → begins (drop t ws) (y ∷ ys) ≡ false
 word-miss ws t y ys h n = rw (drop-cons ws t 0 h, ne-eqb (getD ws t 0) y n)
@@ -67,41 +70,40 @@ module _ (f : List ℕ → List ℕ → Bool) (short : (y : ℕ) (ys : List ℕ)
 
 -- ---- the cliques of a pattern, from the last to the first
 
--- the words of the entries of c cliques
-abbrev pub blockWords : ℕ → ℕ → ℕ → List ℕ
-blockWords i k c = mapWords (map (blockOf i k) (reverse (below c)))
+-- the entry of one more stands after those of the others
+module _ (ws : List ℕ) (t j : ℕ) (ys zs : List ℕ) (e : length ys ≡ j) where
+  after : begins (drop t ws) (ys ++ zs) ≡ (begins (drop t ws) ys && begins (drop (t + j) ws) zs)
+  after =
+      part begins (λ y ys. refl) (λ x y xs ys. refl) (drop t ws) ys zs
+      ∙ ap (λ (l : List ℕ). begins (drop t ws) ys && begins l zs) (drop-drop (length ys) t ws ∙ ap (λ (k : ℕ). drop (t + k) ws) e)
 
-module _ (ws : List ℕ) (t i k c : ℕ) where
-  pub block-hit : begins (drop t ws) (i ∷ k ∷ c ∷ []) ≡ true → begins (drop t ws) (blockWords i k (c + 1)) ≡ begins (drop (t + 3) ws) (blockWords i k c)
-  block-hit e =
-      rw (add-one, reverse-below)
-      (part-hit begins (λ y ys. refl) (λ x y xs ys. refl) ws t (i ∷ k ∷ c ∷ []) (blockWords i k c) e)
+  pub last-hit : begins (drop (t + j) ws) zs ≡ true → begins (drop t ws) (ys ++ zs) ≡ begins (drop t ws) ys
+  last-hit h = after ∙ ap (λ (b : Bool). begins (drop t ws) ys && b) h ∙ all-of (begins (drop t ws) ys)
 
-  pub block-miss : begins (drop t ws) (i ∷ k ∷ c ∷ []) ≡ false → begins (drop t ws) (blockWords i k (c + 1)) ≡ false
-  block-miss e =
-      rw (add-one, reverse-below)
-      (part-miss begins (λ y ys. refl) (λ x y xs ys. refl) ws t (i ∷ k ∷ c ∷ []) (blockWords i k c) e)
+  pub last-miss : begins (drop (t + j) ws) zs ≡ false → begins (drop t ws) (ys ++ zs) ≡ false
+  last-miss h = after ∙ and-right (begins (drop t ws) ys) (begins (drop (t + j) ws) zs) h
 
 -- ---- the parts ahead
 
-module _ (ws : List ℕ) (t : ℕ) (x : Part) (before later : List Part) (e : before ≡ x ∷ later) where
-  opened : mapWords (coneMap before) ≡ mapWords (mapPart x) ++ mapWords (coneMap later)
-  opened = ap (λ (ps : List Part). mapWords (coneMap ps)) e ∙ join-append entryWords (mapPart x) (coneMap later)
+module _ (ws : List ℕ) (t first : ℕ) (x : Part) (before later : List Part) (e : before ≡ x ∷ later) where
+  opened : mapWords (mapFrom first before) ≡ mapWords (mapPart first x) ++ mapWords (mapFrom (first + partRows x) later)
+  opened = ap (λ (ps : List Part). mapWords (mapFrom first ps)) e ∙ words-part first x later
 
-  pub entries-hit : begins (drop t ws) (mapWords (mapPart x)) ≡ true
-      → sameNumbers (drop t ws) (mapWords (coneMap before)) ≡ sameNumbers (drop (t + length (mapWords (mapPart x))) ws) (mapWords (coneMap later))
-  entries-hit h =
+  pub entries-hit : begins (drop t ws) (mapWords (mapPart first x)) ≡ true → {rows : ℕ} → rows ≡ partRows x
+      → sameNumbers (drop t ws) (mapWords (mapFrom first before)) ≡ sameNumbers (drop (t + length (mapWords (mapPart first x))) ws) (mapWords (mapFrom (first + rows) later))
+  entries-hit h {rows} r =
       ap (sameNumbers (drop t ws)) opened
-      ∙ part-hit sameNumbers (λ y ys. refl) (λ u y us ys. refl) ws t (mapWords (mapPart x)) (mapWords (coneMap later)) h
+      ∙ part-hit sameNumbers (λ y ys. refl) (λ u y us ys. refl) ws t (mapWords (mapPart first x)) (mapWords (mapFrom (first + partRows x) later)) h
+      ∙ ap (λ (n : ℕ). sameNumbers (drop (t + length (mapWords (mapPart first x))) ws) (mapWords (mapFrom (first + n) later))) (sym r)
 
-  pub entries-miss : begins (drop t ws) (mapWords (mapPart x)) ≡ false → sameNumbers (drop t ws) (mapWords (coneMap before)) ≡ false
+  pub entries-miss : begins (drop t ws) (mapWords (mapPart first x)) ≡ false → sameNumbers (drop t ws) (mapWords (mapFrom first before)) ≡ false
   entries-miss h =
       ap (sameNumbers (drop t ws)) opened
-      ∙ part-miss sameNumbers (λ y ys. refl) (λ u y us ys. refl) ws t (mapWords (mapPart x)) (mapWords (coneMap later)) h
+      ∙ part-miss sameNumbers (λ y ys. refl) (λ u y us ys. refl) ws t (mapWords (mapPart first x)) (mapWords (mapFrom (first + partRows x) later)) h
 
-pub entries-end : (ws : List ℕ) (t : ℕ) (before : List Part) → before ≡ [] → t ≤ length ws
-    → sameNumbers (drop t ws) (mapWords (coneMap before)) ≡ eqb t (length ws)
-entries-end ws t before e l = ap (λ (ps : List Part). sameNumbers (drop t ws) (mapWords (coneMap ps))) e ∙ at-end (lt-or-le t (length ws))
+pub entries-end : (ws : List ℕ) (t first : ℕ) (before : List Part) → before ≡ [] → t ≤ length ws
+    → sameNumbers (drop t ws) (mapWords (mapFrom first before)) ≡ eqb t (length ws)
+entries-end ws t first before e l = ap (λ (ps : List Part). sameNumbers (drop t ws) (mapWords (mapFrom first ps))) e ∙ at-end (lt-or-le t (length ws))
   where
     at-end : (t < length ws) ⊎ (length ws ≤ t) → sameNumbers (drop t ws) [] ≡ eqb t (length ws)
     at-end (inl h) = rw (drop-cons ws t 0 h, ne-eqb t (length ws) (λ q. omega arith))

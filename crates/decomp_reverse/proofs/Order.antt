@@ -18,11 +18,16 @@ use Rattle.layout.proofs.Accepted.{joinTests}
 use Rattle.checks.specs.Order.{joinedRefusal}
 use Rattle.checks.proofs.Order.{joined-then-route, first-given, both-zero}
 use Rattle.checks.proofs.Checked.{joined-sound}
+use Rattle.chordal_info.specs.Sizes.{rowsFit}
 use Rattle.chordal_info.specs.Routes.{Counted}
 use Rattle.chordal_info.proofs.Sizes.{rows-fit, rows-few}
 use Rattle.chordal_info.proofs.Counts.{overlaps-few}
 use Rattle.chordal_info.proofs.Routes.{counted-rows}
-use Rattle.reverse.specs.Joined.{Joinable, joinedOf, routeOf as routeIs}
+use Rattle.layout.specs.Compact.{coneMap, mapWords}
+use Rattle.layout.proofs.Walks.{numbers-equal}
+use Rattle.reverse_standard.specs.Routes.{Starts}
+use Rattle.reverse.specs.Joined.{Joinable, joinedOf, firstOf, blockSizes, routeOf as routeIs}
+use Rattle.reverse.proofs.Sizes.{map-tells}
 use Rattle.decomp_reverse.specs.Fits.{lengthsFit, fitsBy, countedRefusal, refusalBy}
 
 -- the answer at each place
@@ -112,6 +117,13 @@ module _ (route : Route) (n m : ℕ) (cones : List ℕ) (count : ℕ) (words : L
         (counted-rows route m ps rows overlaps c ∙ seven-passed route n m cones count words e)
         ∙ ap (λ (t : Bool). orElse ten (orElse (cond room 0 11) (cond t 0 12))) (counted-fits route n m rows overlaps ps c x s z)
 
+    -- none does: the blocks' rows are few
+    pub counted-rows-few : (r : ℕ) → r ≡ countedRefusal route n m rows overlaps x s z rooms → r ≡ 0 → blockRowCount ps ≤ 262144
+    unfolding countedRefusal
+    counted-rows-few r f y =
+        let ten = both-zero (cond (rowsFit route m rows overlaps) 0 10) (orElse (cond room 0 11) (cond (lengthsFit route n m rows overlaps x s z) 0 12)) (sym f ∙ y) .0 in
+        subst (λ (k : ℕ). k ≤ 262144) (c .0) (rows-few route m rows overlaps (passed 10 (check 10 (rowsFit route m rows overlaps) ∷ []) tt ten))
+
     -- one of checks 10 to 12 fails, the map aside
     pub refused-counted : (r : ℕ) → r ≡ countedRefusal route n m rows overlaps x s z rooms → (r ≡ 0 → ⊥) → r ≡ refusalBy route n m cones count words x s z entries rooms
     unfolding refusalBy before-map
@@ -133,17 +145,18 @@ as-layout route n m cones count words sol entries rooms = refl
 -- ---- nothing is refused
 
 -- what is given where nothing is refused: a solution that can be joined, and room for it
-pub record Accepted (route : Route) (n m : ℕ) (cones : List ℕ) (count : ℕ) (words : List ℕ) (sol : Solution) (x s z k : ℕ) : Type 0 where
+pub record Accepted (route : Route) (n m : ℕ) (cones : List ℕ) (count : ℕ) (words : List ℕ) (sol : Solution) (entries : List ℕ) (x s z k : ℕ) : Type 0 where
   pub joinable : Joinable route m cones count words (sol .s) (sol .z)
   pub columns : n ≤ length (sol .x)
   pub room-x : n ≤ x
   pub room-s : m ≤ s
   pub room-z : m ≤ z
   pub room-scalars : 2 ≤ k
+  pub map-is : T (mapRight route (joinedParts cones count words) entries)
 
 pub join-accepted : (route : Route) (n m : ℕ) (cones : List ℕ) (count : ℕ) (words : List ℕ) (sol : Solution) (entries : List ℕ) (x s z k : ℕ)
     → joinRefusal route n m cones count words sol entries (x ∷ s ∷ z ∷ k ∷ []) ≡ 0
-    → Accepted route n m cones count words sol x s z k
+    → Accepted route n m cones count words sol entries x s z k
 join-accepted route n m cones count words sol entries x s z k e =
     let ps = joinedParts cones count words in
     let room : Bool = roomy (n ∷ m ∷ m ∷ 2 ∷ []) (x ∷ s ∷ z ∷ k ∷ []) in
@@ -152,7 +165,8 @@ join-accepted route n m cones count words sol entries x s z k e =
     let (ten, rest) = both-zero (joinChecks route n m cones count words) (orElse (cond room 0 11) (cond fit 0 12)) e in
     let (eleven, twelve) = both-zero (cond room 0 11) (cond fit 0 12) rest in
     let rooms = simp (and-iff, leb-iff) at (passed 11 (check 11 room ∷ []) tt eleven) in
-    let lengths = simp (and-iff, eqb-iff) at (and-iff fits (mapRight route ps entries) .0 (passed 12 (check 12 fit ∷ []) tt twelve) .0) in
+    let (lengths-right, map-is) = and-iff fits (mapRight route ps entries) .0 (passed 12 (check 12 fit ∷ []) tt twelve) in
+    let lengths = simp (and-iff, eqb-iff) at lengths-right in
     let (sound, few) = checks-passed route n m cones count words ten in
     record {
       joinable = record { sound = sound; few = few; slacks = lengths .0 .1; duals = lengths .1 };
@@ -161,6 +175,7 @@ join-accepted route n m cones count words sol entries x s z k e =
       room-s = rooms .1 .0;
       room-z = rooms .1 .1 .0;
       room-scalars = rooms .1 .1 .1 .0;
+      map-is = map-is;
     }
 
 -- ---- what is joined
@@ -184,3 +199,12 @@ module _ (n m : ℕ) (cones : List ℕ) (count : ℕ) (words : List ℕ) (x s z 
 pub by-number : (route : ℕ) → routeIs (eqb route 0) ≡ routeOf route
 by-number zero = refl
 by-number (suc k) = ap routeIs (ne-eqb (suc k) 0 (λ e. omega arith))
+
+-- a map that passed check 12 tells where each block begins
+pub tells : (route m : ℕ) (cones : List ℕ) (count : ℕ) (words entries : List ℕ) → T (mapRight (routeOf route) (joinedParts cones count words) entries)
+    → Starts (eqb route 0) entries 0 (firstOf (eqb route 0) m) (blockSizes (joinedParts cones count words))
+tells zero m cones count words entries h = tt
+tells (suc k) m cones count words entries h =
+    let ps = joinedParts cones count words in
+    subst (λ (b : Bool). Starts b entries 0 (firstOf b m) (blockSizes ps)) (sym (ne-eqb (suc k) 0 (λ e. omega arith)))
+    (subst (λ (ws : List ℕ). Starts false ws 0 0 (blockSizes ps)) (sym (numbers-equal entries (mapWords (coneMap ps)) h)) (map-tells false ps))

@@ -1,84 +1,166 @@
 // The joining on either route: 0 standard, 1 compact. Clarabel's `decomp_reverse`, with dual completion off.
 ghost use mathlib.Core.Path.{_≡_};
-ghost use mathlib.Core.Bool.{_&&_};
-ghost use mathlib.Core.List.{[], _∷_, map as mapped, reverse};
-ghost use Prim.Native.Nat.{_≤_};
+ghost use mathlib.Core.Bool.{true, _&&_};
+ghost use mathlib.Core.List.{[], _∷_, map as mapped};
+ghost use Prim.Native.Nat.{_-_, _≤_};
 ghost use lib.ListN.{length, drop};
 ghost use lib.Dec.{eqb};
-ghost use Rattle.layout.specs.Lists.{below, sameNumbers, written};
+ghost use Rattle.layout.specs.Lists.{all, sameNumbers, sum, written};
 ghost use Rattle.layout.specs.Problem.{solution};
-ghost use Rattle.layout.specs.Checks.{Sound};
-ghost use Rattle.layout.specs.Compact.{blockOf, coneMap, mapWords};
+ghost use Rattle.layout.specs.Blocks.{cut, blockRows, blockRowCount};
+ghost use Rattle.layout.specs.Checks.{Sound, RightPattern};
+ghost use Rattle.layout.specs.Compact.{coneMap, mapPart, mapWords};
 ghost use Rattle.layout.specs.Answers.{roomy, routeOf, joinedParts};
 ghost use Rattle.layout.specs.Calls.Join.{rejoined, Join};
+ghost use Rattle.supernode_tree.specs.Reads.{patternAt, Whole, cliquesFrom};
+ghost use Rattle.supernode_tree.specs.Sizes.{atMost, dimOf};
+ghost use Rattle.tables.specs.Tables.{entriesDown};
 ghost use Rattle.decomp_reverse.specs.Begins.{begins};
 ghost use Rattle.decomp_reverse.specs.Fits.{lengthsFit, countedRefusal, refusalBy};
 use parts::Met;
 use parts::Place;
 use reverse_standard::Scalars;
+use supernode_tree::Clique;
+use supernode_tree::Pattern;
 
-// The mark for none where the cone map has a pattern's number.
+// The mark for none where the cone map has a pattern's number, and the words of an entry.
 const NO_PATTERN: u32 = 4294967295;
+
+const ENTRY_WORDS: usize = 5;
 
 // ---- the cone map
 
-// Whether the words from t on begin with the entry a, b, c.
-fn entry_right(entries: &[u32], t: usize, a: u32, b: u32, c: u32) -> bool
+// Whether the words from t on begin with an entry's.
+fn entry_right(
+    entries: &[u32],
+    t: usize,
+    cone: u32,
+    pattern: u32,
+    clique: u32,
+    first: u32,
+    rows: u32,
+) -> bool
     requires { ⌜ t ≤ length (now entries) ⌝ }
-    ensures { λ r. ⌜ r ≡ begins (drop t (now (entries .entry))) (a ∷ b ∷ c ∷ []) ⌝ }
+    ensures { λ r. ⌜ r ≡ begins (drop t (now (entries .entry))) (cone ∷ pattern ∷ clique ∷ first ∷ rows ∷ []) ⌝ }
 {
-    if entries.len() - t < 3 {
+    if entries.len() - t < ENTRY_WORDS {
         return false;
     }
-    if entries[t] != a {
+    if entries[t] != cone {
         return false;
     }
-    if entries[t + 1] != b {
+    if entries[t + 1] != pattern {
         return false;
     }
-    entries[t + 2] == c
+    if entries[t + 2] != clique {
+        return false;
+    }
+    if entries[t + 3] != first {
+        return false;
+    }
+    entries[t + 4] == rows
 }
 
-// Whether they begin with the entries of count cliques of one pattern, from the last to the first.
-fn blocks_right(entries: &[u32], t: usize, cone: u32, pattern: u32, count: u32) -> bool
-    requires { ⌜ t ≤ length (now entries) ⌝ }
-    ensures { λ r. ⌜ r ≡ begins (drop t (now (entries .entry))) (mapWords (mapped (blockOf cone pattern) (reverse (below count)))) ⌝ }
+// Whether they begin with the entries of count cliques of one pattern, whose rows end at `end`, from the last to the first: the last entry is compared
+// first, with the first clique, whose rows are the last.
+fn blocks_right(
+    entries: &[u32],
+    t: usize,
+    cone: u32,
+    pattern: u32,
+    words: &[u32],
+    first: usize,
+    count: u32,
+    end: u32,
+) -> bool
+    requires { ⌜ Whole (now words) first count × (t ≤ length (now entries)) ⌝ }
+    requires { ⌜ all (atMost 256) (cliquesFrom (now words) first count) ≡ true ⌝ }
+    requires { ⌜ sum (mapped dimOf (cliquesFrom (now words) first count)) ≤ end ⌝ }
+    ensures { λ r. ⌜ r ≡ begins (drop t (now (entries .entry))) (mapWords (entriesDown cone pattern 0 (end - sum (mapped dimOf (cliquesFrom (now (words .entry)) first count))) (cliquesFrom (now (words .entry)) first count))) ⌝ }
 {
-    let mut at = t;
-    let mut c = count;
-    while 0 < c {
-        c -= 1;
-        if !entry_right(entries, at, cone, pattern, c) {
+    if entries.len() - t < count as usize * ENTRY_WORDS {
+        return false;
+    }
+    let mut at = first;
+    let mut row = end;
+    let mut left = count;
+    while 0 < left {
+        let q = Clique::here(words, at);
+        let rows = supernode_tree::triangular_number(q.get_nblk()) as u32;
+        let clique = count - left;
+        left -= 1;
+        row -= rows;
+        if !entry_right(
+            entries,
+            t + left as usize * ENTRY_WORDS,
+            cone,
+            pattern,
+            clique,
+            row,
+            rows,
+        ) {
             return false;
         }
-        at += 3;
+        at = q.next;
     }
     true
 }
 
+// Whether they begin with the entries of the pattern at an offset, whose rows end at `end`.
+fn pattern_right(
+    entries: &[u32],
+    t: usize,
+    cone: u32,
+    pattern: u32,
+    words: &[u32],
+    at: usize,
+    end: u32,
+) -> bool
+    requires { ⌜ RightPattern (patternAt (now words) at) × (patternAt (now words) at .vertexCount ≤ 256) × (t ≤ length (now entries)) ⌝ }
+    requires { ⌜ blockRows (patternAt (now words) at) ≤ end ⌝ }
+    ensures { λ r. ⌜ r ≡ begins (drop t (now (entries .entry))) (mapWords (mapPart (end - blockRows (patternAt (now (words .entry)) at)) (cut cone 0 pattern (patternAt (now (words .entry)) at)))) ⌝ }
+{
+    let p = Pattern::here(words, at);
+    blocks_right(
+        entries,
+        t,
+        cone,
+        pattern,
+        words,
+        p.cliques,
+        p.clique_count,
+        end,
+    )
+}
+
 // Whether the entries are the cone map. It is compared as the cones are walked, so no table of it is held.
 fn map_right(m: u32, cones: &[u32], count: u32, words: &[u32], entries: &[u32]) -> bool
-    requires { ⌜ Sound m (now cones) count (now words) ⌝ }
+    requires { ⌜ Sound m (now cones) count (now words) × (blockRowCount (joinedParts (now cones) count (now words)) ≤ 262144) ⌝ }
     ensures { λ r. ⌜ r ≡ sameNumbers (now (entries .entry)) (mapWords (coneMap (joinedParts (now (cones .entry)) count (now (words .entry))))) ⌝ }
 {
     let mut place = Place::start(m, cones, count, words);
     let mut t = 0;
+    let mut first = 0u32;
     loop {
         let met = place.next(m, cones, words);
         match met {
-            Met::Whole(_, next) => {
-                if !entry_right(entries, t, place.cone as u32, NO_PATTERN, 0) {
+            Met::Whole(rows, next) => {
+                if !entry_right(entries, t, place.cone as u32, NO_PATTERN, 0, first, rows) {
                     return false;
                 }
-                t += 3;
+                t += ENTRY_WORDS;
+                first += rows;
                 place = next;
             }
             Met::Cut(at, next) => {
                 let cliques = parts::clique_count(words, at);
-                if !blocks_right(entries, t, place.cone as u32, place.pattern, cliques) {
+                let blocks = supernode_tree::get_decomposed_dim_and_overlaps(words, at);
+                let end = first + blocks.dim as u32;
+                if !pattern_right(entries, t, place.cone as u32, place.pattern, words, at, end) {
                     return false;
                 }
-                t += 3 * cliques as usize;
+                t += ENTRY_WORDS * cliques as usize;
+                first = end;
                 place = next;
             }
             Met::Done => {
@@ -279,7 +361,7 @@ pub fn join(
         return r;
     }
     reverse::copy_x(n, x, x_out);
-    reverse::decomp_reverse(route == 0, m, cones, count, words, s, z, s_out, z_out);
+    reverse::decomp_reverse(route == 0, m, cones, count, words, map, s, z, s_out, z_out);
     let scalars = Scalars {
         tau: tau,
         kappa: kappa,

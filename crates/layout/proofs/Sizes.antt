@@ -10,9 +10,9 @@ use Rattle.layout.specs.Triangle.{triangle}
 use Rattle.layout.specs.Problem.{Problem, zero64, Route, standard, compact}
 use Rattle.layout.specs.Cones.{rowCount}
 use Rattle.layout.specs.Patterns.{Pattern, Clique, cliqueAt, cliqueCount, blockSize, noClique}
-use Rattle.layout.specs.Blocks.{Row, Part, whole, cut, block, blockRows, pairRow, compactRows, standardRows, blockRowCount, overlapCount, partCones, coneCount}
+use Rattle.layout.specs.Blocks.{Row, Part, whole, cut, block, blockRows, pairRow, compactRows, standardRows, blockRowCount, overlapCount, partCones, partRows, coneCount}
 use Rattle.layout.specs.Checks.{layout, refusal, RightPattern, Laid}
-use Rattle.layout.specs.Compact.{Entry, column, augmentedColumn, overlapColumns, compactA, rowValue, psdWords, compactPart, MapEntry, wholeCone, blockOf, mapPart, mapWords, compactB, compactP, coneMap, compactColumns}
+use Rattle.layout.specs.Compact.{Entry, column, augmentedColumn, overlapColumns, compactA, rowValue, psdWords, compactPart, MapEntry, wholeCone, blockOf, blockEntry, mapPart, mapFrom, mapWords, compactB, compactP, coneMap, compactColumns}
 use Rattle.layout.specs.Standard.{blockColumns, standardA, standardP, standardPart, standardCones}
 use Rattle.layout.specs.Answers.{sizes}
 use Rattle.layout.proofs.Members.{length-upFrom, has-below, length-below}
@@ -51,15 +51,23 @@ standard-part (whole i c row) = refl
 standard-part (cut i row k p) =
     omega (arith, words-length (λ c. blockSize (cliqueAt p c)) (below (cliqueCount p)), length-upFrom 0 (cliqueCount p))
 
-map-part : (x : Part) → length (mapPart x) ≡ 1 * partCones x
-map-part (whole i c row) = refl
-map-part (cut i row k p) =
-    omega (arith, length-map (reverse (below (cliqueCount p))) (blockOf i k), down-count (cliqueCount p))
+-- an entry for each of its new cones
+pub map-part : (first : ℕ) (x : Part) → length (mapPart first x) ≡ partCones x
+map-part first (whole i c row) = refl
+map-part first (cut i row k p) =
+    length-map (reverse (below (cliqueCount p))) (blockEntry i k p first) ∙ down-count (cliqueCount p)
 
-entries-length : (es : List MapEntry) → length (mapWords es) ≡ 3 * length es
+-- and in all
+pub map-count : (first : ℕ) (ps : List Part) → length (mapFrom first ps) ≡ coneCount ps
+map-count first [] = refl
+map-count first (x ∷ ps) =
+    omega (arith, length-append (mapPart first x) (mapFrom (first + partRows x) ps), map-part first x, map-count (first + partRows x) ps)
+
+-- five words an entry
+pub entries-length : (es : List MapEntry) → length (mapWords es) ≡ 5 * length es
 entries-length [] = refl
-entries-length (wholeCone i ∷ es) = omega (arith, entries-length es)
-entries-length (blockOf i k c ∷ es) = omega (arith, entries-length es)
+entries-length (wholeCone i first rows ∷ es) = omega (arith, entries-length es)
+entries-length (blockOf i k c first rows ∷ es) = omega (arith, entries-length es)
 
 -- ---- entries
 
@@ -158,8 +166,8 @@ module _ (p : Problem) (ok : refusal compact p ≡ 0) where
   compact-p : length (compactP p .starts) ≡ suc (p .n + k)
   compact-p = omega (arith, extended (p .P .starts) (suc (p .n)) k (length (p .P .values)) (right-P compact p ok .count))
 
-  compact-map : length (mapWords (coneMap (layout p))) ≡ 3 * coneCount (layout p)
-  compact-map = omega (arith, parts-length mapPart 1 map-part (layout p), entries-length (coneMap (layout p)))
+  compact-map : length (mapWords (coneMap (layout p))) ≡ 5 * coneCount (layout p)
+  compact-map = omega (arith, map-count 0 (layout p), entries-length (coneMap (layout p)))
 
 -- from n, the entries of P and of A, the number of α and the parts
 abbrev pub compactSizes : ℕ → ℕ → ℕ → ℕ → List Part → List ℕ
@@ -168,7 +176,7 @@ compactSizes n entriesP entriesA alphas ps =
     let moved = entriesA + 2 * added in
     suc (n + added) ∷ entriesP ∷ entriesP ∷ (n + added)
     ∷ suc (n + added) ∷ moved ∷ moved ∷ blockRowCount ps
-    ∷ (3 * coneCount ps) ∷ alphas ∷ (3 * coneCount ps) ∷ []
+    ∷ (3 * coneCount ps) ∷ alphas ∷ (5 * coneCount ps) ∷ []
 
 pub compact-sizes : (p : Problem) → refusal compact p ≡ 0
     → sizes compact p ≡ compactSizes (p .n) (length (p .P .values)) (length (p .A .values)) (length (p .alphas)) (layout p)

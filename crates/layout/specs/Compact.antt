@@ -1,5 +1,5 @@
 -- The compact cut. Definitions only.
-use Prim.Native.Nat.{ℕ, suc, _-_}
+use Prim.Native.Nat.{ℕ, suc, _+_, _-_}
 use mathlib.Core.Bool.{cond}
 use mathlib.Core.List.{List, [], _∷_, _++_, map, reverse}
 use lib.ListN.{length, getD, replicate}
@@ -7,9 +7,10 @@ use lib.Dec.{eqb}
 use lib.Ieee.{Float, nan, eq}
 use Rattle.layout.specs.Lists.{keep, below, upFrom, join, startsFrom}
 use Rattle.layout.specs.Problem.{Problem, Csc, zero64, one64, minusOne64}
-use Rattle.layout.specs.Cones.{Cone}
-use Rattle.layout.specs.Patterns.{cliqueAt, cliqueCount, blockSize}
-use Rattle.layout.specs.Blocks.{Part, whole, cut, Row, kept, owned, overlap, compactRows, overlapCount}
+use Rattle.layout.specs.Triangle.{triangle}
+use Rattle.layout.specs.Cones.{Cone, rowCount}
+use Rattle.layout.specs.Patterns.{Pattern, cliqueAt, cliqueCount, blockSize}
+use Rattle.layout.specs.Blocks.{Part, whole, cut, Row, kept, owned, overlap, firstRow, compactRows, partRows, overlapCount}
 use Rattle.layout.specs.Checks.{layout}
 
 -- a stored entry: its row and its value
@@ -101,25 +102,37 @@ compactPart (cut i row k p) = join (λ c. psdWords (blockSize (cliqueAt p c))) (
 abbrev pub compactCones : Problem → List ℕ
 compactCones p = join compactPart (layout p)
 
--- the cone map: for each new cone its original cone and, if it is a block, its pattern and clique
+-- the cone map: for each new cone its original cone and, if it is a block, its pattern and clique; then its first augmented row,
+-- which is the number of rows before it, and its row count
 pub data MapEntry : Type 0 where
-  wholeCone : ℕ → MapEntry
-  blockOf : ℕ → ℕ → ℕ → MapEntry
+  -- cone, first row, row count
+  wholeCone : ℕ → ℕ → ℕ → MapEntry
+  -- cone, pattern, clique, first row, row count
+  blockOf : ℕ → ℕ → ℕ → ℕ → ℕ → MapEntry
 
-abbrev pub mapPart : Part → List MapEntry
-mapPart (whole i c row) = wholeCone i ∷ []
-mapPart (cut i row k p) = map (λ c. blockOf i k c) (reverse (below (cliqueCount p)))
+-- the entry of clique c, where the pattern's rows start at first
+abbrev pub blockEntry : ℕ → ℕ → Pattern → ℕ → ℕ → MapEntry
+blockEntry i k p first c = blockOf i k c (firstRow p first c) (triangle (blockSize (cliqueAt p c)))
+
+abbrev pub mapPart : ℕ → Part → List MapEntry
+mapPart first (whole i c row) = wholeCone i first (rowCount c) ∷ []
+mapPart first (cut i row k p) = map (blockEntry i k p first) (reverse (below (cliqueCount p)))
+
+-- parts whose rows start at first
+abbrev pub mapFrom : ℕ → List Part → List MapEntry
+mapFrom first [] = []
+mapFrom first (x ∷ ps) = mapPart first x ++ mapFrom (first + partRows x) ps
 
 abbrev pub coneMap : List Part → List MapEntry
-coneMap ps = join mapPart ps
+coneMap ps = mapFrom 0 ps
 
--- an entry's words: its cone, its pattern or the mark for none, its clique or 0
+-- an entry's words: its cone, its pattern or the mark for none, its clique or 0, its first row, its row count
 abbrev pub noPatternNumber : ℕ
 noPatternNumber = 4294967295
 
 abbrev pub entryWords : MapEntry → List ℕ
-entryWords (wholeCone i) = i ∷ noPatternNumber ∷ 0 ∷ []
-entryWords (blockOf i k c) = i ∷ k ∷ c ∷ []
+entryWords (wholeCone i first rows) = i ∷ noPatternNumber ∷ 0 ∷ first ∷ rows ∷ []
+entryWords (blockOf i k c first rows) = i ∷ k ∷ c ∷ first ∷ rows ∷ []
 
 abbrev pub mapWords : List MapEntry → List ℕ
 mapWords es = join entryWords es

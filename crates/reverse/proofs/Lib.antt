@@ -3,3 +3,4 @@ pub mod Parts
 pub mod Averages
 pub mod Walk
 pub mod Counts
+pub mod Sizes

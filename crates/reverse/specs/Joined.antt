@@ -2,13 +2,16 @@
 use Prim.Native.Nat.{ℕ, _≤_}
 use mathlib.Core.Path.{_≡_}
 use mathlib.Core.Bool.{Bool, true, false}
-use mathlib.Core.List.{List, []}
+use mathlib.Core.List.{List, [], _∷_}
 use lib.ListN.{length}
 use lib.Ieee.{Float}
 use Rattle.layout.specs.Problem.{Route, standard, compact, Solution, solution, one64}
-use Rattle.layout.specs.Blocks.{blockRowCount}
+use Rattle.layout.specs.Lists.{join}
+use Rattle.layout.specs.Cones.{rowCount}
+use Rattle.layout.specs.Blocks.{Part, whole, cut, blockRowCount}
 use Rattle.layout.specs.Checks.{Sound}
 use Rattle.layout.specs.Answers.{joined, joinedParts, slackCount}
+use Rattle.reverse_blocks.specs.Joins.{downSizes}
 
 -- what the checks say of m, the cone records, the patterns, and s and z on a route
 pub record Joinable (route : Route) (m : ℕ) (cones : List ℕ) (count : ℕ) (words : List ℕ) (s z : List Float) : Type 0 where
@@ -29,3 +32,11 @@ routeOf false = compact
 abbrev pub firstOf : Bool → ℕ → ℕ
 firstOf true m = m
 firstOf false m = 0
+
+-- how many rows each new cone has, in the compact route's order
+abbrev pub partSizes : Part → List ℕ
+partSizes (whole i c row) = rowCount c ∷ []
+partSizes (cut i row k p) = downSizes p
+
+abbrev pub blockSizes : List Part → List ℕ
+blockSizes ps = join partSizes ps

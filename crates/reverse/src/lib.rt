@@ -5,13 +5,16 @@ ghost use Prim.Native.Nat.{_≤_};
 ghost use lib.ListN.{length, take};
 ghost use lib.Dec.{leb};
 ghost use Rattle.layout.specs.Lists.{written};
-ghost use Rattle.reverse.specs.Joined.{Joinable, joinedOf, routeOf, firstOf};
+ghost use Rattle.layout.specs.Answers.{joinedParts};
+ghost use Rattle.reverse_standard.specs.Routes.{Starts};
+ghost use Rattle.reverse.specs.Joined.{Joinable, joinedOf, routeOf, firstOf, blockSizes};
 ghost use Rattle.reverse.specs.Counts.{sideFew, sidesFew, CountsCones};
 use parts::Met;
 use parts::Place;
 use reverse_cones::cone_rows;
 use reverse_cones::join_cut;
 use reverse_cones::join_whole;
+use reverse_standard::block_start;
 use supportedcone::SupportedCone;
 
 // x: the first n are copied.
@@ -35,13 +38,14 @@ fn first_value(standard: bool, m: u32) -> usize
     0
 }
 
-// s and z on a route. The buffers are made once for all patterns.
+// s and z on a route. The compact one reads in the map where the values of each block begin. The buffers are made once for all patterns.
 fn join_parts(
     standard: bool,
     m: u32,
     cones: &[u32],
     count: u32,
     words: &[u32],
+    map: &[u32],
     s: &[f64],
     z: &[f64],
     s_out: &mut [f64],
@@ -50,6 +54,7 @@ fn join_parts(
 )
     requires { ⌜ Joinable (routeOf standard) m (now cones) count (now words) (now s) (now z) ⌝ }
     requires { ⌜ (m ≤ length (now «s_out»)) × (m ≤ length (now «z_out»)) × CountsCones standard m (now cones) (now counts) ⌝ }
+    requires { ⌜ Starts standard (now map) 0 (firstOf standard m) (blockSizes (joinedParts (now cones) count (now words))) ⌝ }
     ensures { λ _. ⌜ now («s_out» .exit) ≡ written (joinedOf (routeOf standard) m (now (cones .entry)) count (now (words .entry)) (now (s .entry)) (now (z .entry)) .s) (now («s_out» .entry)) ⌝ }
     ensures { λ _. ⌜ now («z_out» .exit) ≡ written (joinedOf (routeOf standard) m (now (cones .entry)) count (now (words .entry)) (now (s .entry)) (now (z .entry)) .z) (now («z_out» .entry)) ⌝ }
 {
@@ -58,15 +63,18 @@ fn join_parts(
     let mut place = Place::start(m, cones, count, words);
     let mut row = 0usize;
     let mut t = first_value(standard, m);
+    let mut entry = 0usize;
     loop {
         let met = place.next(m, cones, words);
         match met {
             Met::Whole(rows, next) => {
                 let n = rows as usize;
-                join_whole(standard, n, row, t, s, &mut *s_out);
-                join_whole(standard, n, row, t, z, &mut *z_out);
+                let start = block_start(standard, t, map, entry);
+                join_whole(standard, n, row, start, s, &mut *s_out);
+                join_whole(standard, n, row, start, z, &mut *z_out);
                 row += n;
-                t += n;
+                t = start + n;
+                entry += 1;
                 place = next;
             }
             Met::Cut(at, next) => {
@@ -77,6 +85,8 @@ fn join_parts(
                     at,
                     n,
                     row,
+                    map,
+                    entry,
                     t,
                     s,
                     z,
@@ -87,6 +97,7 @@ fn join_parts(
                     &mut vertices,
                 );
                 row += n;
+                entry += parts::clique_count(words, at) as usize;
                 place = next;
             }
             Met::Done => {
@@ -148,6 +159,7 @@ pub fn decomp_reverse(
     cones: &[u32],
     count: u32,
     words: &[u32],
+    map: &[u32],
     s: &[f64],
     z: &[f64],
     s_out: &mut [f64],
@@ -155,6 +167,7 @@ pub fn decomp_reverse(
 )
     requires { ⌜ Joinable (routeOf standard) m (now cones) count (now words) (now s) (now z) ⌝ }
     requires { ⌜ (m ≤ length (now «s_out»)) × (m ≤ length (now «z_out»)) ⌝ }
+    requires { ⌜ Starts standard (now map) 0 (firstOf standard m) (blockSizes (joinedParts (now cones) count (now words))) ⌝ }
     ensures { λ _. ⌜ now («s_out» .exit) ≡ written (joinedOf (routeOf standard) m (now (cones .entry)) count (now (words .entry)) (now (s .entry)) (now (z .entry)) .s) (now («s_out» .entry)) ⌝ }
     ensures { λ _. ⌜ now («z_out» .exit) ≡ written (joinedOf (routeOf standard) m (now (cones .entry)) count (now (words .entry)) (now (s .entry)) (now (z .entry)) .z) (now («z_out» .entry)) ⌝ }
 {
@@ -166,6 +179,7 @@ pub fn decomp_reverse(
             cones,
             count,
             words,
+            map,
             s,
             z,
             s_out,
@@ -180,6 +194,7 @@ pub fn decomp_reverse(
             cones,
             count,
             words,
+            map,
             s,
             z,
             s_out,
@@ -194,6 +209,7 @@ pub fn decomp_reverse(
             cones,
             count,
             words,
+            map,
             s,
             z,
             s_out,

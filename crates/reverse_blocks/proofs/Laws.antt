@@ -1,30 +1,34 @@
 -- Values joined entry by entry and list by list, the counts of the standard route, and the order of the cliques.
-use Prim.Native.Nat.{ℕ, suc, _+_, _-_, _≤_, _<_}
+use Prim.Native.Nat.{ℕ, zero, suc, _+_, _-_, _≤_, _<_}
 use native.Mathlib.Nat.{le-of-eq}
 use native.Mathlib.Numerals.{add-one}
 use native.Mathlib.Omega.{arith}
-use mathlib.Core.Path.{_≡_, refl, ap, sym, subst, _∙_}
+use mathlib.Core.Path.{_≡_, refl, ap, ap₂, sym, subst, _∙_}
 use mathlib.Core.Bool.{Bool, true, false}
-use mathlib.Core.List.{List, [], _∷_, _++_}
-use lib.ListN.{length, getD, take, drop, set, length-drop, length-reverse}
+use mathlib.Core.List.{List, [], _∷_, _++_, map, map-map, reverse}
+use lib.ListN.{length, getD, take, drop, set, length-drop, length-map, length-reverse}
 use lib.Seq.{take-suc, drop-cons, drop-drop, getD-drop, length-take-le, getD-set-same, getD-set-other}
 use lib.Dec.{eqb}
 use lib.Ieee.{Float, nan}
 use borrow.Author.Tests.{eqb-true, eqb-false}
-use Rattle.layout.specs.Lists.{join, walk}
-use Rattle.layout.specs.Patterns.{Pattern, cliqueCount}
-use Rattle.layout.specs.Blocks.{blockRows}
+use Rattle.layout.specs.Lists.{below, join, walk}
+use Rattle.layout.specs.Triangle.{triangle}
+use Rattle.layout.specs.Patterns.{Pattern, blockSize, cliqueAt, cliqueCount}
+use Rattle.layout.specs.Blocks.{block, blockRows, pairRow}
 use Rattle.layout.specs.Checks.{RightPattern}
 use Rattle.layout.specs.Reverse.{columnCount}
 use Rattle.layout.proofs.Counting.{count-append}
 use Rattle.layout.proofs.Distinct.{length-keep}
 use Rattle.layout.proofs.Walks.{walk-append}
+use Rattle.layout.proofs.Joins.{reverse-below}
+use Rattle.layout.proofs.Starts.{part-at}
+use Rattle.layout.proofs.Rows.{block-length}
 use Rattle.blocks.specs.Cliques.{rowsHere, Stands, Standing}
 use Rattle.blocks.proofs.Patterns.{standard-rows-count, original-rows-count}
-use Rattle.blocks.proofs.Offsets.{StandAt, rows-up, rows-down}
-use Rattle.reverse_standard.specs.Routes.{zValue, inOrder}
+use Rattle.blocks.proofs.Offsets.{StandAt, reverse-map, rows-block, rows-up, rows-down}
+use Rattle.reverse_standard.specs.Routes.{zValue, inOrder, Starts}
 use Rattle.reverse_standard.proofs.Routes.{reverse-at}
-use Rattle.reverse_blocks.specs.Joins.{zAt, Counts, Countable, ownRows}
+use Rattle.reverse_blocks.specs.Joins.{zAt, Counts, Countable, ownRows, downSizes}
 
 -- the same by what is equal
 pub by-same : {A B : Type 0} (f : A → B) {x y : A} {r : B} → r ≡ f x → x ≡ y → r ≡ f y
@@ -136,3 +140,27 @@ rows-order false p ok ws os k count room st = rows-down p ok ws os k count room 
 pub length-own : (standard : Bool) (p : Pattern) → RightPattern p → length (ownRows standard p) ≡ blockRows p
 length-own true p ok = standard-rows-count p ok 0
 length-own false p ok = original-rows-count p ok 0 0
+
+-- the blocks' rows by the offsets of the cliques
+map-down : (f g : ℕ → ℕ) (k : ℕ) → ((c : ℕ) → c < k → f c ≡ g c) → map f (reverse (below k)) ≡ map g (reverse (below k))
+map-down f g zero h = refl
+map-down f g (suc k) h =
+    ap (map f) (reverse-below k) ∙ ap₂ {C = List ℕ} (λ n ns. n ∷ ns) (h k (omega arith)) (map-down f g k (λ c l. h c (omega arith))) ∙ ap (map g) (sym (reverse-below k))
+
+pub starts-order : (standard : Bool) (p : Pattern) → RightPattern p → (ws os : List ℕ) (k : ℕ) → cliqueCount p ≡ k → k ≤ length os → StandAt ws (p .cliques) os
+    → (entries : List ℕ) (entry first : ℕ) → Starts standard entries entry first (downSizes p)
+    → Starts standard entries entry first (map (λ o. length (rowsHere 0 ws (p .ordering) o)) (inOrder standard (take k os)))
+starts-order true p ok ws os k count room st entries entry first h = tt
+starts-order false p ok ws os k count room st entries entry first h = subst (Starts false entries entry first) (sym same) h
+  where
+    f : ℕ → ℕ
+    f o = length (rowsHere 0 ws (p .ordering) o)
+
+    size : (c : ℕ) → c < cliqueCount p → f (getD os c 0) ≡ triangle (blockSize (cliqueAt p c))
+    size c l = ap length (rows-block p ok ws os st 0 c l) ∙ length-map (block p c) (pairRow 0) ∙ block-length p ok c l
+
+    same : map f (reverse (take k os)) ≡ downSizes p
+    same =
+        ap (λ (l : List ℕ). map f (reverse l)) (sym (part-at 0 os 0 k (omega arith))) ∙ ap (map f) (reverse-map (λ c. getD os c 0) (below k))
+        ∙ map-map f (λ c. getD os c 0) (reverse (below k)) ∙ map-down (λ c. f (getD os c 0)) (λ c. triangle (blockSize (cliqueAt p c))) k (λ c l. size c (omega arith))
+        ∙ ap (λ (n : ℕ). map (λ c. triangle (blockSize (cliqueAt p c))) (reverse (below n))) (sym count)

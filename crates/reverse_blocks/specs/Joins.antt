@@ -3,11 +3,12 @@
 use Prim.Native.Nat.{ℕ, _+_, _≤_, _<_}
 use mathlib.Core.Path.{_≡_}
 use mathlib.Core.Bool.{Bool, true, false}
-use mathlib.Core.List.{List, map}
+use mathlib.Core.List.{List, map, reverse}
 use lib.ListN.{length, getD}
 use lib.Ieee.{Float}
-use Rattle.layout.specs.Lists.{walk}
-use Rattle.layout.specs.Patterns.{Pattern}
+use Rattle.layout.specs.Lists.{walk, below}
+use Rattle.layout.specs.Triangle.{triangle}
+use Rattle.layout.specs.Patterns.{Pattern, cliqueAt, cliqueCount, blockSize}
 use Rattle.layout.specs.Blocks.{pairs, pairRow, originalRow, patternRows}
 use Rattle.layout.specs.Reverse.{addAt, putAt, columnCount}
 use Rattle.blocks.specs.Columns.{columnPairs}
@@ -45,3 +46,7 @@ blockRowsOf vs = map (pairRow 0) (pairs vs)
 abbrev pub ownRows : Bool → Pattern → List ℕ
 ownRows true p = standardPatternRows p 0
 ownRows false p = map originalRow (patternRows p 0 0)
+
+-- how many rows each block has, in the compact route's order
+abbrev pub downSizes : Pattern → List ℕ
+downSizes p = map (λ c. triangle (blockSize (cliqueAt p c))) (reverse (below (cliqueCount p)))

@@ -1,7 +1,7 @@
 // The blocks of a pattern joined over its cone's rows, straight from their columns: s adds, z adds on the standard route
 // and keeps the last on the compact one.
 ghost use mathlib.Core.Path.{_≡_};
-ghost use mathlib.Core.List.{[], _∷_};
+ghost use mathlib.Core.List.{[], _∷_, map as mapped};
 ghost use Prim.Native.Nat.{suc, _+_, _≤_, _<_};
 ghost use lib.ListN.{length, getD, drop};
 ghost use lib.Dec.{T};
@@ -13,8 +13,9 @@ ghost use Rattle.layout.specs.Reverse.{addColumns};
 ghost use Rattle.supernode_tree.specs.Reads.{patternAt};
 ghost use Rattle.blocks.specs.Columns.{ColumnsFit};
 ghost use Rattle.blocks.specs.Cliques.{Standing, rowsHere};
-ghost use Rattle.reverse_standard.specs.Routes.{inOrder};
-ghost use Rattle.reverse_blocks.specs.Joins.{joinZ, Counts, Countable, columnRows, blockRowsOf, ownRows};
+ghost use Rattle.reverse_standard.specs.Routes.{inOrder, Starts};
+ghost use Rattle.reverse_blocks.specs.Joins.{joinZ, Counts, Countable, columnRows, blockRowsOf, ownRows, downSizes};
+use reverse_standard::block_start;
 use reverse_standard::offset_at;
 use reverse_standard::z_value;
 use supernode_tree::Pattern;
@@ -106,13 +107,15 @@ fn join_block(
 
 // ---- a pattern
 
-// The blocks of the cliques at some offsets, in the order of the route, whose values begin at `first`; where they end. Each clique's vertices are
-// written to a buffer first.
+// The blocks of the cliques at some offsets, in the order of the route, whose values begin at `first`; where they end. The compact route reads where each
+// begins in the map, from entry `entry` on. Each clique's vertices are written to a buffer first.
 fn join_cliques(
     standard: bool,
     words: &[u32],
     ordering: &[u32],
     offsets: &[usize],
+    map: &[u32],
+    entry: usize,
     first: usize,
     s: &[f64],
     z: &[f64],
@@ -126,6 +129,7 @@ fn join_cliques(
     requires { ⌜ (length (now «z_out») ≡ length (now «s_out»)) × (length (now «s_out») ≤ 65536) ⌝ }
     requires { ⌜ Countable standard (length (now «s_out»)) (length (join (rowsHere 0 (now words) (now ordering)) (inOrder standard (now offsets)))) (now counts) ⌝ }
     requires { ⌜ 256 ≤ length (now vertices) ⌝ }
+    requires { ⌜ Starts standard (now map) entry first (mapped (λ o. length (rowsHere 0 (now words) (now ordering) o)) (inOrder standard (now offsets))) × (entry + length (now offsets) < 18446744073709551616) ⌝ }
     ensures { λ r. ⌜ r ≡ first + length (join (rowsHere 0 (now (words .entry)) (now (ordering .entry))) (inOrder standard (now (offsets .entry)))) ⌝ }
     ensures { λ _. ⌜ now («s_out» .exit) ≡ addColumns (join (rowsHere 0 (now (words .entry)) (now (ordering .entry))) (inOrder standard (now (offsets .entry)))) (drop first (now (s .entry))) (now («s_out» .entry)) ⌝ }
     ensures { λ _. ⌜ now («z_out» .exit) ≡ joinZ standard (join (rowsHere 0 (now (words .entry)) (now (ordering .entry))) (inOrder standard (now (offsets .entry)))) (drop first (now (z .entry))) (now («z_out» .entry)) ⌝ }
@@ -134,12 +138,13 @@ fn join_cliques(
     let mut t = first;
     let mut i = 0;
     while i < offsets.len() {
+        let start = block_start(standard, t, map, entry + i);
         let at = offset_at(standard, offsets, i);
         let k = blocks::clique_vertices(words, ordering, at, &mut *vertices);
         t = join_block(
             standard,
             &vertices[..k],
-            t,
+            start,
             s,
             z,
             &mut *s_out,
@@ -151,11 +156,14 @@ fn join_cliques(
     t
 }
 
-// The blocks of the pattern at an offset, whose values begin at `first`; where they end. The caller lends the buffers, since to clear them costs more than a small pattern.
+// The blocks of the pattern at an offset, whose values begin at `first` and whose map entries at `entry`; where they end. The caller lends the buffers,
+// since to clear them costs more than a small pattern.
 pub fn join_pattern(
     standard: bool,
     words: &[u32],
     at: usize,
+    map: &[u32],
+    entry: usize,
     first: usize,
     s: &[f64],
     z: &[f64],
@@ -170,6 +178,7 @@ pub fn join_pattern(
     requires { ⌜ (first + blockRows (patternAt (now words) at) ≤ length (now s)) × (length (now z) ≡ length (now s)) ⌝ }
     requires { ⌜ Countable standard (length (now «s_out»)) (blockRows (patternAt (now words) at)) (now counts) ⌝ }
     requires { ⌜ (256 ≤ length (now offsets)) × (256 ≤ length (now vertices)) ⌝ }
+    requires { ⌜ Starts standard (now map) entry first (downSizes (patternAt (now words) at)) × (entry ≤ 262144) ⌝ }
     ensures { λ r. ⌜ r ≡ first + blockRows (patternAt (now (words .entry)) at) ⌝ }
     ensures { λ _. ⌜ now («s_out» .exit) ≡ addColumns (ownRows standard (patternAt (now (words .entry)) at)) (drop first (now (s .entry))) (now («s_out» .entry)) ⌝ }
     ensures { λ _. ⌜ now («z_out» .exit) ≡ joinZ standard (ownRows standard (patternAt (now (words .entry)) at)) (drop first (now (z .entry))) (now («z_out» .entry)) ⌝ }
@@ -185,6 +194,8 @@ pub fn join_pattern(
         words,
         &words[a..e],
         &offsets[..k],
+        map,
+        entry,
         first,
         s,
         z,

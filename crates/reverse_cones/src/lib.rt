@@ -8,6 +8,8 @@ ghost use Rattle.layout.specs.Triangle.{triangle};
 ghost use Rattle.layout.specs.Blocks.{blockRows};
 ghost use Rattle.layout.specs.Checks.{RightPattern};
 ghost use Rattle.supernode_tree.specs.Reads.{patternAt};
+ghost use Rattle.reverse_standard.specs.Routes.{Starts};
+ghost use Rattle.reverse_blocks.specs.Joins.{downSizes};
 ghost use Rattle.reverse_cones.specs.Parts.{wholeValues, zAveragedBy, sCut, zCut, writtenAt, CountsRows, Cleared, ClearsRows};
 use supernode_tree::Pattern;
 
@@ -58,11 +60,13 @@ fn average(standard: bool, z: &mut [f64], counts: &mut [u32])
     }
 }
 
-// s and z on the rows of the cone, whose blocks' values begin at t; where they end. No count is above 0 before and after.
+// s and z on the rows of the cone, whose blocks' values begin at t and whose map entries at `entry`; where they end. No count is above 0 before and after.
 fn join_rows(
     standard: bool,
     words: &[u32],
     at: usize,
+    map: &[u32],
+    entry: usize,
     t: usize,
     s: &[f64],
     z: &[f64],
@@ -77,6 +81,7 @@ fn join_rows(
     requires { ⌜ (blockRows (patternAt (now words) at) ≤ 262144) × (t + blockRows (patternAt (now words) at) ≤ length (now s)) × (length (now z) ≡ length (now s)) ⌝ }
     requires { ⌜ CountsRows standard (length (now «s_out»)) (now counts) × Cleared standard (now counts) ⌝ }
     requires { ⌜ (256 ≤ length (now offsets)) × (256 ≤ length (now vertices)) ⌝ }
+    requires { ⌜ Starts standard (now map) entry t (downSizes (patternAt (now words) at)) × (entry ≤ 262144) ⌝ }
     ensures { λ r. ⌜ r ≡ t + blockRows (patternAt (now (words .entry)) at) ⌝ }
     ensures { λ _. ⌜ now («s_out» .exit) ≡ sCut standard (patternAt (now (words .entry)) at) (drop t (now (s .entry))) ⌝ }
     ensures { λ _. ⌜ now («z_out» .exit) ≡ zCut standard (patternAt (now (words .entry)) at) (drop t (now (z .entry))) ⌝ }
@@ -89,6 +94,8 @@ fn join_rows(
         standard,
         words,
         at,
+        map,
+        entry,
         t,
         s,
         z,
@@ -109,6 +116,8 @@ pub fn join_cut(
     at: usize,
     n: usize,
     row: usize,
+    map: &[u32],
+    entry: usize,
     t: usize,
     s: &[f64],
     z: &[f64],
@@ -123,6 +132,7 @@ pub fn join_cut(
     requires { ⌜ (blockRows (patternAt (now words) at) ≤ 262144) × (t + blockRows (patternAt (now words) at) ≤ length (now s)) × (length (now z) ≡ length (now s)) ⌝ }
     requires { ⌜ CountsRows standard n (now counts) × Cleared standard (now counts) ⌝ }
     requires { ⌜ (256 ≤ length (now offsets)) × (256 ≤ length (now vertices)) ⌝ }
+    requires { ⌜ Starts standard (now map) entry t (downSizes (patternAt (now words) at)) × (entry ≤ 262144) ⌝ }
     ensures { λ r. ⌜ r ≡ t + blockRows (patternAt (now (words .entry)) at) ⌝ }
     ensures { λ _. ⌜ now («s_out» .exit) ≡ writtenAt row (sCut standard (patternAt (now (words .entry)) at) (drop t (now (s .entry)))) (now («s_out» .entry)) ⌝ }
     ensures { λ _. ⌜ now («z_out» .exit) ≡ writtenAt row (zCut standard (patternAt (now (words .entry)) at) (drop t (now (z .entry)))) (now («z_out» .entry)) ⌝ }
@@ -133,6 +143,8 @@ pub fn join_cut(
         standard,
         words,
         at,
+        map,
+        entry,
         t,
         s,
         z,

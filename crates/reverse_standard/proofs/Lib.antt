@@ -1,2 +1,3 @@
 pub mod Laws
 pub mod Routes
+pub mod Starts

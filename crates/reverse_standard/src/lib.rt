@@ -1,5 +1,6 @@
-// What the two routes of a joining do differently. The standard one sums every row from +0.0, walks the cliques from first to last, adds z and
-// averages it where blocks overlap. The compact one walks from last to first and keeps the last z. `standard` says which it is.
+// What the two routes of a joining do differently. The standard one sums every row from +0.0, walks the cliques from first to last, counts where each
+// block's values begin, adds z and averages it where blocks overlap. The compact one walks from last to first, reads in the cone map where they begin and
+// keeps the last z. `standard` says which it is.
 ghost use mathlib.Core.Path.{_≡_};
 ghost use mathlib.Core.List.{map};
 ghost use Prim.Native.Nat.{_≤_, _<_};
@@ -8,7 +9,12 @@ ghost use lib.Ieee.{add, binary64};
 ghost use Rattle.layout.specs.Lists.{below};
 ghost use Rattle.layout.specs.Problem.{zero64, one64};
 ghost use Rattle.reverse_standard.specs.Averages.{averagedBy, shared, Clears};
-ghost use Rattle.reverse_standard.specs.Routes.{zValue, inOrder};
+ghost use Rattle.reverse_standard.specs.Routes.{zValue, inOrder, startOf, HasEntry};
+
+// The words of an entry of the cone map, and which of them is its first augmented row.
+const ENTRY_WORDS: usize = 5;
+
+const FIRST_ROW: usize = 3;
 
 // The two scalars of a solution.
 pub struct Scalars {
@@ -60,6 +66,17 @@ pub fn offset_at(standard: bool, offsets: &[usize], i: usize) -> usize
         k = i;
     }
     offsets[k]
+}
+
+// Where the values of the route's next block begin: counted on the standard route, read in its entry of the cone map on the compact one.
+pub fn block_start(standard: bool, counted: usize, map: &[u32], entry: usize) -> usize
+    requires { ⌜ HasEntry standard (now map) entry ⌝ }
+    ensures { λ r. ⌜ r ≡ startOf standard counted (now (map .entry)) entry ⌝ }
+{
+    if standard {
+        return counted;
+    }
+    map[entry * ENTRY_WORDS + FIRST_ROW] as usize
 }
 
 // z on a row where count columns stand. The quotient is computed before the test, so that the compiler can select

@@ -306,7 +306,7 @@ pub fn members_by(
 // ---- block sizes
 
 // Of k ≤ 256, so that no product is too large.
-fn triangular_number(k: usize) -> u64
+pub fn triangular_number(k: usize) -> u64
     requires { ⌜ k ≤ 256 ⌝ }
     ensures { λ r. ⌜ r ≡ triangle k ⌝ }
 {

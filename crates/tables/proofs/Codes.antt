@@ -9,7 +9,7 @@ use lib.Seq.{length-take-le}
 use Rattle.layout.specs.Lists.{upFrom, written}
 use Rattle.layout.specs.Cones.{Cone, rowCount}
 use Rattle.layout.specs.Patterns.{Pattern}
-use Rattle.layout.specs.Blocks.{Part, cut, patternRows}
+use Rattle.layout.specs.Blocks.{Part, cut, patternRows, partRows}
 use Rattle.layout.specs.Compact.{coneWords, wholeCone, entryWords, compactPart, mapPart, mapWords}
 use Rattle.layout.specs.Standard.{standardPart}
 use Rattle.codes.specs.Codes.{cutCode}
@@ -32,8 +32,8 @@ renamed codes xs e r old new n w = (n ∙ sym (ap length e), w ∙ ap (λ (ys : 
 abbrev tag : Table → ℕ
 tag table = tagOf the-type table
 
-module _ (i : ℕ) (c : Cone) (row : ℕ) where
-  pub whole-rows : (table : Table) → (tag table ≡ 0) ⊎ (tag table ≡ 1) → wholeCodes table i c row ≡ upFrom row (rowCount c)
+module _ (first i : ℕ) (c : Cone) (row : ℕ) where
+  pub whole-rows : (table : Table) → (tag table ≡ 0) ⊎ (tag table ≡ 1) → wholeCodes table first i c row ≡ upFrom row (rowCount c)
   unfolding wholeCodes
   whole-rows HRows h = refl
   whole-rows CutRows h = refl
@@ -44,7 +44,7 @@ module _ (i : ℕ) (c : Cone) (row : ℕ) where
   whole-rows ConeMap (inl e) = absurd (omega (arith, e))
   whole-rows ConeMap (inr e) = absurd (omega (arith, e))
 
-  pub whole-words : (table : Table) → (tag table ≡ 2) ⊎ (tag table ≡ 3) → wholeCodes table i c row ≡ coneWords c
+  pub whole-words : (table : Table) → (tag table ≡ 2) ⊎ (tag table ≡ 3) → wholeCodes table first i c row ≡ coneWords c
   unfolding wholeCodes
   whole-words HRows (inl e) = absurd (omega (arith, e))
   whole-words HRows (inr e) = absurd (omega (arith, e))
@@ -55,67 +55,68 @@ module _ (i : ℕ) (c : Cone) (row : ℕ) where
   whole-words ConeMap (inl e) = absurd (omega (arith, e))
   whole-words ConeMap (inr e) = absurd (omega (arith, e))
 
-  pub whole-map : (table : Table) → table ≡ ConeMap → wholeCodes table i c row ≡ entryWords (wholeCone i)
+  pub whole-map : (table : Table) → table ≡ ConeMap → wholeCodes table first i c row ≡ entryWords (wholeCone i first (rowCount c))
   unfolding wholeCodes
-  whole-map table e = ap (λ (t : Table). wholeCodes t i c row) e
+  whole-map table e = ap (λ (t : Table). wholeCodes t first i c row) e
 
-module _ (table : Table) (t i row k : ℕ) (p : Pattern) where
-  pub cut-h : table ≡ HRows → cutCodes table t i row k p ≡ standardPatternRows p row
+module _ (table : Table) (first i row k : ℕ) (p : Pattern) where
+  pub cut-h : table ≡ HRows → cutCodes table first i row k p ≡ standardPatternRows p row
   unfolding cutCodes
-  cut-h e = ap (λ (x : Table). cutCodes x t i row k p) e
+  cut-h e = ap (λ (x : Table). cutCodes x first i row k p) e
 
-  pub cut-cut : table ≡ CutRows → cutCodes table t i row k p ≡ map cutCode (patternRows p row t)
+  pub cut-cut : table ≡ CutRows → cutCodes table first i row k p ≡ map cutCode (patternRows p row first)
   unfolding cutCodes
-  cut-cut e = ap (λ (x : Table). cutCodes x t i row k p) e
+  cut-cut e = ap (λ (x : Table). cutCodes x first i row k p) e
 
-  pub cut-standard : table ≡ StandardCones → cutCodes table t i row k p ≡ standardPart (cut i row k p)
+  pub cut-standard : table ≡ StandardCones → cutCodes table first i row k p ≡ standardPart (cut i row k p)
   unfolding cutCodes
-  cut-standard e = ap (λ (x : Table). cutCodes x t i row k p) e
+  cut-standard e = ap (λ (x : Table). cutCodes x first i row k p) e
 
-  pub cut-compact : table ≡ CompactCones → cutCodes table t i row k p ≡ compactPart (cut i row k p)
+  pub cut-compact : table ≡ CompactCones → cutCodes table first i row k p ≡ compactPart (cut i row k p)
   unfolding cutCodes
-  cut-compact e = ap (λ (x : Table). cutCodes x t i row k p) e
+  cut-compact e = ap (λ (x : Table). cutCodes x first i row k p) e
 
-  pub cut-map : table ≡ ConeMap → cutCodes table t i row k p ≡ mapWords (mapPart (cut i row k p))
+  pub cut-map : table ≡ ConeMap → cutCodes table first i row k p ≡ mapWords (mapPart first (cut i row k p))
   unfolding cutCodes
-  cut-map e = ap (λ (x : Table). cutCodes x t i row k p) e
+  cut-map e = ap (λ (x : Table). cutCodes x first i row k p) e
 
 -- ---- one part more of a table
 
-pub codes-part : (table : Table) (t : ℕ) (x : Part) (ps : List Part)
-    → codesFrom table t (x ∷ ps) ≡ partCodes table t x ++ codesFrom table (t + length (partCodes table t x)) ps
+pub codes-part : (table : Table) (first : ℕ) (x : Part) (ps : List Part)
+    → codesFrom table first (x ∷ ps) ≡ partCodes table first x ++ codesFrom table (first + partRows x) ps
 unfolding codesFrom
-codes-part table t x ps = refl
+codes-part table first x ps = refl
 
-pub codes-none : (table : Table) (t : ℕ) → codesFrom table t [] ≡ []
+pub codes-none : (table : Table) (first : ℕ) → codesFrom table first [] ≡ []
 unfolding codesFrom
-codes-none table t = refl
+codes-none table first = refl
 
-module _ (table : Table) (full : List ℕ) (t : ℕ) (h : t ≤ length full) (x : Part) (before later : List Part)
-    (left : drop t full ≡ codesFrom table t before) (e : before ≡ x ∷ later) where
+module _ (table : Table) (full : List ℕ) (t first : ℕ) (h : t ≤ length full) (x : Part) (before later : List Part)
+    (left : drop t full ≡ codesFrom table first before) (e : before ≡ x ∷ later) where
   -- what is left of the table, after the part, and that the part is in it
-  pub part-fits : (take (t + length (partCodes table t x)) full ≡ take t full ++ partCodes table t x)
-      × (drop (t + length (partCodes table t x)) full ≡ codesFrom table (t + length (partCodes table t x)) later)
-      × (t + length (partCodes table t x) ≤ length full)
+  pub part-fits : (take (t + length (partCodes table first x)) full ≡ take t full ++ partCodes table first x)
+      × (drop (t + length (partCodes table first x)) full ≡ codesFrom table (first + partRows x) later)
+      × (t + length (partCodes table first x) ≤ length full)
   part-fits =
-      part-done full (partCodes table t x) (codesFrom table (t + length (partCodes table t x)) later) t h
-      (left ∙ ap (codesFrom table t) e ∙ codes-part table t x later)
+      part-done full (partCodes table first x) (codesFrom table (first + partRows x) later) t h
+      (left ∙ ap (codesFrom table first) e ∙ codes-part table first x later)
 
   -- a callee wrote the part to the buffer from t on, which was lent
   module _ (old out new : List ℕ) (room : length full ≤ length old) (same : length out ≡ length old) (done : out ≡ written (take t full) old)
-      (r : ℕ) (n : r ≡ length (partCodes table t x)) (w : new ≡ written (partCodes table t x) (take (length out - t) (drop t out))) where
+      (r : ℕ) (n : r ≡ length (partCodes table first x)) (w : new ≡ written (partCodes table first x) (take (length out - t) (drop t out)))
+      (rows : ℕ) (counted : rows ≡ partRows x) where
     pub wrote-part : let next = take t out ++ (new ++ drop (length out - t) (drop t out)) in
         (t + r ≤ length full) × (length next ≡ length old) × (next ≡ written (take (t + r) full) old)
-        × (drop (t + r) full ≡ codesFrom table (t + r) later)
+        × (drop (t + r) full ≡ codesFrom table (first + rows) later)
     wrote-part =
         let k : ℕ = t + r in
-        let q : t + length (partCodes table t x) ≡ k = omega arith in
+        let q : t + length (partCodes table first x) ≡ k = omega arith in
         let put : take t out ++ (new ++ drop (length out - t) (drop t out)) ≡ written (take k full) old =
-        written-next (take t full) (partCodes table t x) old out new t (length out - t) (sym (length-take-le t full h)) done
+        written-next (take t full) (partCodes table first x) old out new t (length out - t) (sym (length-take-le t full h)) done
         (omega (arith, part-fits .2)) (omega (arith, part-fits .2)) w
         ∙ ap (λ (ys : List ℕ). written ys old) (sym (part-fits .0) ∙ ap (λ (j : ℕ). take j full) q) in (
           omega (arith, part-fits .2),
           ap length put ∙ length-written (take k full) old (omega (arith, part-fits .2, length-take-le k full (omega (arith, part-fits .2)))),
           put,
-          ap (λ (j : ℕ). drop j full) (sym q) ∙ part-fits .1 ∙ ap (λ (j : ℕ). codesFrom table j later) q,
+          ap (λ (j : ℕ). drop j full) (sym q) ∙ part-fits .1 ∙ ap (λ (j : ℕ). codesFrom table (first + j) later) (sym counted),
         )

@@ -1,18 +1,23 @@
 -- The cones and map entries of a cut cone, and how many words they are.
-use Prim.Native.Nat.{ℕ, _*_}
+use Prim.Native.Nat.{ℕ, zero, suc, _+_, _*_}
 use native.Mathlib.Omega.{arith}
-use mathlib.Core.Path.{_≡_, refl, ap, _∙_}
-use mathlib.Core.List.{List, map, reverse}
-use lib.ListN.{length, length-reverse}
-use Rattle.layout.specs.Lists.{below, join}
-use Rattle.layout.specs.Patterns.{Pattern, noClique, blockSize, cliqueAt, cliqueCount}
+use mathlib.Core.Path.{_≡_, refl, sym, ap, ap₂, _∙_}
+use mathlib.Core.List.{List, [], _∷_, _++_, map, map-append, reverse, reverse-cons}
+use lib.ListN.{length, drop, length-append, length-reverse, drop-of-length-le}
+use lib.Seq.{drop-cons}
+use Rattle.layout.specs.Lists.{below, join, sum, upFrom}
+use Rattle.layout.specs.Patterns.{Pattern, Clique, noClique, blockSize, cliqueAt, cliqueCount}
 use Rattle.layout.specs.Blocks.{cut}
-use Rattle.layout.specs.Compact.{psdWords, blockOf, entryWords, compactPart, mapPart, mapWords}
+use Rattle.layout.specs.Compact.{MapEntry, blockOf, entryWords, psdWords, blockEntry, compactPart, mapPart, mapWords}
 use Rattle.layout.specs.Standard.{standardPart}
 use Rattle.layout.proofs.Members.{length-below}
 use Rattle.layout.proofs.Joins.{map-drop}
+use Rattle.layout.proofs.Starts.{join-append}
+use Rattle.layout.proofs.Sizes.{map-part, entries-length}
+use Rattle.supernode_tree.specs.Sizes.{dimOf}
+use Rattle.tables.specs.Tables.{entriesDown}
 use Rattle.blocks.proofs.Offsets.{reverse-map, join-map}
-use Rattle.tables.proofs.Laws.{threes, entryOf}
+use Rattle.tables.proofs.Laws.{threes}
 
 module _ (p : Pattern) where
   abbrev sizeAt : ℕ → ℕ
@@ -40,7 +45,31 @@ module _ (p : Pattern) where
   pub compact-words : (i row k : ℕ) → length (compactPart (cut i row k p)) ≡ cliqueCount p * 3
   compact-words i row k = threes (λ c. psdWords (sizeAt c)) (λ c. refl) (reverse (below (cliqueCount p))) ∙ downs
 
-  pub map-words : (i row k : ℕ) → length (mapWords (mapPart (cut i row k p))) ≡ cliqueCount p * 3
-  map-words i row k =
-      ap length (join-map entryWords (blockOf i k) (reverse (below (cliqueCount p))))
-      ∙ threes (entryOf i k) (λ c. refl) (reverse (below (cliqueCount p))) ∙ downs
+  pub map-words : (first i row k : ℕ) → length (mapWords (mapPart first (cut i row k p))) ≡ cliqueCount p * 5
+  map-words first i row k = omega (arith, entries-length (mapPart first (cut i row k p)), map-part first (cut i row k p))
+
+  -- the map entries of the cliques from number c on, from the last to the first
+  down-from : (i k first c n : ℕ) → c + n ≡ cliqueCount p → map (blockEntry i k p first) (reverse (upFrom c n)) ≡ entriesDown i k c first (drop c (p .cliques))
+  down-from i k first c zero e = sym (ap (entriesDown i k c first) (drop-of-length-le (p .cliques) {i = c} (omega arith)))
+  down-from i k first c (suc n) e =
+      ap (map (blockEntry i k p first)) (reverse-cons c (upFrom (suc c) n))
+      ∙ map-append (blockEntry i k p first) (reverse (upFrom (suc c) n)) (c ∷ [])
+      ∙ ap (λ (es : List MapEntry). es ++ (blockEntry i k p first c ∷ [])) (down-from i k first (suc c) n (omega arith))
+      ∙ sym (ap (entriesDown i k c first) (drop-cons (p .cliques) c noClique (omega arith)))
+
+  pub entries-down : (i row k first : ℕ) → mapPart first (cut i row k p) ≡ entriesDown i k 0 first (p .cliques)
+  entries-down i row k first = down-from i k first 0 (cliqueCount p) (omega arith)
+
+-- as many as there are cliques
+pub down-length : (i k c first : ℕ) (cs : List Clique) → length (entriesDown i k c first cs) ≡ length cs
+down-length i k c first [] = refl
+down-length i k c first (q ∷ cs) =
+    omega (arith, length-append (entriesDown i k (suc c) first cs) (blockOf i k c (first + sum (map dimOf cs)) (dimOf q) ∷ []), down-length i k (suc c) first cs)
+
+-- their words, and those of one clique more
+abbrev pub downWords : ℕ → ℕ → ℕ → ℕ → List Clique → List ℕ
+downWords i k c first cs = mapWords (entriesDown i k c first cs)
+
+pub down-more : (i k c first : ℕ) (q : Clique) (cs : List Clique)
+    → downWords i k c first (q ∷ cs) ≡ downWords i k (suc c) first cs ++ (i ∷ k ∷ c ∷ (first + sum (map dimOf cs)) ∷ dimOf q ∷ [])
+down-more i k c first q cs = join-append entryWords (entriesDown i k (suc c) first cs) (blockOf i k c (first + sum (map dimOf cs)) (dimOf q) ∷ [])

@@ -1,4 +1,4 @@
--- Lists written in order: one more number, three more words; and lists of three words joined.
+-- Lists written in order: one more number, three more words, the five of a map entry; and lists of as many words joined.
 use Prim.Native.Nat.{ℕ, zero, suc, _+_, _*_, _≤_, _<_}
 use native.Mathlib.Numerals.{add-one}
 use native.Mathlib.Omega.{arith}
@@ -9,7 +9,7 @@ use lib.Seq.{take-add, take-at, drop-at, drop-drop, length-take-le}
 use Rattle.layout.specs.Lists.{join, upFrom, written}
 use Rattle.layout.specs.Cones.{Cone, records}
 use Rattle.layout.specs.Checks.{noCone}
-use Rattle.layout.specs.Compact.{coneWords, blockOf, entryWords}
+use Rattle.layout.specs.Compact.{coneWords}
 use Rattle.layout.proofs.Members.{length-upFrom}
 use Rattle.layout.proofs.Joins.{upFrom-last}
 use Rattle.layout.proofs.Records.{record-at}
@@ -68,6 +68,41 @@ module _ {A : Type 0} (o : List A) (t : ℕ) (u v w : A) (h : t + 3 ≤ length o
         ap (λ (l : List A). rest ++ drop t l) e ∙ ap (λ (l : List A). rest ++ l) stored-from
         ∙ sym (append-assoc rest (u ∷ v ∷ w ∷ []) (drop (t + 3) o)) ∙ f
 
+-- five more
+pub five-more : {A : Type 0} (xs old : List A) (u v w x y : A) (t : ℕ) → t ≡ length xs → t + 4 < length old
+    → set (set (set (set (set (written xs old) t u) (t + 1) v) (t + 2) w) (t + 3) x) (t + 4) y ≡ written (xs ++ (u ∷ v ∷ w ∷ x ∷ y ∷ [])) old
+five-more {A} xs old u v w x y t e h =
+    let front = xs ++ (u ∷ v ∷ w ∷ []) in
+    ap (λ (l : List A). set (set l (t + 3) x) (t + 4) y) (three-more xs old u v w t e (omega arith))
+    ∙ ap (λ (l : List A). set l (t + 4) y) (set-written front old x (t + 3) (omega (arith, length-append xs (u ∷ v ∷ w ∷ []))) (omega arith))
+    ∙ set-written (front ++ (x ∷ [])) old y (t + 4) (omega (arith, length-append xs (u ∷ v ∷ w ∷ []), length-append front (x ∷ []))) h
+    ∙ ap (λ (l : List A). written l old) (ap (λ (l : List A). l ++ (y ∷ [])) (append-assoc xs (u ∷ v ∷ w ∷ []) (x ∷ [])) ∙ append-assoc xs (u ∷ v ∷ w ∷ x ∷ []) (y ∷ []))
+
+-- five stored at t, of a list that is written from its last element on, of which rest is left
+pub entry-more : {A : Type 0} (o : List A) (t : ℕ) (u v w x y : A) → t + 5 ≤ length o → (new rest total : List A)
+    → new ≡ set (set (set (set (set o t u) (t + 1) v) (t + 2) w) (t + 3) x) (t + 4) y
+    → (rest ++ (u ∷ v ∷ w ∷ x ∷ y ∷ [])) ++ drop (t + 5) o ≡ total → rest ++ drop t new ≡ total
+entry-more {A} o t u v w x y h new rest total e f =
+    ap (λ (l : List A). rest ++ drop t l) (e ∙ stored-at)
+    ∙ ap (λ (l : List A). rest ++ l) (drop-at (take t o) (five ++ drop (t + 5) o) t size)
+    ∙ sym (append-assoc rest five (drop (t + 5) o)) ∙ f
+  where
+    five : List A
+    five = u ∷ v ∷ w ∷ x ∷ y ∷ []
+
+    size : length (take t o) ≡ t
+    size = length-take-le t o (omega arith)
+
+    after : length (take t o ++ five) ≡ t + 5
+    after = omega (arith, length-append (take t o) five, size)
+
+    stored-at : set (set (set (set (set o t u) (t + 1) v) (t + 2) w) (t + 3) x) (t + 4) y ≡ take t o ++ (five ++ drop (t + 5) o)
+    stored-at =
+        ap (λ (l : List A). set (set (set (set (set l t u) (t + 1) v) (t + 2) w) (t + 3) x) (t + 4) y) (sym (take-append-drop t o) ∙ ap (λ (n : ℕ). take t o ++ drop n o) (sym size))
+        ∙ five-more (take t o) o u v w x y t (sym size) (omega arith)
+        ∙ ap (λ (n : ℕ). (take t o ++ five) ++ drop n o) after
+        ∙ append-assoc (take t o) five (drop (t + 5) o)
+
 -- all of it is written
 pub up-done : {A : Type 0} (out old full : List A) (t : ℕ) → t ≤ length out → take t out ++ [] ≡ full → drop t out ≡ drop t old → out ≡ written full old
 up-done {A} out old full t h e g =
@@ -98,10 +133,6 @@ module _ {A B : Type 0} where
   pub threes : (f : A → List B) → ((x : A) → length (f x) ≡ 3) → (xs : List A) → length (join f xs) ≡ length xs * 3
   threes f h [] = refl
   threes f h (x ∷ xs) = omega (arith, length-append (f x) (join f xs), h x, threes f h xs)
-
--- the words of a pattern's entry of the cone map
-abbrev pub entryOf : ℕ → ℕ → ℕ → List ℕ
-entryOf i k c = entryWords (blockOf i k c)
 
 -- ---- a list written part by part
 

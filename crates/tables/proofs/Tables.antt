@@ -5,67 +5,61 @@ use mathlib.Core.Path.{_≡_, refl, sym, ap, ap₂, _∙_}
 use mathlib.Core.List.{List, [], _∷_, _++_, map, map-append}
 use lib.ListN.{length, length-append, length-map}
 use Rattle.layout.specs.Lists.{upFrom, below, join}
-use Rattle.layout.specs.Triangle.{triangle}
 use Rattle.layout.specs.Cones.{rowCount}
-use Rattle.layout.specs.Patterns.{Pattern, cliqueCount}
-use Rattle.layout.specs.Blocks.{Part, whole, cut, kept, block, pairRow, patternRows, rowsFrom, standardRows, blockRows, blockRowCount, partCones, coneCount}
-use Rattle.layout.specs.Checks.{RightPattern, Laid}
-use Rattle.layout.specs.Compact.{entryWords, compactPart, mapPart, coneMap, mapWords}
+use Rattle.layout.specs.Patterns.{cliqueCount}
+use Rattle.layout.specs.Blocks.{Part, whole, cut, kept, block, pairRow, patternRows, rowsFrom, standardRows, blockRows, partRows, partCones, coneCount}
+use Rattle.layout.specs.Checks.{Laid}
+use Rattle.layout.specs.Compact.{compactPart, mapPart, mapFrom, coneMap, mapWords}
 use Rattle.layout.specs.Standard.{standardPart}
-use Rattle.layout.proofs.Members.{length-upFrom}
-use Rattle.layout.proofs.Starts.{join-append}
-use Rattle.layout.proofs.Rows.{rows-count}
 use Rattle.layout.proofs.Laid.{length-rows}
-use Rattle.layout.proofs.Sizes.{standard-count}
+use Rattle.layout.proofs.ConeMap.{words-part}
+use Rattle.layout.proofs.Sizes.{standard-count, map-count, entries-length}
 use Rattle.codes.specs.Codes.{cutCode}
 use Rattle.tables.specs.Tables.{tableOf, tableLength, wholeCodes, cutCodes, partCodes, codesFrom, Few}
-use Rattle.tables.proofs.Cones.{standard-words, compact-words, map-words}
+use Rattle.tables.proofs.Cones.{standard-words, compact-words}
 use Rattle.tables.specs.declared.Table.{Table}
 use Rattle.tables.specs.declared.Table.the-variants.{HRows, CutRows, StandardCones, CompactCones, ConeMap}
 
--- ---- tables that do not depend on what was written before
+-- ---- tables that do not depend on the rows before
 
-fold-by : (table : Table) (f : Part → List ℕ) → ((t : ℕ) (x : Part) → partCodes table t x ≡ f x)
-    → (t : ℕ) (ps : List Part) → codesFrom table t ps ≡ join f ps
+fold-by : (table : Table) (f : Part → List ℕ) → ((first : ℕ) (x : Part) → partCodes table first x ≡ f x)
+    → (first : ℕ) (ps : List Part) → codesFrom table first ps ≡ join f ps
 unfolding codesFrom
-fold-by table f h t [] = refl
-fold-by table f h t (x ∷ ps) = ap₂ _++_ (h t x) (fold-by table f h (t + length (partCodes table t x)) ps)
+fold-by table f h first [] = refl
+fold-by table f h first (x ∷ ps) = ap₂ _++_ (h first x) (fold-by table f h (first + partRows x) ps)
 
-standard-cones : (t : ℕ) (ps : List Part) → codesFrom StandardCones t ps ≡ join standardPart ps
+standard-cones : (first : ℕ) (ps : List Part) → codesFrom StandardCones first ps ≡ join standardPart ps
 unfolding wholeCodes cutCodes
-standard-cones t ps = fold-by StandardCones standardPart part t ps
+standard-cones first ps = fold-by StandardCones standardPart part first ps
   where
-    part : (t : ℕ) (x : Part) → partCodes StandardCones t x ≡ standardPart x
-    part t (whole i c row) = refl
-    part t (cut i row k p) = refl
+    part : (first : ℕ) (x : Part) → partCodes StandardCones first x ≡ standardPart x
+    part first (whole i c row) = refl
+    part first (cut i row k p) = refl
 
-compact-cones : (t : ℕ) (ps : List Part) → codesFrom CompactCones t ps ≡ join compactPart ps
+compact-cones : (first : ℕ) (ps : List Part) → codesFrom CompactCones first ps ≡ join compactPart ps
 unfolding wholeCodes cutCodes
-compact-cones t ps = fold-by CompactCones compactPart part t ps
+compact-cones first ps = fold-by CompactCones compactPart part first ps
   where
-    part : (t : ℕ) (x : Part) → partCodes CompactCones t x ≡ compactPart x
-    part t (whole i c row) = refl
-    part t (cut i row k p) = refl
+    part : (first : ℕ) (x : Part) → partCodes CompactCones first x ≡ compactPart x
+    part first (whole i c row) = refl
+    part first (cut i row k p) = refl
 
-map-joined : (ps : List Part) → mapWords (coneMap ps) ≡ join (λ x. mapWords (mapPart x)) ps
-map-joined [] = refl
-map-joined (x ∷ ps) = join-append entryWords (mapPart x) (coneMap ps) ∙ ap (λ (ws : List ℕ). mapWords (mapPart x) ++ ws) (map-joined ps)
-
-cone-map : (t : ℕ) (ps : List Part) → codesFrom ConeMap t ps ≡ mapWords (coneMap ps)
-unfolding wholeCodes cutCodes
-cone-map t ps = fold-by ConeMap (λ x. mapWords (mapPart x)) part t ps ∙ sym (map-joined ps)
-  where
-    part : (t : ℕ) (x : Part) → partCodes ConeMap t x ≡ mapWords (mapPart x)
-    part t (whole i c row) = refl
-    part t (cut i row k p) = refl
-
-h-rows : (t : ℕ) (ps : List Part) → codesFrom HRows t ps ≡ standardRows ps
+h-rows : (first : ℕ) (ps : List Part) → codesFrom HRows first ps ≡ standardRows ps
 unfolding codesFrom wholeCodes cutCodes
-h-rows t [] = refl
-h-rows t (whole i c row ∷ ps) = ap (λ (xs : List ℕ). upFrom row (rowCount c) ++ xs) (h-rows (t + length (upFrom row (rowCount c))) ps)
-h-rows t (cut i row k p ∷ ps) =
-    let xs = join (λ c. map (pairRow row) (block p c)) (below (cliqueCount p)) in
-    ap (λ (ys : List ℕ). xs ++ ys) (h-rows (t + length xs) ps)
+h-rows first [] = refl
+h-rows first (whole i c row ∷ ps) = ap (λ (xs : List ℕ). upFrom row (rowCount c) ++ xs) (h-rows (first + rowCount c) ps)
+h-rows first (cut i row k p ∷ ps) =
+    ap (λ (ys : List ℕ). join (λ c. map (pairRow row) (block p c)) (below (cliqueCount p)) ++ ys) (h-rows (first + blockRows p) ps)
+
+-- ---- the cone map
+
+cone-map : (first : ℕ) (ps : List Part) → codesFrom ConeMap first ps ≡ mapWords (mapFrom first ps)
+unfolding codesFrom wholeCodes cutCodes
+cone-map first [] = refl
+cone-map first (whole i c row ∷ ps) =
+    ap (λ (ws : List ℕ). mapWords (mapPart first (whole i c row)) ++ ws) (cone-map (first + rowCount c) ps) ∙ sym (words-part first (whole i c row) ps)
+cone-map first (cut i row k p ∷ ps) =
+    ap (λ (ws : List ℕ). mapWords (mapPart first (cut i row k p)) ++ ws) (cone-map (first + blockRows p) ps) ∙ sym (words-part first (cut i row k p) ps)
 
 -- ---- the compact route's rows, coded
 
@@ -73,29 +67,24 @@ kept-up : (row n : ℕ) → map cutCode (map kept (upFrom row n)) ≡ upFrom row
 kept-up row zero = refl
 kept-up row (suc n) = ap (λ (xs : List ℕ). row ∷ xs) (kept-up (suc row) n)
 
-cut-rows : (t row : ℕ) (ps : List Part) → Laid row ps → codesFrom CutRows t ps ≡ map cutCode (rowsFrom t ps)
+cut-rows : (first : ℕ) (ps : List Part) → codesFrom CutRows first ps ≡ map cutCode (rowsFrom first ps)
 unfolding codesFrom wholeCodes cutCodes
-cut-rows t row [] h = refl
-cut-rows t row (whole i c r ∷ ps) h =
-    let R = map kept (upFrom r (rowCount c)) in
-    ap₂ _++_ (sym (kept-up r (rowCount c)))
-    (ap (λ (k : ℕ). codesFrom CutRows (t + k) ps) (length-upFrom r (rowCount c)) ∙ cut-rows (t + rowCount c) (row + rowCount c) ps (h .1))
-    ∙ sym (map-append cutCode R (rowsFrom (t + rowCount c) ps))
-cut-rows t row (cut i r k p ∷ ps) h =
-    let R = patternRows p r t in
-    ap (λ (xs : List ℕ). map cutCode R ++ xs)
-    (ap (λ (k : ℕ). codesFrom CutRows (t + k) ps) (length-map R cutCode ∙ rows-count p (h .1) r t)
-    ∙ cut-rows (t + blockRows p) (row + triangle (p .vertexCount)) ps (h .2))
-    ∙ sym (map-append cutCode R (rowsFrom (t + blockRows p) ps))
+cut-rows first [] = refl
+cut-rows first (whole i c r ∷ ps) =
+    ap₂ _++_ (sym (kept-up r (rowCount c))) (cut-rows (first + rowCount c) ps)
+    ∙ sym (map-append cutCode (map kept (upFrom r (rowCount c))) (rowsFrom (first + rowCount c) ps))
+cut-rows first (cut i r k p ∷ ps) =
+    ap (λ (xs : List ℕ). map cutCode (patternRows p r first) ++ xs) (cut-rows (first + blockRows p) ps)
+    ∙ sym (map-append cutCode (patternRows p r first) (rowsFrom (first + blockRows p) ps))
 
 -- ---- the table from the first part on is the layout's
 
-pub table-is : (table : Table) (ps : List Part) → Laid 0 ps → codesFrom table 0 ps ≡ tableOf table ps
-table-is HRows ps h = h-rows 0 ps
-table-is CutRows ps h = cut-rows 0 0 ps h
-table-is StandardCones ps h = standard-cones 0 ps
-table-is CompactCones ps h = compact-cones 0 ps
-table-is ConeMap ps h = cone-map 0 ps
+pub table-is : (table : Table) (ps : List Part) → codesFrom table 0 ps ≡ tableOf table ps
+table-is HRows ps = h-rows 0 ps
+table-is CutRows ps = cut-rows 0 ps
+table-is StandardCones ps = standard-cones 0 ps
+table-is CompactCones ps = compact-cones 0 ps
+table-is ConeMap ps = cone-map 0 ps
 
 -- ---- how many words a table has
 
@@ -116,29 +105,13 @@ table-length CompactCones ps h = cones-length compactPart part ps
     part : (x : Part) → length (compactPart x) ≡ partCones x * 3
     part (whole i c row) = refl
     part (cut i row k p) = compact-words p i row k
-table-length ConeMap ps h = ap length (map-joined ps) ∙ cones-length (λ x. mapWords (mapPart x)) part ps
-  where
-    part : (x : Part) → length (mapWords (mapPart x)) ≡ partCones x * 3
-    part (whole i c row) = refl
-    part (cut i row k p) = map-words p i row k
+table-length ConeMap ps h = omega (arith, entries-length (coneMap ps), map-count 0 ps)
 
 -- ---- the augmented rows that a table holds are few
 
-pub few-part : (table : Table) (ps : List Part) → Laid 0 ps → Few table (blockRowCount ps) → (t i row k : ℕ) (p : Pattern) → RightPattern p
-    → t + length (cutCodes table t i row k p) ≤ length (codesFrom table 0 ps) → Few table (t + blockRows p)
-unfolding cutCodes
-few-part HRows ps laid few t i row k p ok fits = tt
-few-part StandardCones ps laid few t i row k p ok fits = tt
-few-part CompactCones ps laid few t i row k p ok fits = tt
-few-part ConeMap ps laid few t i row k p ok fits = tt
-few-part CutRows ps laid few t i row k p ok fits =
-    omega (
-      arith,
-      ap length (cut-rows 0 0 ps laid),
-      length-map (rowsFrom 0 ps) cutCode,
-      length-rows 0 0 ps laid,
-      cut-length,
-    )
-  where
-    cut-length : length (cutCodes CutRows t i row k p) ≡ blockRows p
-    cut-length = length-map (patternRows p row t) cutCode ∙ rows-count p ok row t
+pub few-rows : (table : Table) (a b : ℕ) → Few table b → a ≤ b → Few table a
+few-rows HRows a b few l = tt
+few-rows CutRows a b few l = omega arith
+few-rows StandardCones a b few l = tt
+few-rows CompactCones a b few l = tt
+few-rows ConeMap a b few l = omega arith

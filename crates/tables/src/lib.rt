@@ -1,22 +1,21 @@
 // The tables that follow from the cones and the patterns alone: rows of H, rows of the compact route, cones, the cone map.
 ghost use mathlib.Core.Path.{_≡_};
 ghost use mathlib.Core.Bool.{true};
-ghost use mathlib.Core.List.{map, reverse};
-ghost use Prim.Native.Nat.{_+_, _*_, _≤_, _<_};
+ghost use mathlib.Core.List.{[], _∷_, map, reverse};
+ghost use Prim.Native.Nat.{_+_, _-_, _*_, _≤_, _<_};
 ghost use lib.ListN.{length, getD, set};
-ghost use Rattle.layout.specs.Lists.{all, below, join, upFrom, written};
+ghost use Rattle.layout.specs.Lists.{all, join, sum, upFrom, written};
 ghost use Rattle.layout.specs.Triangle.{triangle};
 ghost use Rattle.layout.specs.Cones.{records, rowCount};
 ghost use Rattle.layout.specs.Patterns.{blockSize, cliqueCount, patterns};
 ghost use Rattle.layout.specs.Blocks.{cut, parts, blockRows, blockRowCount};
 ghost use Rattle.layout.specs.Checks.{Sound, RightPattern, noCone};
-ghost use Rattle.layout.specs.Compact.{blockOf, coneWords, mapWords, psdWords};
+ghost use Rattle.layout.specs.Compact.{coneWords, mapPart, mapWords, psdWords};
 ghost use Rattle.supernode_tree.specs.Reads.{patternAt, Whole, cliquesFrom};
-ghost use Rattle.supernode_tree.specs.Sizes.{atMost};
-ghost use Rattle.tables.specs.Tables.{tableOf, routePart, wholeCodes, cutCodes, Few};
+ghost use Rattle.supernode_tree.specs.Sizes.{atMost, dimOf};
+ghost use Rattle.tables.specs.Tables.{tableOf, routePart, wholeCodes, cutCodes, entriesDown, Few};
 use parts::Met;
 use parts::Place;
-use parts::clique_count;
 use supernode_tree::Clique;
 use supernode_tree::Pattern;
 use supportedcone::SupportedCone;
@@ -59,6 +58,16 @@ fn put(out: &mut [u32], t: usize, a: u32, b: u32, c: u32)
     out[t + 2] = c;
 }
 
+// The words of an entry of the cone map at t.
+fn put_entry(out: &mut [u32], t: usize, cone: u32, pattern: u32, clique: u32, first: u32, rows: u32)
+    requires { ⌜ t + 5 ≤ length (now out) ⌝ }
+    ensures { λ _. ⌜ now (out .exit) ≡ set (set (set (set (set (now (out .entry)) t cone) (t + 1) pattern) (t + 2) clique) (t + 3) first) (t + 4) rows ⌝ }
+{
+    put(&mut *out, t, cone, pattern, clique);
+    out[t + 3] = first;
+    out[t + 4] = rows;
+}
+
 // Record i; how many words.
 fn copy_record(cones: &[u32], i: usize, out: &mut [u32]) -> usize
     requires { ⌜ (i * 3 + 3 ≤ length (now cones)) × (i < 1024) × (3 ≤ length (now out)) ⌝ }
@@ -74,19 +83,27 @@ fn copy_record(cones: &[u32], i: usize, out: &mut [u32]) -> usize
     j
 }
 
-// What the cone at a place writes, which is whole; how many words.
-fn write_whole(table: Table, place: Place, rows: u32, cones: &[u32], out: &mut [u32]) -> usize
+// What the cone at a place writes, which is whole, with `first` augmented rows before it; how many words.
+fn write_whole(
+    table: Table,
+    place: Place,
+    first: u64,
+    rows: u32,
+    cones: &[u32],
+    out: &mut [u32],
+) -> usize
     requires { ⌜ (rows ≡ rowCount (getD (records (now cones)) (place .cone) noCone)) × (place .row + rows ≤ 65536) × (place .cone < 1024) × (place .cone * 3 + 3 ≤ length (now cones)) ⌝ }
-    requires { ⌜ length (wholeCodes table (place .cone) (getD (records (now cones)) (place .cone) noCone) (place .row)) ≤ length (now out) ⌝ }
-    ensures { λ r. ⌜ r ≡ length (wholeCodes table (place .cone) (getD (records (now (cones .entry))) (place .cone) noCone) (place .row)) ⌝ }
-    ensures { λ _. ⌜ now (out .exit) ≡ written (wholeCodes table (place .cone) (getD (records (now (cones .entry))) (place .cone) noCone) (place .row)) (now (out .entry)) ⌝ }
+    requires { ⌜ Few table (first + rows) ⌝ }
+    requires { ⌜ length (wholeCodes table first (place .cone) (getD (records (now cones)) (place .cone) noCone) (place .row)) ≤ length (now out) ⌝ }
+    ensures { λ r. ⌜ r ≡ length (wholeCodes table first (place .cone) (getD (records (now (cones .entry))) (place .cone) noCone) (place .row)) ⌝ }
+    ensures { λ _. ⌜ now (out .exit) ≡ written (wholeCodes table first (place .cone) (getD (records (now (cones .entry))) (place .cone) noCone) (place .row)) (now (out .entry)) ⌝ }
 {
     match table {
         Table::HRows | Table::CutRows => count_up(out, place.row, rows),
         Table::StandardCones | Table::CompactCones => copy_record(cones, place.cone, out),
         Table::ConeMap => {
-            put(out, 0, place.cone as u32, NO_PATTERN, 0);
-            3
+            put_entry(out, 0, place.cone as u32, NO_PATTERN, 0, first as u32, rows);
+            5
         }
     }
 }
@@ -157,46 +174,99 @@ fn pattern_cones(standard: bool, words: &[u32], at: usize, out: &mut [u32]) -> u
     cones_down(words, p.cliques, p.clique_count, out)
 }
 
-// The map entries of count cliques of one pattern, from the last to the first; how many words.
-fn map_down(cone: u32, pattern: u32, count: u32, out: &mut [u32]) -> usize
-    requires { ⌜ count * 3 ≤ length (now out) ⌝ }
-    ensures { λ r. ⌜ r ≡ count * 3 ⌝ }
-    ensures { λ _. ⌜ now (out .exit) ≡ written (mapWords (map (blockOf cone pattern) (reverse (below count)))) (now (out .entry)) ⌝ }
+// The map entries of count cliques of one pattern, whose rows end at `end`, from the last to the first: the last place is filled first, with the first
+// clique, whose rows are the last. How many words.
+fn entries_down(
+    cone: u32,
+    pattern: u32,
+    words: &[u32],
+    first: usize,
+    count: u32,
+    end: u32,
+    out: &mut [u32],
+) -> usize
+    requires { ⌜ Whole (now words) first count × (count * 5 ≤ length (now out)) ⌝ }
+    requires { ⌜ all (atMost 256) (cliquesFrom (now words) first count) ≡ true ⌝ }
+    requires { ⌜ sum (map dimOf (cliquesFrom (now words) first count)) ≤ end ⌝ }
+    ensures { λ r. ⌜ r ≡ count * 5 ⌝ }
+    ensures { λ _. ⌜ now (out .exit) ≡ written (mapWords (entriesDown cone pattern 0 (end - sum (map dimOf (cliquesFrom (now (words .entry)) first count))) (cliquesFrom (now (words .entry)) first count))) (now (out .entry)) ⌝ }
 {
-    let mut t = 0;
-    let mut c = count;
-    while 0 < c {
-        c -= 1;
-        put(&mut *out, t, cone, pattern, c);
-        t += 3;
+    let mut at = first;
+    let mut row = end;
+    let mut left = count;
+    while 0 < left {
+        let q = Clique::here(words, at);
+        let rows = supernode_tree::triangular_number(q.get_nblk()) as u32;
+        let clique = count - left;
+        left -= 1;
+        row -= rows;
+        put_entry(
+            &mut *out,
+            left as usize * 5,
+            cone,
+            pattern,
+            clique,
+            row,
+            rows,
+        );
+        at = q.next;
     }
-    t
+    count as usize * 5
 }
 
-// What the cone at a place writes, which the pattern at an offset cuts; t words are written before. How many words.
+// The map entries of the pattern at an offset, with `first` augmented rows before them; how many words.
+fn pattern_entries(
+    cone: u32,
+    pattern: u32,
+    words: &[u32],
+    at: usize,
+    first: u32,
+    out: &mut [u32],
+) -> usize
+    requires { ⌜ RightPattern (patternAt (now words) at) × (patternAt (now words) at .vertexCount ≤ 256) × (first + blockRows (patternAt (now words) at) ≤ 262144) ⌝ }
+    requires { ⌜ cliqueCount (patternAt (now words) at) * 5 ≤ length (now out) ⌝ }
+    ensures { λ r. ⌜ r ≡ cliqueCount (patternAt (now (words .entry)) at) * 5 ⌝ }
+    ensures { λ _. ⌜ now (out .exit) ≡ written (mapWords (mapPart first (cut cone 0 pattern (patternAt (now (words .entry)) at)))) (now (out .entry)) ⌝ }
+{
+    let p = Pattern::here(words, at);
+    let blocks = supernode_tree::get_decomposed_dim_and_overlaps(words, at);
+    entries_down(
+        cone,
+        pattern,
+        words,
+        p.cliques,
+        p.clique_count,
+        first + blocks.dim as u32,
+        out,
+    )
+}
+
+// What the cone at a place writes, which the pattern at an offset cuts, with `first` augmented rows before it; how many words.
 fn write_cut(
     table: Table,
     place: Place,
+    first: u64,
     words: &[u32],
     at: usize,
-    t: usize,
     out: &mut [u32],
 ) -> usize
     requires { ⌜ RightPattern (patternAt (now words) at) × (patternAt (now words) at .vertexCount ≤ 256) × (place .row + triangle (patternAt (now words) at .vertexCount) ≤ 65536) × (place .cone < 1024) ⌝ }
-    requires { ⌜ Few table (t + blockRows (patternAt (now words) at)) ⌝ }
-    requires { ⌜ length (cutCodes table t (place .cone) (place .row) (place .pattern) (patternAt (now words) at)) ≤ length (now out) ⌝ }
-    ensures { λ r. ⌜ r ≡ length (cutCodes table t (place .cone) (place .row) (place .pattern) (patternAt (now (words .entry)) at)) ⌝ }
-    ensures { λ _. ⌜ now (out .exit) ≡ written (cutCodes table t (place .cone) (place .row) (place .pattern) (patternAt (now (words .entry)) at)) (now (out .entry)) ⌝ }
+    requires { ⌜ Few table (first + blockRows (patternAt (now words) at)) ⌝ }
+    requires { ⌜ length (cutCodes table first (place .cone) (place .row) (place .pattern) (patternAt (now words) at)) ≤ length (now out) ⌝ }
+    ensures { λ r. ⌜ r ≡ length (cutCodes table first (place .cone) (place .row) (place .pattern) (patternAt (now (words .entry)) at)) ⌝ }
+    ensures { λ _. ⌜ now (out .exit) ≡ written (cutCodes table first (place .cone) (place .row) (place .pattern) (patternAt (now (words .entry)) at)) (now (out .entry)) ⌝ }
 {
     match table {
         Table::HRows => blocks::standard_pattern_rows(words, at, place.row, out),
-        Table::CutRows => overlaps::compact_pattern_rows(words, at, place.row, t as u32, out),
+        Table::CutRows => overlaps::compact_pattern_rows(words, at, place.row, first as u32, out),
         Table::StandardCones => pattern_cones(true, words, at, out),
         Table::CompactCones => pattern_cones(false, words, at, out),
-        Table::ConeMap => map_down(
+        Table::ConeMap => pattern_entries(
             place.cone as u32,
             place.pattern,
-            clique_count(words, at),
+            words,
+            at,
+            first as u32,
             out,
         ),
     }
@@ -221,15 +291,19 @@ pub fn write_table(
 {
     let mut place = Place::start(m, cones, count, words);
     let mut t = 0;
+    let mut first = 0u64;
     loop {
         let met = place.next(m, cones, words);
         match met {
             Met::Whole(rows, next) => {
-                t += write_whole(table, place, rows, cones, &mut out[t..]);
+                t += write_whole(table, place, first, rows, cones, &mut out[t..]);
+                first += rows as u64;
                 place = next;
             }
             Met::Cut(at, next) => {
-                t += write_cut(table, place, words, at, t, &mut out[t..]);
+                t += write_cut(table, place, first, words, at, &mut out[t..]);
+                let blocks = supernode_tree::get_decomposed_dim_and_overlaps(words, at);
+                first += blocks.dim;
                 place = next;
             }
             Met::Done => {

@@ -58,6 +58,12 @@ cast-cone-words c = omega (arith, few (c .before))
 mul-cone-words : tie.Need-mul-cone-words
 mul-cone-words c = omega (arith, few (c .before))
 
+cast-map-words : tie.Need-cast-map-words
+cast-map-words c = omega (arith, few (c .before))
+
+mul-map-words : tie.Need-mul-map-words
+mul-map-words c = omega (arith, few (c .before))
+
 add-b : tie.Need-add-b
 add-b c = omega (arith, tall c)
 
@@ -103,6 +109,8 @@ write-sizes-spec =
     cast-b
     cast-cone-words
     mul-cone-words
+    cast-map-words
+    mul-map-words
     add-b
     add-cone-words
     add-columns

@@ -3,7 +3,7 @@ use Rattle.layout.specs.Problem.{Problem}
 use Rattle.layout.proofs.Routes.{route-standard, route-compact}
 use Rattle.augment_standard.specs.Constraints.{constraints}
 use Rattle.augment_standard.proofs.Constraints.{sound}
-use Rattle.constraints.proofs.Routes.{fits-on, map-fits-on, constrained-on, map-on}
+use Rattle.constraints.proofs.Routes.{fits-on, few-on, map-fits-on, constrained-on, map-on}
 use Rattle.constraints.proofs.write_constraints.Statement.{statement}
 use Rattle.constraints.proofs.write_constraints.Tie as tie
 
@@ -45,7 +45,7 @@ write-table-requires : tie.Need-write-table-requires
 write-table-requires c κs =
     let s = c .before .before .before .before .before .before .before .before .before .before .before .before .before .before .before .before .before .before .before .before .before .before .before .before .before .before .before .before .before .before in
     let e = route-compact (s .args .route) (c .before .before .before .before .before .before .before .before .before .before .before .before .before .before .before .before .before .if1 .left) in
-    (sound (s .pre .0 .accepted), (tt, map-fits-on (given s) e _ (s .pre .2)))
+    (sound (s .pre .0 .accepted), (few-on (given s) e refl (s .pre .0), map-fits-on (given s) e _ (s .pre .2)))
 
 same-length-6 : tie.Need-same-length-6
 same-length-6 c = c .before .before .before .before .before .before .before .before .before .before .before .before .before .before .decomp-augment-compact .kept .1 .1 .1 .1 .1 .1 .1 .1 .1 .1 .1 .0

@@ -8,7 +8,7 @@ use Rattle.decomp_augment_entries.proofs.words_of.Statement.{statement}
 use Rattle.decomp_augment_entries.proofs.words_of.Tie as tie
 
 returns : tie.Need-returns
-returns c = let k = c .before .args .entries in sym (cond-passed (ltb 263168 k) 789504 (k * 3) (ltb-iff 263168 k .1 (c .if1 .taken)))
+returns c = let k = c .before .args .entries in sym (cond-passed (ltb 16384 k) 81920 (k * 5) (ltb-iff 16384 k .1 (c .if1 .taken)))
 
 mul-result : tie.Need-mul-result
 mul-result c = search needs
@@ -16,7 +16,7 @@ mul-result c = search needs
 returns-2 : tie.Need-returns-2
 returns-2 c =
     let k = c .before .args .entries in
-    sym (cond-failed (ltb 263168 k) 789504 (k * 3) (λ t. let h = ltb-iff 263168 k .0 t in absurd (omega (arith, h, c .if1 .left))))
+    sym (cond-failed (ltb 16384 k) 81920 (k * 5) (λ t. let h = ltb-iff 16384 k .0 t in absurd (omega (arith, h, c .if1 .left))))
 
 pub words-of-spec : {M : Type 1} → statement M
 words-of-spec = tie.close (tie.spec returns mul-result returns-2)

@@ -9,7 +9,7 @@ use Rattle.layout.specs.Answers.{routeOf, onRoute, joinRefusal}
 use Rattle.layout.proofs.Promises.{rejoined-kept}
 use Rattle.reverse.specs.Joined.{Joinable, joinedOf}
 use Rattle.decomp.proofs.Answers.{no-route, on-route}
-use Rattle.decomp_reverse.proofs.Order.{Accepted, as-layout, join-accepted, joined-parts, joined-scalars, by-number}
+use Rattle.decomp_reverse.proofs.Order.{Accepted, as-layout, join-accepted, joined-parts, joined-scalars, by-number, tells}
 use Rattle.decomp_reverse.proofs.join.Statement.{statement}
 use Rattle.decomp_reverse.proofs.join.Tie as tie
 
@@ -53,7 +53,7 @@ none c = sym (answered (c .before)) ∙ c .if2 .left
 accepted : (c : tie.Else2)
     → let a = start (c .before .before) .args in
     Accepted (routeOf (a .route)) (a .n) (a .m) (a .cones .now) (a .count) (a .words .now) (solution (a .x .now) (a .s .now) (a .z .now) (a .tau) (a .kappa))
-    (length (a .x-out .now)) (length (a .s-out .now)) (length (a .z-out .now)) (length (a .scalars-out .now))
+    (a .map .now) (length (a .x-out .now)) (length (a .s-out .now)) (length (a .z-out .now)) (length (a .scalars-out .now))
 accepted c =
     let a = start (c .before .before) .args in
     join-accepted (routeOf (a .route)) (a .n) (a .m) (a .cones .now) (a .count) (a .words .now) (solution (a .x .now) (a .s .now) (a .z .now) (a .tau) (a .kappa)) (a .map .now)
@@ -78,7 +78,7 @@ decomp-reverse-requires c κs =
     let g = accepted l in
     let a = start (l .before .before) .args in (
       subst (λ (rt : Route). Joinable rt (a .m) (a .cones .now) (a .count) (a .words .now) (a .s .now) (a .z .now)) (sym (by-number (a .route))) (g .joinable),
-      (g .room-s, g .room-z),
+      ((g .room-s, g .room-z), tells (a .route) (a .m) (a .cones .now) (a .count) (a .words .now) (a .map .now) (g .map-is)),
     )
 
 joined-requires : tie.Need-joined-requires
@@ -91,10 +91,10 @@ same-length : tie.Need-same-length
 same-length c = copied (reversed (c .before .before)) .copy-x .kept .1 .1 .0
 
 same-length-2 : tie.Need-same-length-2
-same-length-2 c = reversed (c .before .before) .decomp-reverse .kept .1 .1 .1 .1 .1 .1 .1 .0
+same-length-2 c = reversed (c .before .before) .decomp-reverse .kept .1 .1 .1 .1 .1 .1 .1 .1 .0
 
 same-length-3 : tie.Need-same-length-3
-same-length-3 c = reversed (c .before .before) .decomp-reverse .kept .1 .1 .1 .1 .1 .1 .1 .1 .0
+same-length-3 c = reversed (c .before .before) .decomp-reverse .kept .1 .1 .1 .1 .1 .1 .1 .1 .1 .0
 
 same-length-4 : tie.Need-same-length-4
 same-length-4 c = c .before .before .write-scalars .kept .1 .0

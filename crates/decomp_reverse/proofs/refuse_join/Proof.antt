@@ -9,7 +9,7 @@ use Rattle.checks.specs.Order.{joinedRefusal}
 use Rattle.checks.proofs.Checked.{joined-sound}
 use Rattle.chordal_info.specs.Routes.{Counted}
 use Rattle.decomp_reverse.specs.Fits.{refusalBy}
-use Rattle.decomp_reverse.proofs.Order.{counted-few, refused-early, refused-counted, by-map}
+use Rattle.decomp_reverse.proofs.Order.{counted-few, refused-early, counted-rows-few, refused-counted, by-map}
 use Rattle.decomp_reverse.proofs.refuse_join.Statement.{statement}
 use Rattle.decomp_reverse.proofs.refuse_join.Tie as tie
 
@@ -77,9 +77,16 @@ returns-3 c = sym (decided (c .before) _ (route-standard _ (c .if3 .taken)))
 
 map-right-requires : tie.Need-map-right-requires
 map-right-requires c κs =
-    let e = c .before .before .before in
-    let a = start (e .before .before) .args in
-    joined-sound (a .n) (a .m) (a .cones .now) (a .count) (a .words .now) (seven e)
+    let two = c .before in
+    let r = two .before in
+    let e = r .before in
+    let k = e .before .before in
+    let s = start k in
+    let a = s .args in (
+      joined-sound (a .n) (a .m) (a .cones .now) (a .count) (a .words .now) (seven e),
+      counted-rows-few (routeOf (a .route)) (a .n) (a .m) (a .cones .now) (a .count) (a .words .now) (a .x) (a .s) (a .z) (a .entries .now) (rooms s)
+          (k .check-joined .result .rows) (k .check-joined .result .overlaps) (counted e) (seven e) (r .refuse-counted .result) (r .refuse-counted .ensures) (two .if2 .left),
+    )
 
 -- its answer on the compact route
 answered : (c : tie.After-map-right)

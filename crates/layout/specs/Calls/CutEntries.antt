@@ -23,14 +23,14 @@ entryOutputs pStarts pRows pValues q aStarts aRows aValues b cones alphas entrie
   map = entries;
 }
 
--- the room of each in words: an entry takes three
+-- the room of each in words: an entry takes five
 abbrev pub entryRooms : {E : Type 0} → EntryTables E → List ℕ
 entryRooms a =
     let o = a .objective in
     let c = a .constrained in
     length (o .P .starts) ∷ length (o .P .rows) ∷ length (o .P .values) ∷ length (o .q)
     ∷ length (c .A .starts) ∷ length (c .A .rows) ∷ length (c .A .values) ∷ length (c .b)
-    ∷ length (c .cones) ∷ length (o .alphas) ∷ length (a .map) * 3 ∷ []
+    ∷ length (c .cones) ∷ length (o .alphas) ∷ length (a .map) * 5 ∷ []
 
 pub record CutEntries {E : Type 0} (structOf : MapEntry → E) (p : Problem) (before after : EntryTables E) (r : ℕ) : Type 0 where
   pub number : r ≡ cutRefusal compact p (entryRooms before)

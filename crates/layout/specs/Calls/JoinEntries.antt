@@ -11,10 +11,10 @@ use Rattle.layout.specs.Answers.{orElse, roomy, joinedParts, joinChecks,
 use Rattle.layout.specs.Calls.Join.{Rejoined, rejoinedOf, rooms, HoldsRejoined}
 
 abbrev pub sameEntry : MapEntry → MapEntry → Bool
-sameEntry (wholeCone i) (wholeCone j) = eqb i j
-sameEntry (wholeCone i) (blockOf j l d) = false
-sameEntry (blockOf i k c) (wholeCone j) = false
-sameEntry (blockOf i k c) (blockOf j l d) = eqb i j && (eqb k l && eqb c d)
+sameEntry (wholeCone i first rows) (wholeCone j other count) = eqb i j && (eqb first other && eqb rows count)
+sameEntry (wholeCone i first rows) (blockOf j l d other count) = false
+sameEntry (blockOf i k c first rows) (wholeCone j other count) = false
+sameEntry (blockOf i k c first rows) (blockOf j l d other count) = eqb i j && (eqb k l && (eqb c d && (eqb first other && eqb rows count)))
 
 abbrev pub sameMap : List MapEntry → List MapEntry → Bool
 sameMap es fs = sameBy sameEntry es fs

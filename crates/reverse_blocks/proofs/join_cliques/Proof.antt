@@ -1,11 +1,11 @@
 use Prim.Native.Nat.{ℕ, zero-le, _≤_, _<_, _-_, _+_}
 use native.Mathlib.Nat.{add-zero, le-trans}
 use mathlib.Core.Path.{_≡_, refl, ap, sym, subst, _∙_}
-use mathlib.Core.List.{List, [], _++_}
+use mathlib.Core.List.{List, [], _++_, map}
 use lib.ListN.{length, getD, take, drop, length-append, length-map}
 use lib.Seq.{take-all}
 use lib.Dec.{T}
-use Rattle.layout.specs.Lists.{join, rises}
+use Rattle.layout.specs.Lists.{join, rises, sum}
 use Rattle.layout.specs.Triangle.{triangle}
 use Rattle.layout.specs.Blocks.{pairs, pairRow}
 use Rattle.layout.specs.Reverse.{addAt, addColumns}
@@ -17,7 +17,9 @@ use Rattle.blocks.proofs.Orders.{up-more, up-room}
 use Rattle.layout.proofs.Buffers.{take-none}
 use Rattle.layout.proofs.Walks.{one-more, one-less}
 use Rattle.reverse_blocks.specs.Joins.{zAt, joinZ, Counts, Countable, blockRowsOf}
-use Rattle.reverse_standard.specs.Routes.{inOrder}
+use Rattle.layout.proofs.Starts.{join-before}
+use Rattle.reverse_standard.specs.Routes.{inOrder, startOf, HasEntry}
+use Rattle.reverse_standard.proofs.Starts.{start-at}
 use Rattle.reverse_blocks.proofs.Laws.{walk-joined, counts-none, counts-joined, countable-left, length-order, standing-order, by-same}
 use Rattle.reverse_blocks.proofs.Room.{same-le, le-same, lt-same, both-kept, fits-next}
 use native.Mathlib.Omega.{arith}
@@ -25,14 +27,14 @@ use Rattle.reverse_blocks.proofs.join_cliques.Statement.{statement}
 use Rattle.reverse_blocks.proofs.join_cliques.Tie as tie
 
 abbrev Inv-loop : tie.InvT-loop
-Inv-loop standard words ordering offsets first s z s-out₀ z-out₀ counts₀ vertices₀ t₀ i₀ s-out z-out counts vertices t i =
+Inv-loop standard words ordering offsets entries entry first s z s-out₀ z-out₀ counts₀ vertices₀ t₀ i₀ s-out z-out counts vertices t i =
     let B = join (rowsHere 0 words ordering) (take i (inOrder standard offsets)) in
     (i ≤ length offsets) × (t ≡ first + length B) × (length vertices ≡ length vertices₀)
     × (length s-out ≡ length s-out₀) × (length z-out ≡ length z-out₀) × (length counts ≡ length counts₀)
     × (s-out ≡ addColumns B (drop first s) s-out₀) × (z-out ≡ joinZ standard B (drop first z) z-out₀) × Counts standard B counts₀ counts
 
 abbrev μ-loop : tie.MeasureT-loop
-μ-loop standard words ordering offsets first s z s-out₀ z-out₀ counts₀ vertices₀ t₀ i₀ s-out z-out counts vertices t i = length offsets - i
+μ-loop standard words ordering offsets entries entry first s z s-out₀ z-out₀ counts₀ vertices₀ t₀ i₀ s-out z-out counts vertices t i = length offsets - i
 
 -- ---- numbers
 
@@ -54,7 +56,7 @@ sum-le t b k n e h = omega arith
 -- ---- a turn
 
 abbrev start : (l : tie.At-loop Inv-loop μ-loop) → tie.Start Inv-loop μ-loop
-start l = l .before .before .before .before .before .before .before .before .before .before
+start l = l .before .before .before .before .before .before .before .before .before .before .before
 
 -- the offsets in order, and a clique's rows
 abbrev order : tie.Start Inv-loop μ-loop → List ℕ
@@ -88,10 +90,27 @@ s-fits i = le-trans (fits i) (start (i .before) .pre .1 .0 .0)
 z-fits : (i : tie.In-loop Inv-loop μ-loop) → i .before .loop .t + length (here (i .before)) ≤ length (start (i .before) .args .z .now)
 z-fits i = le-same (s-fits i) (start (i .before) .pre .1 .0 .1)
 
+-- where its values begin: the map has its entry, which tells it on the compact route
+told : (i : tie.In-loop Inv-loop μ-loop)
+    → let l = i .before in
+    let a = start l .args in
+    HasEntry (a .standard) (a .map .now) (a .entry + l .loop .i) × (startOf (a .standard) (l .loop .t) (a .map .now) (a .entry + l .loop .i) ≡ l .loop .t)
+told i =
+    let l = i .before in
+    let s = start l in
+    let a = s .args in
+    let ns = map (λ o. length (rowsAt s o)) (order s) in
+    let e : l .loop .t ≡ a .first + sum (take (l .loop .i) ns) = l .loop .inv .1 ∙ ap (λ (n : ℕ). a .first + n) (join-before (rowsAt s) (order s) (l .loop .i)) in
+    let w = start-at (a .standard) (a .map .now) (a .entry) (a .first) ns (l .loop .i) (s .pre .1 .1 .1 .1 .1 .0) (lt-same (inside i) (length-map (order s) (λ o. length (rowsAt s o)))) in
+    (w .0, ap (λ (n : ℕ). startOf (a .standard) n (a .map .now) (a .entry + l .loop .i)) e ∙ w .1 ∙ sym e)
+
+began : (b : tie.After-block-start Inv-loop μ-loop) → b .block-start .result ≡ b .before .before .loop .t
+began b = b .block-start .ensures ∙ told (b .before) .1
+
 -- the clique stands at its offset
-stands : (o : tie.After-offset-at Inv-loop μ-loop) → let s = start (o .before .before) in Stands (s .args .words .now) (s .args .ordering .now) (o .offset-at .result)
+stands : (o : tie.After-offset-at Inv-loop μ-loop) → let s = start (o .before .before .before) in Stands (s .args .words .now) (s .args .ordering .now) (o .offset-at .result)
 stands o =
-    let i = o .before in
+    let i = o .before .before in
     let l = i .before in
     let s = start l in
     let a = s .args in
@@ -99,11 +118,11 @@ stands o =
     (standing-order (a .standard) (a .words .now) (a .ordering .now) (a .offsets .now) (s .pre .0 .0) (l .loop .i) (inside i))
 
 buffer : (l : tie.At-loop Inv-loop μ-loop) → 256 ≤ length (l .loop .vertices)
-buffer l = le-same (start l .pre .1 .1 .1 .1) (l .loop .inv .2)
+buffer l = le-same (start l .pre .1 .1 .1 .1 .0) (l .loop .inv .2)
 
 -- the clique's vertices are those at the offset
 abbrev at-clique : tie.After-clique-vertices Inv-loop μ-loop → tie.In-loop Inv-loop μ-loop
-at-clique v = v .before .before .before
+at-clique v = v .before .before .before .before
 
 abbrev found : tie.After-clique-vertices Inv-loop μ-loop → List ℕ
 found v = take (v .clique-vertices .result) (v .clique-vertices .last .1 .1 .1 .0)
@@ -126,7 +145,7 @@ clique k = k .before .before .before .before .before .before .before
 
 loop-holds : tie.Need-loop-holds Inv-loop μ-loop
 loop-holds c =
-    let s = c .before .before .before .before .before .before .before .before .before in
+    let s = c .before .before .before .before .before .before .before .before .before .before in
     let a = s .args in
     let none : [] ≡ join (rowsAt s) (take 0 (order s)) = ap (join (rowsAt s)) (sym (take-none (order s))) in (
       zero-le,
@@ -140,11 +159,17 @@ loop-holds c =
       subst (λ (os : List ℕ). Counts (a .standard) os (a .counts .now) (a .counts .now)) none (counts-none (a .standard) (a .counts .now)),
     )
 
+add-block-start : tie.Need-add-block-start Inv-loop μ-loop
+add-block-start c = let s = start (c .before) in omega (arith, c .loop-test .taken, s .pre .1 .1 .1 .1 .1 .1)
+
+block-start-requires : tie.Need-block-start-requires Inv-loop μ-loop
+block-start-requires c κs = told c .0
+
 offset-at-requires : tie.Need-offset-at-requires Inv-loop μ-loop
-offset-at-requires c κs = c .loop-test .taken
+offset-at-requires c κs = c .before .loop-test .taken
 
 clique-vertices-requires : tie.Need-clique-vertices-requires Inv-loop μ-loop
-clique-vertices-requires c κs = (stands (c .before), buffer (c .before .before .before))
+clique-vertices-requires c κs = (stands (c .before), buffer (c .before .before .before .before))
 
 slice-reshare-prefix-join-block : tie.Need-slice-reshare-prefix-join-block Inv-loop μ-loop
 slice-reshare-prefix-join-block c =
@@ -171,7 +196,8 @@ join-block-requires c κs =
     let o = a .ordering .now in
     let at = v .before .before .offset-at .result in
     let n = l .loop .inv .3 in
-    let all = length (join (rowsAt s) (order s)) in (
+    let all = length (join (rowsAt s) (order s)) in
+    let from : (P : ℕ → Type 0) → P (l .loop .t) → P (v .before .before .before .block-start .result) = λ P. subst P (sym (began (v .before .before .before))) in (
       (
         subst (λ (vs : List ℕ). T (rises vs)) (sym (v .clique-vertices .ensures .1)) (vertices-rise ws o at),
         subst (λ (vs : List ℕ). ColumnsFit 0 vs (length (l .loop .s-out))) (sym (v .clique-vertices .ensures .1))
@@ -179,8 +205,8 @@ join-block-requires c κs =
       ),
       (
         (
-          sum-le (l .loop .t) (triangle (length (found v))) (length (here l)) (length (a .s .now)) (size v) (s-fits i),
-          sum-le (l .loop .t) (triangle (length (found v))) (length (here l)) (length (a .z .now)) (size v) (z-fits i),
+          from (λ (n : ℕ). n + triangle (length (found v)) ≤ length (a .s .now)) (sum-le (l .loop .t) (triangle (length (found v))) (length (here l)) (length (a .s .now)) (size v) (s-fits i)),
+          from (λ (n : ℕ). n + triangle (length (found v)) ≤ length (a .z .now)) (sum-le (l .loop .t) (triangle (length (found v))) (length (here l)) (length (a .z .now)) (size v) (z-fits i)),
         ),
         (
           (both-kept (l .loop .inv .4) (s .pre .1 .1 .0 .0) n, same-le n (s .pre .1 .1 .0 .1)),
@@ -208,19 +234,20 @@ loop-again c =
     let n = l .loop .i in
     let t = l .loop .t in
     let w = k .join-block in
+    let e = began (v .before .before .before) in
     let B = blockRowsOf (found v) in
     let next : List ℕ = join (rowsAt s) (take (n + 1) (order s)) in
     let as-next : done l ++ here l ≡ next = sym (up-more (rowsAt s) 0 (order s) n (inside i)) in
     let more : done l ++ B ≡ next = ap (λ (os : List ℕ). done l ++ os) (block-is v) ∙ as-next in (
       one-more (i .loop-test .taken),
       rows-next (a .first) t (triangle (length (found v))) (length (done l)) (length (here l)) (length next) (w .result) (l .loop .inv .1) (size v)
-          (sym (ap length as-next) ∙ length-append (done l) (here l)) (w .ensures .0),
+          (sym (ap length as-next) ∙ length-append (done l) (here l)) (by-same (λ (n : ℕ). n + triangle (length (found v))) (w .ensures .0) e),
       v .clique-vertices .kept .1 .1 .1 .0 ∙ l .loop .inv .2,
       w .kept .1 .1 .1 .1 .1 .0 ∙ l .loop .inv .3,
       w .kept .1 .1 .1 .1 .1 .1 .0 ∙ l .loop .inv .4,
       w .kept .1 .1 .1 .1 .1 .1 .1 .0 ∙ l .loop .inv .5,
-      walk-joined addAt (done l) B next (a .s .now) (a .s-out .now) (a .first) t (w .ensures .1 .0) (l .loop .inv .6) (l .loop .inv .1) more,
-      walk-joined (zAt (a .standard)) (done l) B next (a .z .now) (a .z-out .now) (a .first) t (w .ensures .1 .1 .0) (l .loop .inv .7) (l .loop .inv .1) more,
+      walk-joined addAt (done l) B next (a .s .now) (a .s-out .now) (a .first) t (by-same (λ (n : ℕ). addColumns B (drop n (a .s .now)) (l .loop .s-out)) (w .ensures .1 .0) e) (l .loop .inv .6) (l .loop .inv .1) more,
+      walk-joined (zAt (a .standard)) (done l) B next (a .z .now) (a .z-out .now) (a .first) t (by-same (λ (n : ℕ). joinZ (a .standard) B (drop n (a .z .now)) (l .loop .z-out)) (w .ensures .1 .1 .0) e) (l .loop .inv .7) (l .loop .inv .1) more,
       counts-joined (a .standard) (done l) B next (a .counts .now) (l .loop .counts) (w .last .1 .1 .1 .1 .1 .1 .1 .0) (w .kept .1 .1 .1 .1 .1 .1 .1 .0) (l .loop .inv .8) (w .ensures .1 .1 .1) more,
     )
 
@@ -260,6 +287,8 @@ join-cliques-spec =
     Inv-loop
     μ-loop
     loop-holds
+    add-block-start
+    block-start-requires
     offset-at-requires
     clique-vertices-requires
     slice-reshare-prefix-join-block

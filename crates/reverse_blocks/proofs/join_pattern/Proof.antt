@@ -1,9 +1,10 @@
-use Prim.Native.Nat.{ℕ, _+_, _≤_, _-_}
+use Prim.Native.Nat.{ℕ, _+_, _≤_, _<_, _-_}
 use native.Mathlib.Nat.{le-trans}
 use mathlib.Core.Path.{_≡_, refl, ap, sym, subst, _∙_}
-use mathlib.Core.List.{List}
+use mathlib.Core.List.{List, map}
 use lib.ListN.{length, take, drop}
 use lib.Seq.{length-take-le}
+use native.Mathlib.Omega.{arith}
 use mir.Facts.{fits-le, fits-lit}
 use Rattle.layout.specs.Lists.{join}
 use Rattle.layout.specs.Triangle.{triangle}
@@ -17,14 +18,14 @@ use Rattle.supernode_tree.proofs.Cliques.{right-head}
 use Rattle.blocks.specs.Cliques.{rowsHere}
 use Rattle.blocks.proofs.Offsets.{StandAt, cliques-here, cliques-count, count-few, ordering-part, stand-here, all-stand}
 use Rattle.reverse_blocks.specs.Joins.{joinZ, Counts, Countable, ownRows}
-use Rattle.reverse_standard.specs.Routes.{inOrder}
-use Rattle.reverse_blocks.proofs.Laws.{rows-order, length-own, by-same}
+use Rattle.reverse_standard.specs.Routes.{inOrder, Starts}
+use Rattle.reverse_blocks.proofs.Laws.{rows-order, starts-order, length-own, by-same}
 use Rattle.reverse_blocks.proofs.Room.{fits-number, sum-above}
 use Rattle.reverse_blocks.proofs.join_pattern.Statement.{statement}
 use Rattle.reverse_blocks.proofs.join_pattern.Tie as tie
 
 abbrev start : tie.After-here → tie.Start
-start h = h .before .before .before .before .before .before .before .before .before
+start h = h .before .before .before .before .before .before .before .before .before .before
 
 abbrev pattern : tie.Start → Pattern
 pattern s = patternAt (s .args .words .now) (s .args .at)
@@ -61,7 +62,7 @@ offsets o = o .clique-offsets .last .1 .1 .1 .0
 
 room : (o : tie.After-clique-offsets) → head (read o) .«clique_count» ≤ length (offsets o)
 room o =
-    subst (λ (n : ℕ). head (read o) .«clique_count» ≤ n) (sym (o .clique-offsets .kept .1 .1 .1 .0)) (le-trans (few (read o)) (start (read o) .pre .1 .1 .1 .1 .0))
+    subst (λ (n : ℕ). head (read o) .«clique_count» ≤ n) (sym (o .clique-offsets .kept .1 .1 .1 .0)) (le-trans (few (read o)) (start (read o) .pre .1 .1 .1 .1 .0 .0))
 
 standing : (o : tie.After-clique-offsets) → let s = start (read o) in StandAt (s .args .words .now) (pattern s .cliques) (offsets o)
 standing o =
@@ -87,9 +88,12 @@ rows o =
 size : (o : tie.After-clique-offsets) → length (joined o) ≡ blockRows (pattern (start (read o)))
 size o = let s = start (read o) in ap length (rows o) ∙ length-own (s .args .standard) (pattern s) (s .pre .0 .0)
 
+few-entries : (entry k n : ℕ) → entry ≤ 262144 → k ≡ n → n ≤ 256 → entry + k < 18446744073709551616
+few-entries entry k n h e l = omega arith
+
 here-requires : tie.Need-here-requires
 here-requires c κs =
-    let s = c .before .before .before .before .before .before .before .before in
+    let s = c .before .before .before .before .before .before .before .before .before in
     right-head (s .args .words .now) (s .args .at) (s .pre .0 .0 .tree)
 
 clique-offsets-requires : tie.Need-clique-offsets-requires
@@ -97,7 +101,7 @@ clique-offsets-requires c κs =
     let h = c .before in
     let s = start h in (
       cliques-here (s .args .words .now) (s .args .at) (Found (head h)) (s .pre .0 .0) (h .here .ensures .0) (head h) refl,
-      le-trans (few h) (s .pre .1 .1 .1 .1 .0),
+      le-trans (few h) (s .pre .1 .1 .1 .1 .0 .0),
     )
 
 cast-k : tie.Need-cast-k
@@ -139,7 +143,20 @@ join-cliques-requires c κs =
       ),
       (
         (subst (λ (n : ℕ). a .first + n ≤ length (a .s .now)) (sym (size o)) (s .pre .1 .1 .0 .0), s .pre .1 .1 .0 .1),
-        ((s .pre .1 .0 .1, s .pre .1 .0 .2), (subst (λ (n : ℕ). Countable (a .standard) (length (a .s-out .now)) n (a .counts .now)) (sym (size o)) (s .pre .1 .1 .1 .0), s .pre .1 .1 .1 .1 .1)),
+        (
+          (s .pre .1 .0 .1, s .pre .1 .0 .2),
+          (
+            subst (λ (n : ℕ). Countable (a .standard) (length (a .s-out .now)) n (a .counts .now)) (sym (size o)) (s .pre .1 .1 .1 .0),
+            (
+              s .pre .1 .1 .1 .1 .0 .1,
+              (
+                subst (λ (ordering : List ℕ). Starts (a .standard) (a .map .now) (a .entry) (a .first) (map (λ o. length (rowsHere 0 (a .words .now) ordering o)) (inOrder (a .standard) (take (head h .«clique_count») (offsets o))))) (sym (ordering-here h))
+                    (starts-order (a .standard) p (s .pre .0 .0) (a .words .now) (offsets o) (head h .«clique_count») (count h) (room o) (standing o) (a .map .now) (a .entry) (a .first) (s .pre .1 .1 .1 .1 .1 .0)),
+                few-entries (a .entry) (length (take (head h .«clique_count») (offsets o))) (head h .«clique_count») (s .pre .1 .1 .1 .1 .1 .1) (length-take-le (head h .«clique_count») (offsets o) (room o)) (few h),
+              ),
+            ),
+          ),
+        ),
       ),
     )
 
@@ -151,19 +168,19 @@ abbrev filled : tie.After-join-cliques → tie.After-clique-offsets
 filled j = j .before .before .before .before .before .before .before .before .before .before
 
 same-length : tie.Need-same-length
-same-length c = end c .join-cliques .kept .1 .1 .1 .1 .1 .1 .1 .0
+same-length c = end c .join-cliques .kept .1 .1 .1 .1 .1 .1 .1 .1 .1 .0
 
 same-length-2 : tie.Need-same-length-2
-same-length-2 c = end c .join-cliques .kept .1 .1 .1 .1 .1 .1 .1 .1 .0
+same-length-2 c = end c .join-cliques .kept .1 .1 .1 .1 .1 .1 .1 .1 .1 .1 .0
 
 same-length-3 : tie.Need-same-length-3
-same-length-3 c = end c .join-cliques .kept .1 .1 .1 .1 .1 .1 .1 .1 .1 .0
+same-length-3 c = end c .join-cliques .kept .1 .1 .1 .1 .1 .1 .1 .1 .1 .1 .1 .0
 
 same-length-4 : tie.Need-same-length-4
 same-length-4 c = filled (end c) .clique-offsets .kept .1 .1 .1 .0
 
 same-length-5 : tie.Need-same-length-5
-same-length-5 c = end c .join-cliques .kept .1 .1 .1 .1 .1 .1 .1 .1 .1 .1 .0
+same-length-5 c = end c .join-cliques .kept .1 .1 .1 .1 .1 .1 .1 .1 .1 .1 .1 .1 .0
 
 returns : tie.Need-returns
 returns c =
@@ -176,7 +193,7 @@ returns c =
         by-same (λ (os : List ℕ). addColumns os (drop (a .first) (a .s .now)) (a .s-out .now)) (w .1 .0) (rows o),
         (
           by-same (λ (os : List ℕ). joinZ (a .standard) os (drop (a .first) (a .z .now)) (a .z-out .now)) (w .1 .1 .0) (rows o),
-          subst (λ (os : List ℕ). Counts (a .standard) os (a .counts .now) (j .join-cliques .last .1 .1 .1 .1 .1 .1 .1 .1 .1 .0)) (rows o) (w .1 .1 .1),
+          subst (λ (os : List ℕ). Counts (a .standard) os (a .counts .now) (j .join-cliques .last .1 .1 .1 .1 .1 .1 .1 .1 .1 .1 .1 .0)) (rows o) (w .1 .1 .1),
         ),
       ),
     )

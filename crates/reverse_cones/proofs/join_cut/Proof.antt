@@ -24,16 +24,16 @@ z-rows s = begins (s .args .row) (s .args .n) (length (s .args .z-out .now)) (s 
 
 -- where each part is lent
 abbrev start : tie.After-slice-known5 → tie.Start
-start c = c .before .before .before .before .before .before .before .before
+start c = c .before .before .before .before .before .before .before .before .before
 
 abbrev lent : tie.After-join-rows-arg → tie.After-slice-known5
 lent c = c .before
 
 add-e : tie.Need-add-e
-add-e c = fits-count 8 (start c .pre .1 .0 .0) (start c .good .1 .1 .1 .1 .1 .1 .1 .1 .0)
+add-e c = fits-count 8 (start c .pre .1 .0 .0) (start c .good .1 .1 .1 .1 .1 .1 .1 .1 .1 .1 .0)
 
 mul-join-rows : tie.Need-mul-join-rows
-mul-join-rows c = let s = start c in fits-value (s-rows s) (s .good .1 .1 .1 .1 .1 .1 .1 .1 .0)
+mul-join-rows c = let s = start c in fits-value (s-rows s) (s .good .1 .1 .1 .1 .1 .1 .1 .1 .1 .1 .0)
 
 sub-join-rows : tie.Need-sub-join-rows
 sub-join-rows c = let a = start c .args in le-add-right (a .row) (a .n)
@@ -45,7 +45,7 @@ part-join-rows-end : tie.Need-part-join-rows-end
 part-join-rows-end c = start c .pre .1 .0 .0
 
 mul-join-rows-2 : tie.Need-mul-join-rows-2
-mul-join-rows-2 c = let s = start (lent c) in fits-value (z-rows s) (s .good .1 .1 .1 .1 .1 .1 .1 .1 .1 .0)
+mul-join-rows-2 c = let s = start (lent c) in fits-value (z-rows s) (s .good .1 .1 .1 .1 .1 .1 .1 .1 .1 .1 .1 .0)
 
 sub-join-rows-2 : tie.Need-sub-join-rows-2
 sub-join-rows-2 c = let a = start (lent c) .args in le-add-right (a .row) (a .n)
@@ -87,22 +87,22 @@ same-length : tie.Need-same-length
 same-length c =
     let j = end c in
     let a = first j .args in
-    length-put (a .row) (a .row + a .n - a .row) (a .s-out .now) (j .join-rows .last .1 .1 .1 .1 .1 .1 .0) (s-rows (first j)) (j .join-rows .kept .1 .1 .1 .1 .1 .1 .0)
+    length-put (a .row) (a .row + a .n - a .row) (a .s-out .now) (j .join-rows .last .1 .1 .1 .1 .1 .1 .1 .1 .0) (s-rows (first j)) (j .join-rows .kept .1 .1 .1 .1 .1 .1 .1 .1 .0)
 
 same-length-2 : tie.Need-same-length-2
 same-length-2 c =
     let j = end c in
     let a = first j .args in
-    length-put (a .row) (a .row + a .n - a .row) (a .z-out .now) (j .join-rows .last .1 .1 .1 .1 .1 .1 .1 .0) (z-rows (first j)) (j .join-rows .kept .1 .1 .1 .1 .1 .1 .1 .0)
+    length-put (a .row) (a .row + a .n - a .row) (a .z-out .now) (j .join-rows .last .1 .1 .1 .1 .1 .1 .1 .1 .1 .0) (z-rows (first j)) (j .join-rows .kept .1 .1 .1 .1 .1 .1 .1 .1 .1 .0)
 
 same-length-3 : tie.Need-same-length-3
-same-length-3 c = end c .join-rows .kept .1 .1 .1 .1 .1 .1 .1 .1 .0
+same-length-3 c = end c .join-rows .kept .1 .1 .1 .1 .1 .1 .1 .1 .1 .1 .0
 
 same-length-4 : tie.Need-same-length-4
-same-length-4 c = end c .join-rows .kept .1 .1 .1 .1 .1 .1 .1 .1 .1 .0
+same-length-4 c = end c .join-rows .kept .1 .1 .1 .1 .1 .1 .1 .1 .1 .1 .1 .0
 
 same-length-5 : tie.Need-same-length-5
-same-length-5 c = end c .join-rows .kept .1 .1 .1 .1 .1 .1 .1 .1 .1 .1 .0
+same-length-5 c = end c .join-rows .kept .1 .1 .1 .1 .1 .1 .1 .1 .1 .1 .1 .1 .0
 
 returns : tie.Need-returns
 returns c =
@@ -112,9 +112,9 @@ returns c =
     let w = j .join-rows in (
       w .ensures .0,
       (
-        put-same (sCut (a .standard) (here s) (drop (a .t) (a .s .now))) (w .last .1 .1 .1 .1 .1 .1 .0) (a .s-out .now) (a .row) (a .n) (s .pre .1 .0 .0) (w .ensures .1 .0) (w .kept .1 .1 .1 .1 .1 .1 .0),
+        put-same (sCut (a .standard) (here s) (drop (a .t) (a .s .now))) (w .last .1 .1 .1 .1 .1 .1 .1 .1 .0) (a .s-out .now) (a .row) (a .n) (s .pre .1 .0 .0) (w .ensures .1 .0) (w .kept .1 .1 .1 .1 .1 .1 .1 .1 .0),
         (
-          put-same (zCut (a .standard) (here s) (drop (a .t) (a .z .now))) (w .last .1 .1 .1 .1 .1 .1 .1 .0) (a .z-out .now) (a .row) (a .n) (s .pre .1 .0 .1) (w .ensures .1 .1 .0) (w .kept .1 .1 .1 .1 .1 .1 .1 .0),
+          put-same (zCut (a .standard) (here s) (drop (a .t) (a .z .now))) (w .last .1 .1 .1 .1 .1 .1 .1 .1 .1 .0) (a .z-out .now) (a .row) (a .n) (s .pre .1 .0 .1) (w .ensures .1 .1 .0) (w .kept .1 .1 .1 .1 .1 .1 .1 .1 .1 .0),
           w .ensures .1 .1 .1,
         ),
       ),

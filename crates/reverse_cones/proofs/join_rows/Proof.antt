@@ -34,7 +34,7 @@ sizes s = s .pre .1 .0 .0 ∙ sym (s .pre .1 .0 .1)
 
 -- where the outputs were filled
 abbrev start : tie.After-fill-values → tie.Start
-start f = f .before .before .before .before .before .before .before .before .before .before
+start f = f .before .before .before .before .before .before .before .before .before .before .before
 
 abbrev s-filled : tie.After-fill-values2 → tie.After-fill-values
 s-filled f = f .before .before .before .before
@@ -56,25 +56,25 @@ abbrev z-filled : tie.After-join-pattern → tie.After-fill-values2
 z-filled j = j .before .before .before .before .before .before .before .before
 
 abbrev z-joined : tie.After-join-pattern → List Float
-z-joined j = j .join-pattern .last .1 .1 .1 .1 .1 .1 .1 .0
+z-joined j = j .join-pattern .last .1 .1 .1 .1 .1 .1 .1 .1 .1 .0
 
 abbrev counted : tie.After-join-pattern → List ℕ
-counted j = j .join-pattern .last .1 .1 .1 .1 .1 .1 .1 .1 .0
+counted j = j .join-pattern .last .1 .1 .1 .1 .1 .1 .1 .1 .1 .1 .0
 
 size : (j : tie.After-join-pattern) → length (z-joined j) ≡ length (start (s-filled (z-filled j)) .args .s-out .now)
 size j =
     let f = z-filled j in
-    kept-twice (j .join-pattern .kept .1 .1 .1 .1 .1 .1 .1 .0) (f .fill-values2 .kept .0) (sym (sizes (start (s-filled f))))
+    kept-twice (j .join-pattern .kept .1 .1 .1 .1 .1 .1 .1 .1 .1 .0) (f .fill-values2 .kept .0) (sym (sizes (start (s-filled f))))
 
 -- the counts have room
 room : (j : tie.After-join-pattern) → CountsRows (start (s-filled (z-filled j)) .args .standard) (length (z-joined j)) (counted j)
 room j =
     let s = start (s-filled (z-filled j)) in
     let a = s .args in
-    rows-kept (a .standard) (length (a .s-out .now)) (length (z-joined j)) (a .counts .now) (counted j) (le-of-eq (size j)) (j .join-pattern .kept .1 .1 .1 .1 .1 .1 .1 .1 .0) (s .pre .1 .1 .1 .0 .0)
+    rows-kept (a .standard) (length (a .s-out .now)) (length (z-joined j)) (a .counts .now) (counted j) (le-of-eq (size j)) (j .join-pattern .kept .1 .1 .1 .1 .1 .1 .1 .1 .1 .1 .0) (s .pre .1 .1 .1 .0 .0)
 
 fill-values-requires : tie.Need-fill-values-requires
-fill-values-requires c κs = le-refl (length (c .before .before .before .before .before .before .before .before .before .args .s-out .now))
+fill-values-requires c κs = le-refl (length (c .before .before .before .before .before .before .before .before .before .before .args .s-out .now))
 
 fill-values-requires-2 : tie.Need-fill-values-requires-2
 fill-values-requires-2 c κs = le-of-eq (sizes (start (c .before .before .before)))
@@ -96,7 +96,7 @@ join-pattern-requires c κs =
           (
             subst (λ (q : ℕ). Countable (a .standard) q (blockRows p) (a .counts .now)) (sym n)
                 (countable (a .standard) (length (a .s-out .now)) (blockRows p) (a .counts .now) (s .pre .1 .1 .0 .0) (s .pre .1 .1 .1 .0 .0) (s .pre .1 .1 .1 .0 .1)),
-            s .pre .1 .1 .1 .1,
+            (s .pre .1 .1 .1 .1 .0, s .pre .1 .1 .1 .1 .1),
           ),
         ),
       ),
@@ -113,22 +113,22 @@ abbrev joined : tie.After-average → tie.After-join-pattern
 joined v = v .before .before .before .before .before .before .before .before .before .before .before .before .before
 
 same-length : tie.Need-same-length
-same-length c = let j = joined (averaged c) in j .join-pattern .kept .1 .1 .1 .1 .1 .1 .0 ∙ s-filled (z-filled j) .fill-values .kept .0
+same-length c = let j = joined (averaged c) in j .join-pattern .kept .1 .1 .1 .1 .1 .1 .1 .1 .0 ∙ s-filled (z-filled j) .fill-values .kept .0
 
 same-length-2 : tie.Need-same-length-2
 same-length-2 c =
     let v = averaged c in
     let j = joined v in
-    kept-twice (v .average .kept .1 .0) (j .join-pattern .kept .1 .1 .1 .1 .1 .1 .1 .0) (z-filled j .fill-values2 .kept .0)
+    kept-twice (v .average .kept .1 .0) (j .join-pattern .kept .1 .1 .1 .1 .1 .1 .1 .1 .1 .0) (z-filled j .fill-values2 .kept .0)
 
 same-length-3 : tie.Need-same-length-3
-same-length-3 c = let v = averaged c in v .average .kept .1 .1 .0 ∙ joined v .join-pattern .kept .1 .1 .1 .1 .1 .1 .1 .1 .0
+same-length-3 c = let v = averaged c in v .average .kept .1 .1 .0 ∙ joined v .join-pattern .kept .1 .1 .1 .1 .1 .1 .1 .1 .1 .1 .0
 
 same-length-4 : tie.Need-same-length-4
-same-length-4 c = joined (averaged c) .join-pattern .kept .1 .1 .1 .1 .1 .1 .1 .1 .1 .0
+same-length-4 c = joined (averaged c) .join-pattern .kept .1 .1 .1 .1 .1 .1 .1 .1 .1 .1 .1 .0
 
 same-length-5 : tie.Need-same-length-5
-same-length-5 c = joined (averaged c) .join-pattern .kept .1 .1 .1 .1 .1 .1 .1 .1 .1 .1 .0
+same-length-5 c = joined (averaged c) .join-pattern .kept .1 .1 .1 .1 .1 .1 .1 .1 .1 .1 .1 .1 .0
 
 returns : tie.Need-returns
 returns c =

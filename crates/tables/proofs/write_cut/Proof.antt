@@ -1,12 +1,11 @@
 use Prim.Native.Nat.{ℕ, _≤_, _+_, _*_}
 use mathlib.Core.Path.{_≡_, ap, sym, _∙_}
-use mathlib.Core.List.{map, reverse}
-use Rattle.layout.specs.Lists.{below, written}
+use mathlib.Core.List.{map}
 use lib.ListN.{length}
 use mathlib.Core.Path.{subst}
 use lib.ListN.{length-map}
 use Rattle.layout.specs.Blocks.{cut, patternRows, blockRows}
-use Rattle.layout.specs.Compact.{blockOf, compactPart, mapPart, mapWords}
+use Rattle.layout.specs.Compact.{compactPart, mapPart, mapWords}
 use Rattle.layout.specs.Standard.{standardPart}
 use Rattle.layout.proofs.Rows.{rows-count}
 use Rattle.codes.specs.Codes.{cutCode}
@@ -25,50 +24,58 @@ use Rattle.tables.proofs.write_cut.Tie as tie
 rows-h : (c : tie.After-enum-told)
     → let a = c .before .before .before .before .args in
     let p = patternAt (a .words .now) (a .at) in
-    cutCodes (a .table) (a .t) (a .place .cone) (a .place .row) (a .place .pattern) p ≡ standardPatternRows p (a .place .row)
+    cutCodes (a .table) (a .first) (a .place .cone) (a .place .row) (a .place .pattern) p ≡ standardPatternRows p (a .place .row)
 rows-h c =
     let a = c .before .before .before .before .args in
-    cut-h (a .table) (a .t) (a .place .cone) (a .place .row) (a .place .pattern) (patternAt (a .words .now) (a .at)) (c .enum-told .given .1)
+    cut-h (a .table) (a .first) (a .place .cone) (a .place .row) (a .place .pattern) (patternAt (a .words .now) (a .at)) (c .enum-told .given .1)
 
 rows-cut : (c : tie.After-enum-told2)
     → let a = c .before .before .before .before .args in
     let p = patternAt (a .words .now) (a .at) in
-    cutCodes (a .table) (a .t) (a .place .cone) (a .place .row) (a .place .pattern) p ≡ map cutCode (patternRows p (a .place .row) (a .t))
+    cutCodes (a .table) (a .first) (a .place .cone) (a .place .row) (a .place .pattern) p ≡ map cutCode (patternRows p (a .place .row) (a .first))
 rows-cut c =
     let a = c .before .before .before .before .args in
-    cut-cut (a .table) (a .t) (a .place .cone) (a .place .row) (a .place .pattern) (patternAt (a .words .now) (a .at)) (c .enum-told2 .given .1)
+    cut-cut (a .table) (a .first) (a .place .cone) (a .place .row) (a .place .pattern) (patternAt (a .words .now) (a .at)) (c .enum-told2 .given .1)
 
 words-standard : (c : tie.After-enum-told3)
     → let a = c .before .before .before .before .args in
     let p = patternAt (a .words .now) (a .at) in
-    cutCodes (a .table) (a .t) (a .place .cone) (a .place .row) (a .place .pattern) p ≡ standardPart (cut (a .place .cone) (a .place .row) (a .place .pattern) p)
+    cutCodes (a .table) (a .first) (a .place .cone) (a .place .row) (a .place .pattern) p ≡ standardPart (cut (a .place .cone) (a .place .row) (a .place .pattern) p)
 words-standard c =
     let a = c .before .before .before .before .args in
-    cut-standard (a .table) (a .t) (a .place .cone) (a .place .row) (a .place .pattern) (patternAt (a .words .now) (a .at)) (c .enum-told3 .given .1)
+    cut-standard (a .table) (a .first) (a .place .cone) (a .place .row) (a .place .pattern) (patternAt (a .words .now) (a .at)) (c .enum-told3 .given .1)
 
 words-compact : (c : tie.After-enum-told4)
     → let a = c .before .before .before .before .args in
     let p = patternAt (a .words .now) (a .at) in
-    cutCodes (a .table) (a .t) (a .place .cone) (a .place .row) (a .place .pattern) p ≡ compactPart (cut (a .place .cone) (a .place .row) (a .place .pattern) p)
+    cutCodes (a .table) (a .first) (a .place .cone) (a .place .row) (a .place .pattern) p ≡ compactPart (cut (a .place .cone) (a .place .row) (a .place .pattern) p)
 words-compact c =
     let a = c .before .before .before .before .args in
-    cut-compact (a .table) (a .t) (a .place .cone) (a .place .row) (a .place .pattern) (patternAt (a .words .now) (a .at)) (c .enum-told4 .given .1)
+    cut-compact (a .table) (a .first) (a .place .cone) (a .place .row) (a .place .pattern) (patternAt (a .words .now) (a .at)) (c .enum-told4 .given .1)
 
 words-map : (c : tie.After-enum-told5)
     → let a = c .before .before .before .before .args in
     let p = patternAt (a .words .now) (a .at) in
-    cutCodes (a .table) (a .t) (a .place .cone) (a .place .row) (a .place .pattern) p ≡ mapWords (mapPart (cut (a .place .cone) (a .place .row) (a .place .pattern) p))
+    cutCodes (a .table) (a .first) (a .place .cone) (a .place .row) (a .place .pattern) p ≡ mapWords (mapPart (a .first) (cut (a .place .cone) (a .place .row) (a .place .pattern) p))
 words-map c =
     let a = c .before .before .before .before .args in
-    cut-map (a .table) (a .t) (a .place .cone) (a .place .row) (a .place .pattern) (patternAt (a .words .now) (a .at)) (c .enum-told5 .given .1)
+    cut-map (a .table) (a .first) (a .place .cone) (a .place .row) (a .place .pattern) (patternAt (a .words .now) (a .at)) (c .enum-told5 .given .1)
 
 few : (c : tie.After-enum-told2)
     → let a = c .before .before .before .before .args in
-    a .t + blockRows (patternAt (a .words .now) (a .at)) ≤ 262144
+    a .first + blockRows (patternAt (a .words .now) (a .at)) ≤ 262144
 few c =
     let s = c .before .before .before .before in
     let a = s .args in
-    subst (λ (x : Table). Few x (a .t + blockRows (patternAt (a .words .now) (a .at)))) (c .enum-told2 .given .1) (s .pre .1 .0)
+    subst (λ (x : Table). Few x (a .first + blockRows (patternAt (a .words .now) (a .at)))) (c .enum-told2 .given .1) (s .pre .1 .0)
+
+few-entries : (c : tie.After-enum-told5)
+    → let a = c .before .before .before .before .args in
+    a .first + blockRows (patternAt (a .words .now) (a .at)) ≤ 262144
+few-entries c =
+    let s = c .before .before .before .before in
+    let a = s .args in
+    subst (λ (x : Table). Few x (a .first + blockRows (patternAt (a .words .now) (a .at)))) (c .enum-told5 .given .1) (s .pre .1 .0)
 
 enum-told : tie.Need-enum-told
 enum-told c = c .match .keys1
@@ -93,7 +100,7 @@ compact-pattern-rows-requires c κs =
     let a = s .args in
     let p = patternAt (a .words .now) (a .at) in
     let ok = s .pre .0 .0 in
-    (ok, ((s .pre .0 .1, s .pre .0 .2), (few (c .before), omega (arith, ap length (rows-cut (c .before)), (length-map (patternRows p (a .place .row) (a .t)) cutCode ∙ rows-count p ok (a .place .row) (a .t)), s .pre .1 .1))))
+    (ok, ((s .pre .0 .1, s .pre .0 .2), (few (c .before), omega (arith, ap length (rows-cut (c .before)), (length-map (patternRows p (a .place .row) (a .first)) cutCode ∙ rows-count p ok (a .place .row) (a .first)), s .pre .1 .1))))
 
 enum-told-3 : tie.Need-enum-told-3
 enum-told-3 c = c .match .keys3
@@ -120,18 +127,19 @@ pattern-cones-requires-2 c κs =
 enum-told-5 : tie.Need-enum-told-5
 enum-told-5 c = c .match .keys5
 
-cast-map-down : tie.Need-cast-map-down
-cast-map-down c = omega (arith, c .before .before .before .before .before .pre .0 .3)
+cast-pattern-entries : tie.Need-cast-pattern-entries
+cast-pattern-entries c = omega (arith, c .before .before .before .before .before .pre .0 .3)
 
-clique-count-requires : tie.Need-clique-count-requires
-clique-count-requires c κs = c .before .before .before .before .before .pre .0 .0
+cast-pattern-entries-2 : tie.Need-cast-pattern-entries-2
+cast-pattern-entries-2 c = omega (arith, few-entries (c .before))
 
-map-down-requires : tie.Need-map-down-requires
-map-down-requires c κs =
-    let n = c .before in
-    let s = n .before .before .before .before .before .before in
+pattern-entries-requires : tie.Need-pattern-entries-requires
+pattern-entries-requires c κs =
+    let n = c .before .before in
+    let s = n .before .before .before .before in
     let a = s .args in
-    omega (arith, n .clique-count .ensures, ap length (words-map (n .before .before)), map-words (patternAt (a .words .now) (a .at)) (a .place .cone) (a .place .row) (a .place .pattern), s .pre .1 .1)
+    let p = patternAt (a .words .now) (a .at) in
+    ((s .pre .0 .0, s .pre .0 .1, few-entries n), omega (arith, ap length (words-map n), map-words p (a .first) (a .place .cone) (a .place .row) (a .place .pattern), s .pre .1 .1))
 
 same-length : tie.Need-same-length
 same-length c = c .before .before .standard-pattern-rows .kept .1 .1 .1 .0
@@ -155,7 +163,7 @@ returns-2 c =
     let a = s .args in
     let p = patternAt (a .words .now) (a .at) in
     let ok = s .pre .0 .0 in
-    renamed _ (map cutCode (patternRows p (a .place .row) (a .t))) (rows-cut (c .before .before .before .before)) _ _ _ (w .ensures .0 ∙ sym ((length-map (patternRows p (a .place .row) (a .t)) cutCode ∙ rows-count p ok (a .place .row) (a .t)))) (w .ensures .1)
+    renamed _ (map cutCode (patternRows p (a .place .row) (a .first))) (rows-cut (c .before .before .before .before)) _ _ _ (w .ensures .0 ∙ sym ((length-map (patternRows p (a .place .row) (a .first)) cutCode ∙ rows-count p ok (a .place .row) (a .first)))) (w .ensures .1)
 
 same-length-3 : tie.Need-same-length-3
 same-length-3 c = c .before .before .pattern-cones .kept .1 .1 .1 .0
@@ -182,17 +190,17 @@ returns-4 c =
     renamed _ (compactPart (cut (a .place .cone) (a .place .row) (a .place .pattern) p)) (words-compact (c .before .before .before .before)) _ _ _ (w .ensures .0 ∙ sym (compact-words p (a .place .cone) (a .place .row) (a .place .pattern))) (w .ensures .1)
 
 same-length-5 : tie.Need-same-length-5
-same-length-5 c = c .before .before .map-down .kept .1 .1 .1 .0
+same-length-5 c = c .before .before .pattern-entries .kept .1 .1 .1 .1 .1 .0
 
 returns-5 : tie.Need-returns-5
 returns-5 c =
-    let w = c .before .before .map-down in
-    let n = c .before .before .before .before in
-    let a = n .before .before .before .before .before .before .args in
+    let w = c .before .before .pattern-entries in
+    let n = c .before .before .before .before .before in
+    let a = n .before .before .before .before .args in
     let p = patternAt (a .words .now) (a .at) in
-    renamed _ (mapWords (mapPart (cut (a .place .cone) (a .place .row) (a .place .pattern) p))) (words-map (n .before .before)) _ _ _
-    (w .ensures .0 ∙ ap (λ (m : ℕ). m * 3) (n .clique-count .ensures) ∙ sym (map-words p (a .place .cone) (a .place .row) (a .place .pattern)))
-    (w .ensures .1 ∙ ap (λ (m : ℕ). written (mapWords (map (blockOf (a .place .cone) (a .place .pattern)) (reverse (below m)))) (a .out .now)) (n .clique-count .ensures))
+    renamed _ (mapWords (mapPart (a .first) (cut (a .place .cone) (a .place .row) (a .place .pattern) p))) (words-map n) _ _ _
+    (w .ensures .0 ∙ sym (map-words p (a .first) (a .place .cone) (a .place .row) (a .place .pattern)))
+    (w .ensures .1)
 
 pub write-cut-spec : {M : Type 1} → statement M
 write-cut-spec =
@@ -208,9 +216,9 @@ write-cut-spec =
     enum-told-4
     pattern-cones-requires-2
     enum-told-5
-    cast-map-down
-    clique-count-requires
-    map-down-requires
+    cast-pattern-entries
+    cast-pattern-entries-2
+    pattern-entries-requires
     same-length
     returns
     same-length-2

@@ -1,4 +1,4 @@
-use Prim.Native.Nat.{ℕ, _≤_, _<_, _+_}
+use Prim.Native.Nat.{ℕ, _≤_, _<_, _+_, _*_}
 use native.Mathlib.Nat.{le-trans}
 use mathlib.Core.Path.{_≡_, refl, ap, sym, _∙_}
 use mathlib.Core.List.{List, [], _∷_}
@@ -8,28 +8,32 @@ use lib.ListN.{length-take}
 use Rattle.layout.specs.Lists.{written}
 use Rattle.layout.specs.Cones.{records}
 use Rattle.layout.specs.Patterns.{patterns}
-use Rattle.layout.specs.Blocks.{Part, whole, cut, parts}
+use Rattle.layout.specs.Blocks.{Part, whole, cut, parts, partRows, blockRows, blockRowCount}
 use Rattle.layout.specs.Checks.{noCone}
-use Rattle.layout.proofs.Laid.{sound-laid}
 use Rattle.layout.proofs.Buffers.{copy-done}
 use Rattle.supernode_tree.specs.Reads.{patternAt}
 use Rattle.parts.specs.Ahead.{ahead, Stands, meets, Knows}
+use Rattle.blocks.proofs.Patterns.{cliques-few}
+use Rattle.parts.proofs.Counts.{pattern-few, counted}
 use Rattle.parts.specs.declared.Met.the-variants.{Whole, Cut}
 use Rattle.tables.specs.Tables.{tableOf, partCodes, codesFrom}
 use Rattle.tables.proofs.Codes.{codes-none, part-fits, wrote-part}
-use Rattle.tables.proofs.Tables.{table-is, few-part}
+use Rattle.tables.proofs.Tables.{table-is, few-rows}
 use native.Mathlib.Omega.{arith}
+use borrow.Author.Needs.{needs}
 use Rattle.tables.proofs.write_table.Statement.{statement}
 use Rattle.tables.proofs.write_table.Tie as tie
 
 abbrev Inv-loop : tie.InvT-loop
-Inv-loop table m cones count words out₀ place₀ t₀ out place t =
-    let full = codesFrom table 0 (parts (records cones) (patterns count words)) in
+Inv-loop table m cones count words out₀ place₀ t₀ first₀ out place t first =
+    let ps = parts (records cones) (patterns count words) in
+    let full = codesFrom table 0 ps in
     (t ≤ length full) × (length out ≡ length out₀) × (out ≡ written (take t full) out₀)
-    × (drop t full ≡ codesFrom table t (ahead cones words place)) × Stands m cones words place
+    × (drop t full ≡ codesFrom table first (ahead cones words place)) × Stands m cones words place
+    × (first + blockRowCount (ahead cones words place) ≡ blockRowCount ps) × (first ≤ place .cone * 8421376)
 
 abbrev μ-loop : tie.MeasureT-loop
-μ-loop table m cones count words out₀ place₀ t₀ out place t = length (ahead cones words place)
+μ-loop table m cones count words out₀ place₀ t₀ first₀ out place t first = length (ahead cones words place)
 
 -- the table, and the parts left
 abbrev fullOf : (s : tie.Start Inv-loop μ-loop) → List ℕ
@@ -41,7 +45,7 @@ aheadOf l = let a = l .before .before .before .before .before .args in ahead (a 
 -- it is the layout's, and there is room for it
 same : (s : tie.Start Inv-loop μ-loop)
     → fullOf s ≡ tableOf (s .args .table) (parts (records (s .args .cones .now)) (patterns (s .args .count) (s .args .words .now)))
-same s = table-is (s .args .table) (parts (records (s .args .cones .now)) (patterns (s .args .count) (s .args .words .now))) (sound-laid (s .pre .0) .0)
+same s = table-is (s .args .table) (parts (records (s .args .cones .now)) (patterns (s .args .count) (s .args .words .now)))
 
 room : (s : tie.Start Inv-loop μ-loop) → length (fullOf s) ≤ length (s .args .out .now)
 room s = omega (arith, ap length (same s), s .pre .1 .1)
@@ -74,13 +78,23 @@ met-whole c =
       subst (Knows (a .m) (a .cones .now) (a .words .now) (l .loop .place)) (g .1) (r .next .ensures .1),
     )
 
+-- the augmented rows before it, its own and those after it
+rows-whole : (c : tie.After-known-told Inv-loop μ-loop)
+    → let l = c .before .before .before .before in
+    let a = l .before .before .before .before .before .args in
+    let g = c .before .met .given in
+    l .loop .first + g .0 .0 + blockRowCount (ahead (a .cones .now) (a .words .now) (g .0 .1 .0)) ≡ blockRowCount (parts (records (a .cones .now)) (patterns (a .count) (a .words .now)))
+rows-whole c =
+    let l = c .before .before .before .before in
+    counted partRows (wholeOf c) (aheadOf l) _ (l .loop .first) _ _ (met-whole c .0) (met-whole c .1 .0) (l .loop .inv .5)
+
 fits-whole : (c : tie.After-known-told Inv-loop μ-loop)
     → let l = c .before .before .before .before in
-    l .loop .t + length (partCodes (l .before .before .before .before .before .args .table) (l .loop .t) (wholeOf c)) ≤ length (fullOf (l .before .before .before .before .before))
+    l .loop .t + length (partCodes (l .before .before .before .before .before .args .table) (l .loop .first) (wholeOf c)) ≤ length (fullOf (l .before .before .before .before .before))
 fits-whole c =
     let l = c .before .before .before .before in
     let s = l .before .before .before .before .before in
-    part-fits (s .args .table) (fullOf s) (l .loop .t) (l .loop .inv .0) (wholeOf c) (aheadOf l) _ (l .loop .inv .3) (met-whole c .0) .2
+    part-fits (s .args .table) (fullOf s) (l .loop .t) (l .loop .first) (l .loop .inv .0) (wholeOf c) (aheadOf l) _ (l .loop .inv .3) (met-whole c .0) .2
 
 -- a cut cone was met
 abbrev cutOf : (c : tie.After-known-told2 Inv-loop μ-loop) → Part
@@ -104,13 +118,25 @@ met-cut c =
       subst (Knows (a .m) (a .cones .now) (a .words .now) (l .loop .place)) (g .1) (r .next .ensures .1),
     )
 
+rows-cut : (c : tie.After-known-told2 Inv-loop μ-loop)
+    → let l = c .before .before .before .before in
+    let a = l .before .before .before .before .before .args in
+    let g = c .before .met2 .given in
+    (l .loop .first + blockRows (patternAt (a .words .now) (g .0 .0)) + blockRowCount (ahead (a .cones .now) (a .words .now) (g .0 .1 .0)) ≡ blockRowCount (parts (records (a .cones .now)) (patterns (a .count) (a .words .now))))
+    × (blockRows (patternAt (a .words .now) (g .0 .0)) ≤ 8421376)
+rows-cut c =
+    let l = c .before .before .before .before in
+    let p = patternAt (l .before .before .before .before .before .args .words .now) (c .before .met2 .given .0 .0) in
+    let h = met-cut c .1 in
+    (counted partRows (cutOf c) (aheadOf l) _ (l .loop .first) _ _ (met-cut c .0) refl (l .loop .inv .5), omega (arith, pattern-few p (h .1) (h .2) .0, cliques-few p (h .1), h .2))
+
 fits-cut : (c : tie.After-known-told2 Inv-loop μ-loop)
     → let l = c .before .before .before .before in
-    l .loop .t + length (partCodes (l .before .before .before .before .before .args .table) (l .loop .t) (cutOf c)) ≤ length (fullOf (l .before .before .before .before .before))
+    l .loop .t + length (partCodes (l .before .before .before .before .before .args .table) (l .loop .first) (cutOf c)) ≤ length (fullOf (l .before .before .before .before .before))
 fits-cut c =
     let l = c .before .before .before .before in
     let s = l .before .before .before .before .before in
-    part-fits (s .args .table) (fullOf s) (l .loop .t) (l .loop .inv .0) (cutOf c) (aheadOf l) _ (l .loop .inv .3) (met-cut c .0) .2
+    part-fits (s .args .table) (fullOf s) (l .loop .t) (l .loop .first) (l .loop .inv .0) (cutOf c) (aheadOf l) _ (l .loop .inv .3) (met-cut c .0) .2
 
 start-requires : tie.Need-start-requires Inv-loop μ-loop
 start-requires c κs = c .before .before .before .pre .0
@@ -118,7 +144,8 @@ start-requires c κs = c .before .before .before .pre .0
 loop-holds : tie.Need-loop-holds Inv-loop μ-loop
 loop-holds c =
     let s = c .before .before .before .before in
-    (omega arith, refl, refl, ap (codesFrom (s .args .table) 0) (sym (c .start .ensures .0)), c .start .ensures .1)
+    let e = c .start .ensures .0 in
+    (omega arith, refl, refl, ap (codesFrom (s .args .table) 0) (sym e), c .start .ensures .1, omega (arith, ap blockRowCount e), omega arith)
 
 next-requires : tie.Need-next-requires Inv-loop μ-loop
 next-requires c κs = c .loop .inv .4
@@ -144,12 +171,22 @@ write-whole-requires c κs =
     let l = k .before .before .before .before in
     let s = l .before .before .before .before .before in
     let h = met-whole k .1 in
-    ((h .0, omega (arith, h .1, l .loop .inv .4 .few), h .2, h .3), simp (length-take, length-drop) (omega (arith, fits-whole k, room s)))
+    ((h .0, omega (arith, h .1, l .loop .inv .4 .few), h .2, h .3), (few-rows (s .args .table) _ _ (s .pre .1 .0) (omega (arith, rows-whole k)), simp (length-take, length-drop) (omega (arith, fits-whole k, room s))))
 
 add-t : tie.Need-add-t Inv-loop μ-loop
 add-t c =
     let k = c .before .before .before .before in
     omega (arith, fits-whole k, c .before .before .write-whole .ensures .0, small (k .before .before .before .before))
+
+cast-first : tie.Need-cast-first Inv-loop μ-loop
+cast-first c = search needs
+
+add-first : tie.Need-add-first Inv-loop μ-loop
+add-first c =
+    let k = c .before .before .before .before in
+    let l = k .before .before .before .before in
+    let h = met-whole k .1 in
+    omega (arith, l .loop .inv .6, h .2)
 
 loop-less : tie.Need-loop-less Inv-loop μ-loop
 loop-less c =
@@ -162,9 +199,10 @@ loop-again c =
     let l = k .before .before .before .before in
     let s = l .before .before .before .before .before in
     let w = c .before .before .write-whole in
-    let e = wrote-part (s .args .table) (fullOf s) (l .loop .t) (l .loop .inv .0) (wholeOf k) (aheadOf l) _ (l .loop .inv .3) (met-whole k .0)
-    (s .args .out .now) (l .loop .out) (w .last .1 .1 .1 .1 .0) (room s) (l .loop .inv .1) (l .loop .inv .2) (w .result) (w .ensures .0) (w .ensures .1) in
-    (e .0, e .1, e .2, e .3, met-whole k .1 .5)
+    let e = wrote-part (s .args .table) (fullOf s) (l .loop .t) (l .loop .first) (l .loop .inv .0) (wholeOf k) (aheadOf l) _ (l .loop .inv .3) (met-whole k .0)
+    (s .args .out .now) (l .loop .out) (w .last .1 .1 .1 .1 .1 .0) (room s) (l .loop .inv .1) (l .loop .inv .2) (w .result) (w .ensures .0) (w .ensures .1) _ (met-whole k .1 .0) in
+    let h = met-whole k .1 in
+    (e .0, e .1, e .2, e .3, h .5, omega (arith, rows-whole k), omega (arith, l .loop .inv .6, h .1, h .4, l .loop .inv .4 .few))
 
 enum-known-met-2 : tie.Need-enum-known-met-2 Inv-loop μ-loop
 enum-known-met-2 c = c .match .keys2
@@ -186,12 +224,10 @@ write-cut-requires c κs =
     let k = c .before in
     let l = k .before .before .before .before in
     let s = l .before .before .before .before .before in
-    let q = l .loop .place in
-    let ps = parts (records (s .args .cones .now)) (patterns (s .args .count) (s .args .words .now)) in
     let h = met-cut k .1 in (
       (h .1, h .2, omega (arith, h .3, l .loop .inv .4 .few), h .4),
       (
-        few-part (s .args .table) ps (sound-laid (s .pre .0) .0) (s .pre .1 .0) (l .loop .t) (q .cone) (q .row) (q .pattern) (patternAt (s .args .words .now) (k .before .met2 .given .0 .0)) (h .1) (fits-cut k),
+        few-rows (s .args .table) _ _ (s .pre .1 .0) (omega (arith, rows-cut k .0)),
         simp (length-take, length-drop) (omega (arith, fits-cut k, room s)),
       ),
     )
@@ -201,20 +237,31 @@ add-t-2 c =
     let k = c .before .before .before .before in
     omega (arith, fits-cut k, c .before .before .write-cut .ensures .0, small (k .before .before .before .before))
 
+get-decomposed-dim-and-overlaps-requires : tie.Need-get-decomposed-dim-and-overlaps-requires Inv-loop μ-loop
+get-decomposed-dim-and-overlaps-requires c κs = let h = met-cut (c .before .before .before .before) .1 in (h .1, h .2)
+
+add-first-2 : tie.Need-add-first-2 Inv-loop μ-loop
+add-first-2 c =
+    let k = c .before .before .before .before .before .before in
+    let l = k .before .before .before .before in
+    omega (arith, l .loop .inv .6, met-cut k .1 .4, rows-cut k .1, c .before .get-decomposed-dim-and-overlaps .ensures .0)
+
 loop-less-2 : tie.Need-loop-less-2 Inv-loop μ-loop
 loop-less-2 c =
-    let k = c .before .before .before .before in
+    let k = c .before .before .before .before .before .before in
     omega (arith, ap length (met-cut k .0))
 
 loop-again-2 : tie.Need-loop-again-2 Inv-loop μ-loop
 loop-again-2 c =
-    let k = c .before .before .before .before in
+    let d = c .before .get-decomposed-dim-and-overlaps in
+    let k = c .before .before .before .before .before .before in
     let l = k .before .before .before .before in
     let s = l .before .before .before .before .before in
-    let w = c .before .before .write-cut in
-    let e = wrote-part (s .args .table) (fullOf s) (l .loop .t) (l .loop .inv .0) (cutOf k) (aheadOf l) _ (l .loop .inv .3) (met-cut k .0)
-    (s .args .out .now) (l .loop .out) (w .last .1 .1 .1 .1 .1 .0) (room s) (l .loop .inv .1) (l .loop .inv .2) (w .result) (w .ensures .0) (w .ensures .1) in
-    (e .0, e .1, e .2, e .3, met-cut k .1 .6)
+    let w = c .before .before .before .before .write-cut in
+    let e = wrote-part (s .args .table) (fullOf s) (l .loop .t) (l .loop .first) (l .loop .inv .0) (cutOf k) (aheadOf l) _ (l .loop .inv .3) (met-cut k .0)
+    (s .args .out .now) (l .loop .out) (w .last .1 .1 .1 .1 .1 .0) (room s) (l .loop .inv .1) (l .loop .inv .2) (w .result) (w .ensures .0) (w .ensures .1) _ (d .ensures .0) in
+    let h = met-cut k .1 in
+    (e .0, e .1, e .2, e .3, h .6, omega (arith, rows-cut k .0, d .ensures .0), omega (arith, l .loop .inv .6, rows-cut k .1, d .ensures .0, h .5))
 
 enum-told : tie.Need-enum-told Inv-loop μ-loop
 enum-told c = c .match .keys3
@@ -229,7 +276,7 @@ returns c =
     let s = l .before .before .before .before .before in
     let a = s .args in
     let none : aheadOf l ≡ [] = r .next .ensures .0 ∙ ap (meets (a .cones .now) (a .words .now) (l .loop .place)) (c .enum-told .given .1) in
-    let left : drop (l .loop .t) (fullOf s) ≡ [] = l .loop .inv .3 ∙ ap (codesFrom (a .table) (l .loop .t)) none ∙ codes-none (a .table) (l .loop .t) in
+    let left : drop (l .loop .t) (fullOf s) ≡ [] = l .loop .inv .3 ∙ ap (codesFrom (a .table) (l .loop .first)) none ∙ codes-none (a .table) (l .loop .first) in
     let all : length (fullOf s) ≤ l .loop .t = omega (arith, ap length left, length-drop (l .loop .t) (fullOf s)) in
     let t : l .loop .t ≡ length (fullOf s) = omega arith in (
       t ∙ ap length (same s),
@@ -252,6 +299,8 @@ write-table-spec =
     part-write-whole-end
     write-whole-requires
     add-t
+    cast-first
+    add-first
     loop-less
     loop-again
     enum-known-met-2
@@ -261,6 +310,8 @@ write-table-spec =
     part-write-cut-end
     write-cut-requires
     add-t-2
+    get-decomposed-dim-and-overlaps-requires
+    add-first-2
     loop-less-2
     loop-again-2
     enum-told
