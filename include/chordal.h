@@ -30,7 +30,7 @@ enum chordal_refusal {
                                 record 65,536, a PSD size 256, an index 255 (32,895 back); or the route is no route */
     CHORDAL_STARTS = 2,      /* starts of A or P that are not n + 1 numbers from 0 to the number of values, never falling,
                                 or rows that are not as many as values */
-    CHORDAL_ROWS = 3,        /* rows in a column of A or P do not strictly rise, or lie outside */
+    CHORDAL_ROWS = 3,        /* rows in a column of A fall or in one of P do not strictly rise, or lie outside */
     CHORDAL_CONES = 4,       /* a cone record, the cones' rows, or the length of alphas, q or b */
     CHORDAL_PATTERNS = 5,    /* pattern words, orig_index, vertex count or ordering; no permutation */
     CHORDAL_TREE = 6,        /* no clique, a parent that is not later, a last clique with parent or separator */
@@ -67,8 +67,10 @@ uint32_t chordal_sizes(
     uint32_t pattern_count, const uint32_t *pattern_words, size_t pattern_words_len,
     uint32_t *out, size_t out_len);
 
-/* The augmented problem. The map has five words for each cone: orig_index, pattern number or CHORDAL_NONE, clique
- * number or 0, first augmented row (the number of rows before it), row count; it is empty on the standard route. Refusals 1 to 7, 9 to 11. */
+/* The augmented problem. Repeats of a row in a column of A are added from left to right on the compact route, each sum
+ * rounded, and make one entry, a sum of zero too; the standard route keeps them as stored. The map has five words for
+ * each cone: orig_index, pattern number or CHORDAL_NONE, clique number or 0, first augmented row (the number of rows
+ * before it), row count; it is empty on the standard route. Refusals 1 to 7, 9 to 11. */
 uint32_t chordal_cut(
     uint32_t route, uint32_t n, uint32_t m,
     const uint32_t *p_starts, size_t p_starts_len, const uint32_t *p_rows, size_t p_rows_len,

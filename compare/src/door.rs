@@ -466,7 +466,7 @@ fn cut_wrong(o: &CutOutputs, cut: &Cut, rooms: &[usize; 11]) -> Option<&'static 
         ("q", all_bits(&o.q, &values_after(&cut.q, rooms[3]))),
         ("A starts", o.a_starts == words_after(&cut.a.starts, rooms[4])),
         ("A rows", o.a_rows == words_after(&cut.a.rows, rooms[5])),
-        ("A values", all_bits(&o.a_values, &values_after(&cut.a.values, rooms[6]))),
+        ("A values", all_bits_but(&o.a_values, &values_after(&cut.a.values, rooms[6]), &cut.sums)),
         ("b", all_bits(&o.b, &values_after(&cut.b, rooms[7]))),
         ("cones", o.cones == words_after(&cut.cones, rooms[8])),
         ("alphas", all_bits(&o.alphas, &values_after(&cut.alphas, rooms[9]))),

@@ -213,11 +213,14 @@ fn starts_right(n: u32, c: &Columns) -> bool {
         && c.rows.len() == c.values.len()
 }
 
-fn rows_right(m: u32, c: &Columns) -> bool {
-    c.starts.windows(2).all(|w| {
-        let rows = &c.rows[w[0] as usize..w[1] as usize];
-        rows.iter().all(|&r| r < m) && rows.windows(2).all(|r| r[0] < r[1])
-    })
+// the rows of each column, where the starts are right
+fn column_rows(c: &Columns) -> impl Iterator<Item = &[u32]> {
+    c.starts.windows(2).map(|w| &c.rows[w[0] as usize..w[1] as usize])
+}
+
+// whether rows lie inside and each two neighbours in a column are in order
+fn rows_right(m: u32, c: &Columns, in_order: fn(u32, u32) -> bool) -> bool {
+    column_rows(c).all(|rows| rows.iter().all(|&r| r < m) && rows.windows(2).all(|r| in_order(r[0], r[1])))
 }
 
 fn cones_read(m: u32, words: &[u32]) -> bool {
@@ -290,7 +293,8 @@ pub fn first_seven(p: &Problem) -> Result<Layout, u32> {
     if !starts_right(p.n, &p.a) || !starts_right(p.n, &p.p) {
         return Err(2);
     }
-    if !rows_right(p.m, &p.a) || !rows_right(p.n, &p.p) {
+    // A may repeat a row, P may not
+    if !rows_right(p.m, &p.a, |r, next| r <= next) || !rows_right(p.n, &p.p, |r, next| r < next) {
         return Err(3);
     }
     let alphas: u64 = records(&p.cones).iter().map(Cone::alphas).sum();
@@ -544,9 +548,45 @@ pub fn accepted(route: Route, p: &Problem) -> Result<Layout, u32> {
     Ok(layout)
 }
 
+/// A with each run of one row in a column as one entry: its first value as it is, each further one added to it from left
+/// to right, as `new_from_triplets` does. Beside it how many entries each was.
+pub fn summed(a: &Columns) -> (Columns, Vec<usize>) {
+    let mut out = Columns { starts: vec![0], ..Columns::default() };
+    let mut counts = vec![];
+    for w in a.starts.windows(2) {
+        let first = out.rows.len();
+        for k in w[0] as usize..w[1] as usize {
+            if out.rows.len() > first && out.rows.last() == Some(&a.rows[k]) {
+                *out.values.last_mut().unwrap() += a.values[k];
+                *counts.last_mut().unwrap() += 1;
+            } else {
+                out.rows.push(a.rows[k]);
+                out.values.push(a.values[k]);
+                counts.push(1);
+            }
+        }
+        out.starts.push(out.rows.len() as u32);
+    }
+    (out, counts)
+}
+
+/// Whether A repeats a row of a decomposed cone in a column, given a problem that has passed checks 1 to 7.
+pub fn repeats_in_decomposed(p: &Problem, layout: &Layout) -> bool {
+    let cut = |row: u32| {
+        let row = row as u64;
+        let here = |part: &Part| part.first_row <= row && row < part.first_row + part.cone.rows();
+        layout.parts.iter().any(|part| part.pattern.is_some() && here(part))
+    };
+    column_rows(&p.a).any(|rows| rows.windows(2).any(|r| r[0] == r[1] && cut(r[0])))
+}
+
 fn lengths(route: Route, p: &Problem, layout: &Layout) -> [usize; 11] {
     let added = layout.added(route);
-    let entries = p.a.values.len() + 2 * added;
+    let kept = match route {
+        Route::Standard => p.a.values.len(),
+        Route::Compact => summed(&p.a).0.values.len(),
+    };
+    let entries = kept + 2 * added;
     [
         p.n as usize + added + 1,
         p.p.rows.len(),
@@ -584,11 +624,12 @@ pub fn cut(route: Route, p: &Problem, rooms: Option<&[usize; 11]>) -> Result<Cut
     extended.starts.extend(std::iter::repeat_n(last, added));
     let mut q = p.q.clone();
     q.extend(std::iter::repeat_n(0.0, added));
-    let (a, b) = match route {
+    let (a, b, sums) = match route {
         Route::Compact => compact_a_b(p, &layout),
         Route::Standard => standard_a_b(p, &layout),
     };
-    Ok(Cut { p: extended, q, a, b, cones: layout.cones(route, p.m), alphas: p.alphas.clone(), map: layout.map(route) })
+    let (cones, alphas, map) = (layout.cones(route, p.m), p.alphas.clone(), layout.map(route));
+    Ok(Cut { p: extended, q, a, b, cones, alphas, map, sums })
 }
 
 fn push_column(out: &mut Columns, mut entries: Vec<(usize, f64)>) {
@@ -600,7 +641,8 @@ fn push_column(out: &mut Columns, mut entries: Vec<(usize, f64)>) {
     out.starts.push(out.values.len() as u32);
 }
 
-fn compact_a_b(p: &Problem, layout: &Layout) -> (Columns, Vec<f64>) {
+// A, b, and the places in A of sums of several entries
+fn compact_a_b(p: &Problem, layout: &Layout) -> (Columns, Vec<f64>, Vec<usize>) {
     let rows = layout.compact_rows();
     // where a value in an original row moves to
     let mut moved = vec![usize::MAX; p.m as usize];
@@ -609,10 +651,16 @@ fn compact_a_b(p: &Problem, layout: &Layout) -> (Columns, Vec<f64>) {
             moved[o] = at;
         }
     }
+    let (once, counts) = summed(&p.a);
     let mut a = Columns { starts: vec![0], ..Columns::default() };
-    for w in p.a.starts.windows(2) {
-        let entries = (w[0] as usize..w[1] as usize).map(|k| (moved[p.a.rows[k] as usize], p.a.values[k])).collect();
-        push_column(&mut a, entries);
+    let mut sums = vec![];
+    for w in once.starts.windows(2) {
+        let column = w[0] as usize..w[1] as usize;
+        let to = |k: usize| moved[once.rows[k] as usize];
+        push_column(&mut a, column.clone().map(|k| (to(k), once.values[k])).collect());
+        let mut order: Vec<usize> = column.collect();
+        order.sort_by_key(|&k| to(k));
+        sums.extend((w[0] as usize..).zip(order).filter(|&(_, k)| counts[k] > 1).map(|(place, _)| place));
     }
     for (at, row) in rows.iter().enumerate() {
         if let Row::Overlap(_, parent) = *row {
@@ -625,10 +673,11 @@ fn compact_a_b(p: &Problem, layout: &Layout) -> (Columns, Vec<f64>) {
             b[moved[o]] = v;
         }
     }
-    (a, b)
+    (a, b, sums)
 }
 
-fn standard_a_b(p: &Problem, layout: &Layout) -> (Columns, Vec<f64>) {
+// A with repeated entries as stored
+fn standard_a_b(p: &Problem, layout: &Layout) -> (Columns, Vec<f64>, Vec<usize>) {
     let rows = layout.standard_rows();
     let mut a = p.a.clone();
     for (at, &o) in rows.iter().enumerate() {
@@ -636,7 +685,7 @@ fn standard_a_b(p: &Problem, layout: &Layout) -> (Columns, Vec<f64>) {
     }
     let mut b = p.b.clone();
     b.extend(std::iter::repeat_n(0.0, rows.len()));
-    (a, b)
+    (a, b, vec![])
 }
 
 // ---- the joining
@@ -854,6 +903,34 @@ mod marked_cases {
         p.a = Columns { starts: vec![0, 1], rows: vec![3], values: vec![0.0] };
         assert_eq!(cut(Route::Compact, &p, None).unwrap_err(), 9);
         assert!(cut(Route::Standard, &p, None).is_ok());
+    }
+
+    // two cameras see a marker, in the seam and in a cone that is not cut
+    #[test]
+    fn repeated_entries() {
+        let mut p = three_projectors();
+        p.cones.extend([1, 1, 0]);
+        p.m = 7;
+        p.b.push(0.0);
+        p.a = Columns {
+            starts: vec![0, 8],
+            rows: vec![0, 2, 2, 2, 4, 5, 6, 6],
+            values: vec![-0.0, 1e16, 1.0, -1e16, 40.0, 50.0, 2.0, -2.0],
+        };
+        let c = cut(Route::Compact, &p, None).unwrap();
+        assert_eq!(sizes(Route::Compact, &p, 11).unwrap()[5], 7);
+        assert_eq!(c.a.starts, [0, 5, 7]);
+        assert_eq!(c.a.rows, [0, 1, 2, 3, 6, 0, 5]);
+        // from left to right the one is lost; alone the zero keeps its sign; a sum that is zero stays an entry
+        assert!(all_bits(&c.a.values, &[0.0, 40.0, 50.0, -0.0, 0.0, -1.0, 1.0]));
+        assert_eq!(c.sums, [0, 4]);
+        let c = cut(Route::Standard, &p, None).unwrap();
+        assert_eq!((&c.a.rows[..8], &c.a.values[..8]), (&p.a.rows[..], &p.a.values[..]));
+        p.a.rows.swap(3, 4);
+        assert_eq!(first_seven(&p).err(), Some(3));
+        let mut p = three_projectors();
+        p.p = Columns { starts: vec![0, 2], rows: vec![0, 0], values: vec![1.0, 2.0] };
+        assert_eq!(first_seven(&p).err(), Some(3));
     }
 
     // cones without rows, before, between and after others

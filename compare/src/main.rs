@@ -24,7 +24,8 @@ use std::time::Instant;
 const HELP: &str = "compare/run [--cases N] [--seed S] [--routes standard|compact|both]
     N random problems from seed S (100000, 1), about a third of them damaged, on the routes (both)
 compare/run --case K --seed S      one case again, its problem printed
-compare/run --exhaustive           every clique tree on up to 4 vertices, every ordering, with a column and without
+compare/run --exhaustive           every clique tree on up to 4 vertices, every ordering; with a column, with entries
+                                   repeated and without a column
 compare/run --vectors FILE         stored cases (JSON, one a line), told by the file's name: cases.jsonl, q-N.jsonl
 compare/run --differences          clarabel on the inputs of docs/DIFFERENCES.md
 compare/run --speed                times, with ratios where the door is linked
@@ -42,11 +43,13 @@ struct Options {
     routes: Vec<Route>,
 }
 
-// the problem of a case: some have no columns, and one in three is damaged, in one to three places
+// the problem of a case: some have no columns, some repeat entries, and one in three is damaged, in one to three places
 fn case_problem(d: &mut Draws, scale: Scale) -> Problem {
     let mut p = random::problem(d, scale);
-    if d.chance(6) {
-        random::no_columns(&mut p);
+    match d.below(20) {
+        0 => random::no_columns(&mut p),
+        1..=7 => random::repeat_entries(d, &mut p),
+        _ => {}
     }
     if d.chance(33) {
         for _ in 0..1 + d.below(3).saturating_sub(d.below(2)) {
@@ -167,10 +170,10 @@ fn exhaustive_cases(report: &mut Report, o: &Options) {
         exhaustive::patterns(vertices, &mut d, &mut |d, pattern| {
             seen += 1;
             let mut p = exhaustive::problem(d, &pattern);
-            for columns in [true, false] {
-                if !columns {
-                    random::no_columns(&mut p);
-                }
+            let changes: [fn(&mut Draws, &mut Problem); 3] =
+                [|_, _| (), random::repeat_entries, |_, p| random::no_columns(p)];
+            for change in changes {
+                change(d, &mut p);
                 for &route in &o.routes {
                     let shape = expected::solution_shape(route, &p);
                     if shape.is_none() || expected::accepted(route, &p).is_err() {
@@ -297,6 +300,10 @@ fn limits() {
         ("entries 262145 of A", 1, 1),
         ("entries 262144 of P", 0, 0),
         ("entries 262145 of P", 1, 1),
+        ("entries 262144 in one row", 0, 0),
+        ("entries 262144 in one row, cut", 0, 0),
+        ("entries 262145 in one row", 1, 1),
+        ("entries 262145 in one row, cut", 1, 1),
         ("standard rows 262144, 0 over", 0, 10),
         ("standard rows 262144, 1 over", 10, 10),
         ("overlaps 131072, 0 over", 0, 0),

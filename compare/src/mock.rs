@@ -1,5 +1,5 @@
 //! A door made of the plain reading, with the door's own signatures, so that the comparison through it can be
-//! tried without libdoor.a. `COMPARE_MOCK_FAULT` (1 to 11) plants a fault that the comparison must find.
+//! tried without libdoor.a. `COMPARE_MOCK_FAULT` (1 to 12) plants a fault that the comparison must find.
 #![allow(clippy::too_many_arguments, clippy::missing_safety_doc)]
 
 use crate::expected;
@@ -211,6 +211,19 @@ pub unsafe extern "C" fn chordal_cut(
     let Some(route) = route_of(route) else {
         return 1;
     };
+    let mut p = p;
+    if fault() == 12 && route == Route::Compact && expected::first_seven(&p).is_ok() {
+        // runs added from right to left
+        for w in p.a.starts.windows(2) {
+            let (rows, values) = (&p.a.rows[w[0] as usize..], &mut p.a.values[w[0] as usize..w[1] as usize]);
+            let mut first = 0;
+            while first < values.len() {
+                let end = (first..values.len()).find(|&k| rows[k] != rows[first]).unwrap_or(values.len());
+                values[first..end].reverse();
+                first = end;
+            }
+        }
+    }
     let rooms = [l0, l1, l2, l3, l4, l5, l6, l7, l8, l9, l10];
     match expected::cut(route, &p, Some(&rooms)) {
         // no columns still refused on the compact route

@@ -64,7 +64,8 @@ impl Problem {
     }
 }
 
-/// What the cut writes. `map` is words, MAP_WORDS an entry; empty on the standard route.
+/// What the cut writes. `map` is words, MAP_WORDS an entry; empty on the standard route. `sums` are the places in A of
+/// sums of several entries, in which any NaN is as good as another.
 #[derive(Clone, Debug, Default)]
 pub struct Cut {
     pub p: Columns,
@@ -74,6 +75,7 @@ pub struct Cut {
     pub cones: Vec<u32>,
     pub alphas: Vec<f64>,
     pub map: Vec<u32>,
+    pub sums: Vec<usize>,
 }
 
 #[derive(Clone, Debug, Default)]
@@ -108,4 +110,15 @@ pub fn all_same(a: &[f64], b: &[f64]) -> bool {
 /// Equal bits, NaNs included.
 pub fn all_bits(a: &[f64], b: &[f64]) -> bool {
     a.len() == b.len() && a.iter().zip(b).all(|(x, y)| x.to_bits() == y.to_bits())
+}
+
+/// Equal bits, NaNs included, save that at the places of `sums` any NaN equals any NaN.
+pub fn all_bits_but(a: &[f64], b: &[f64], sums: &[usize]) -> bool {
+    let mut b = b.to_vec();
+    for &k in sums {
+        if a.get(k).is_some_and(|x| x.is_nan()) && b.get(k).is_some_and(|y| y.is_nan()) {
+            b[k] = a[k];
+        }
+    }
+    all_bits(a, &b)
 }

@@ -223,6 +223,30 @@ pub fn no_columns(p: &mut Problem) {
     p.p = p.a.clone();
 }
 
+/// Repeats entries of A as an exporter does for markers that several cameras see: some entries are followed by one to
+/// three more of their row, with values of their own.
+pub fn repeat_entries(d: &mut Draws, p: &mut Problem) {
+    let entries = p.a.rows.len().min(p.a.values.len()) as u32;
+    if p.a.starts.windows(2).any(|w| w[0] > w[1] || w[1] > entries) {
+        return;
+    }
+    let percent = d.pick(&[10, 40, 100]);
+    let mut a = Columns { starts: vec![0], ..Columns::default() };
+    for w in p.a.starts.windows(2) {
+        for k in w[0] as usize..w[1] as usize {
+            let more = if d.chance(percent) { 1 + d.below(3).saturating_sub(d.below(2)) } else { 0 };
+            a.rows.extend(std::iter::repeat_n(p.a.rows[k], 1 + more));
+            a.values.push(p.a.values[k]);
+            // such that the order of the sum is seen, or any
+            let order = d.chance(50);
+            a.values
+                .extend((0..more).map(|_| if order { d.pick(&[1e16, 1.0, -1e16, -p.a.values[k]]) } else { d.float() }));
+        }
+        a.starts.push(a.rows.len() as u32);
+    }
+    p.a = a;
+}
+
 // moves an entry to the row above or below it, or to the column beside its own, or takes the last one away
 fn change_places(d: &mut Draws, c: &mut Columns) {
     if c.rows.is_empty() {
@@ -612,6 +636,17 @@ pub fn at_limits() -> Vec<(String, Problem)> {
             c.values = (0..c.rows.len()).map(|i| i as f64).collect();
             *(if in_p { &mut p.p } else { &mut p.a }) = c;
             out.push((format!("entries {entries} of {}", if in_p { "P" } else { "A" }), p));
+        }
+    }
+    // a column with as many entries as there may be, all in one row of a cone that is cut or not
+    for entries in [262_144, 262_145] {
+        for patterns in [vec![], vec![band_pattern(0, 2, 0)]] {
+            let cut = if patterns.is_empty() { "" } else { ", cut" };
+            let mut p = with(1, vec![6, 2, 0], patterns);
+            p.a.starts[1] = entries;
+            p.a.rows = vec![0; entries as usize];
+            p.a.values = (0..entries).map(|i| i as f64 / 3.0).collect();
+            out.push((format!("entries {entries} in one row{cut}"), p));
         }
     }
     // The standard route's rows at their bound: a band, filled up by a nonnegative cone whose rows count twice, and

@@ -344,11 +344,36 @@ fn same_layout_tables(name: &str, p: &Problem) {
     beside_line(name, "same layout", "its added tables compared alone, in Rust", times);
 }
 
+// every entry twice beside every entry once
+fn doubled_entries(name: &str, p: &Problem) {
+    let mut doubled = p.clone();
+    doubled.a.starts.iter_mut().for_each(|start| *start *= 2);
+    doubled.a.rows = p.a.rows.iter().flat_map(|&row| [row, row]).collect();
+    doubled.a.values = p.a.values.iter().flat_map(|&value| [value, value]).collect();
+    for route in [Route::Compact, Route::Standard] {
+        let lengths = [&doubled, p].map(|p| expected::sizes(route, p, 11));
+        let [Ok(twice), Ok(once)] = lengths else { continue };
+        let (mut two, mut one) = (door::cut_outputs(&twice), door::cut_outputs(&once));
+        let answers = [door::cut(route.code(), &doubled, &mut two), door::cut(route.code(), p, &mut one)];
+        assert_eq!(answers, [0, 0], "the door refuses {name}");
+        let times = medians([
+            &mut || {
+                black_box(door::cut(route.code(), &doubled, &mut two));
+            },
+            &mut || {
+                black_box(door::cut(route.code(), p, &mut one));
+            },
+        ]);
+        beside_line(name, &format!("{} cut, every entry doubled", route.name()), "the same, every entry once", times);
+    }
+}
+
 fn requests() {
     println!("\n| input | call | door | beside | time | door / beside |");
     println!("|---|---|---|---|---|---|");
     for (name, p) in inputs() {
         same_layout_tables(&name, &p);
+        doubled_entries(&name, &p);
     }
 }
 

@@ -15,6 +15,24 @@ struct Case {
     values: Vec<Vec<f64>>,
 }
 
+// the room that crate replay has for one output, and for a case's lists of either kind with their places
+const OUTPUT: usize = 4_096;
+const LISTS: usize = 16_384 - 32;
+
+impl Case {
+    fn fits(&self) -> bool {
+        let lengths = |words: bool| {
+            let each: Vec<usize> = if words {
+                self.words.iter().map(Vec::len).collect()
+            } else {
+                self.values.iter().map(Vec::len).collect()
+            };
+            each.iter().all(|&l| l <= OUTPUT) && each.iter().sum::<usize>() <= LISTS
+        };
+        lengths(true) && lengths(false)
+    }
+}
+
 fn text(cases: &[Case]) -> String {
     let mut out = format!("{:08x}\n", cases.len());
     for case in cases {
@@ -86,7 +104,10 @@ fn renumber(d: &mut Draws, index: u64) -> Case {
 }
 
 fn check_problem(d: &mut Draws, index: u64) -> Case {
-    let p = some_problem(d, index);
+    let mut p = some_problem(d, index);
+    if index % 10 == 4 {
+        random::repeat_entries(d, &mut p);
+    }
     let mut words = vec![vec![p.n, p.m, p.pattern_count], vec![number(&expected::first_seven(&p))]];
     words.extend(problem_words(&p));
     Case { words, values: problem_values(&p) }
@@ -135,11 +156,13 @@ fn some_route(d: &mut Draws) -> Route {
     }
 }
 
-/// A problem that is right, or has faults of any check that a route makes; some have no columns.
+/// A problem that is right, or has faults of any check that a route makes; some have no columns, some repeat entries.
 fn some_problem_on(d: &mut Draws, index: u64) -> Problem {
     let mut p = random::problem(d, random::SMALL);
-    if index % 10 == 8 {
-        random::no_columns(&mut p);
+    match index % 10 {
+        8 => random::no_columns(&mut p),
+        1 | 6 => random::repeat_entries(d, &mut p),
+        _ => {}
     }
     for _ in 0..(index % 4) / 2 {
         let check = 1 + d.below(9);
@@ -246,6 +269,7 @@ pub fn write(folder: &Path, cases: u64, seed: u64) -> io::Result<()> {
     for (k, (name, family)) in families.iter().enumerate() {
         let made: Vec<Case> =
             (0..cases).map(|index| family(&mut crate::case_draws(seed + k as u64, index), index)).collect();
+        assert!(made.iter().all(Case::fits), "a case of {name} has more than crate replay has room for");
         fs::write(folder.join(name), text(&made))?;
     }
     Ok(())

@@ -213,6 +213,7 @@ fn stored_cut(j: &Json, ours: &Cut) -> Result<Cut, String> {
         cones: j.get("cones")?.numbers()?,
         alphas: j.get("alpha")?.floats()?,
         map: j.get("cone_map")?.map(&ours.map)?,
+        sums: ours.sums.clone(),
     })
 }
 
@@ -222,10 +223,11 @@ const NAMES: [&str; 11] =
 // how often the door is asked about a case, now and then with a room too short
 const TIMES: usize = 4;
 
-/// What the cases of a file are compared into, and with which draws.
+/// What the cases of a file are compared into, and with which draws. `base` cases are from before document 02.
 struct Run<'a> {
     report: &'a mut Report,
     draws: &'a mut Draws,
+    base: bool,
 }
 
 impl Run<'_> {
@@ -247,9 +249,16 @@ impl Run<'_> {
         wrong: impl FnOnce(&T, &Json) -> Result<Option<String>, String>,
     ) -> Result<(), String> {
         let wrong = match (answer, stored.refused()) {
-            // from before Q-7
-            (_, Some(8)) if p.n == 0 => {
-                self.report.count(format!("stored {call}: 8, which does not occur any more; passed over"));
+            (_, Some(8)) if self.base && p.n == 0 => {
+                self.report.count(format!("stored {call}: 8, which does not occur any more (Q-7); passed over"));
+                return Ok(());
+            }
+            (answer, Some(3))
+                if self.base
+                    && answer.as_ref().err() != Some(&3)
+                    && p.a.rows.len() > expected::summed(&p.a).0.rows.len() =>
+            {
+                self.report.count(format!("stored {call}: 3, of repeats, which are taken now (Q-4); passed over"));
                 return Ok(());
             }
             (Err(number), Some(stored)) if *number == stored => None,
@@ -370,11 +379,12 @@ fn same_layout(run: &mut Run, case: &Json) -> Result<(), String> {
 // what reads and compares a case of a file
 type Form = fn(&mut Run, &Json) -> Result<(), String>;
 
-const FORMS: [(&str, Form); 4] = [
+const FORMS: [(&str, Form); 5] = [
     ("cases", base),
     ("q-7", |run, case| cuts(run, case, 3)),
     ("q-10", same_layout),
     ("q-3", |run, case| cuts(run, case, MAP_WORDS)),
+    ("q-4", |run, case| cuts(run, case, MAP_WORDS)),
 ];
 
 /// Compares each case of the file, whose name without its ending is one of `FORMS`.
@@ -382,7 +392,7 @@ pub fn compare(report: &mut Report, draws: &mut Draws, file: &Path) -> Result<()
     let stem = file.file_stem().and_then(|s| s.to_str()).unwrap_or_default();
     let (_, form) = FORMS.iter().find(|(name, _)| *name == stem).ok_or(format!("{stem}: no such cases are known"))?;
     let text = std::fs::read_to_string(file).map_err(|e| format!("{}: {e}", file.display()))?;
-    let run = &mut Run { report, draws };
+    let run = &mut Run { report, draws, base: stem == "cases" };
     for (line, case) in text.lines().enumerate().filter(|(_, case)| !case.trim().is_empty()) {
         let read = Reader { bytes: case.as_bytes(), at: 0 }.value();
         read.and_then(|case| form(run, &case)).map_err(|e| format!("line {}: {e}", line + 1))?;

@@ -156,7 +156,10 @@ struct Right {
 impl Right {
     fn new(d: &mut Draws) -> Right {
         let scale = if d.chance(60) { random::TINY } else { random::SMALL };
-        let problem = random::problem(d, scale);
+        let mut problem = random::problem(d, scale);
+        if d.chance(25) {
+            random::repeat_entries(d, &mut problem);
+        }
         let rooms = ROUTES.map(|route| expected::sizes(route, &problem, 11).unwrap_or([3; 11]));
         let solutions =
             ROUTES.map(|route| random::solution(d, &expected::solution_shape(route, &problem).unwrap_or_default()));

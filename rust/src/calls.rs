@@ -93,7 +93,7 @@ pub struct Sizes {
     pub q: usize,
     /// A's column starts.
     pub a_starts: usize,
-    /// A's rows.
+    /// A's rows. On the compact route a run of repeated entries counts once, on the standard one each of them.
     pub a_rows: usize,
     /// A's values.
     pub a_values: usize,
@@ -130,7 +130,8 @@ pub fn sizes(route: Route, problem: &Problem) -> Result<Sizes, Refusal> {
 }
 
 /// Cuts the PSD cones that have a pattern into their cliques: the augmented problem, and where its cones come from.
-/// There may be nothing to adjust: with n = 0 the overlaps' columns are the only ones.
+/// There may be nothing to adjust: with n = 0 the overlaps' columns are the only ones. A may repeat a row in a column: the
+/// compact route adds the run from left to right into one entry, the standard route keeps it as stored.
 ///
 /// ```
 /// use tejiwakpa::{cut, Cone, Problem, Refusal, Route};
@@ -138,6 +139,11 @@ pub fn sizes(route: Route, problem: &Problem) -> Result<Sizes, Refusal> {
 /// let mut problem = Problem::three_projectors();
 /// let augmented = cut(Route::Standard, &problem)?;
 /// assert_eq!(augmented.problem.cones, [Cone::Zero(6), Cone::PsdTriangle(2), Cone::PsdTriangle(2)]);
+/// // two cameras see the marker of row 5
+/// problem.a.starts[1] += 1;
+/// problem.a.rows.push(5);
+/// problem.a.values.push(0.5);
+/// assert_eq!(cut(Route::Compact, &problem)?.problem.a.column(0).nth(2), Some((2, 50.5)));
 /// // no clique covers row 3
 /// problem.b[3] = 1.0;
 /// assert_eq!(cut(Route::Compact, &problem), Err(Refusal::Uncovered));

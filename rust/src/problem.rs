@@ -31,7 +31,7 @@ impl Route {
 }
 
 /// A matrix in compressed columns: the entries of column c are those from `starts[c]` to `starts[c + 1]`, with rising
-/// rows.
+/// rows. A problem's A may repeat a row, for a marker that two cameras see; the entry then is the sum of the run.
 ///
 /// ```
 /// use tejiwakpa::Columns;
@@ -100,11 +100,11 @@ pub struct Problem {
     pub n: u32,
     /// The number of rows.
     pub m: u32,
-    /// The quadratic cost, n by n.
+    /// The quadratic cost, n by n. Rows in a column rise.
     pub p: Columns,
     /// The linear cost, n values.
     pub q: Vec<f64>,
-    /// The constraints, m by n.
+    /// The constraints, m by n. Rows in a column may repeat but not fall.
     pub a: Columns,
     /// The constraints' right hand side, m values.
     pub b: Vec<f64>,

@@ -18,7 +18,8 @@ pub enum Refusal {
     /// 2: the starts of A or P are not n + 1 numbers, do not begin at 0, fall, or do not end at the number of values;
     /// or the rows are not as many as the values.
     Starts = 2,
-    /// 3: rows in a column of A or P do not strictly rise, or lie outside.
+    /// 3: rows in a column of A fall or lie outside, or rows in a column of P do not strictly rise or lie outside. A may
+    /// repeat a row.
     Rows = 3,
     /// 4: a cone record does not read as one of the seven kinds, the cones' rows are not m, or the count of α or the
     /// length of q or b disagrees.
@@ -101,7 +102,9 @@ impl Refusal {
         match self {
             Refusal::Bound => "a bound is exceeded",
             Refusal::Starts => "the starts of A or P are wrong, or rows are not as many as values",
-            Refusal::Rows => "rows in a column of A or P do not strictly rise or lie outside",
+            Refusal::Rows => {
+                "rows in a column of A fall or lie outside, or rows of P do not strictly rise or lie outside"
+            }
             Refusal::Cones => "a cone record, the cones' rows, or the length of alphas, q or b is wrong",
             Refusal::Patterns => "pattern words or a pattern's cone are wrong, or an ordering is no permutation",
             Refusal::Tree => "a pattern's cliques are no tree with the last as its root",

@@ -135,12 +135,14 @@ impl Case {
             cones: words(8),
             alphas: values(9),
             map: words(10),
+            ..Cut::default()
         };
         let answer = number(flat::cut(self.route.code(), &tables, &mut cut_outputs(&mut got)));
         assert_eq!(answer, refusal(&self.cut), "{}: cut", self.name);
         if let Ok(want) = &self.cut {
             let words = |c: &Cut| [&c.p.starts, &c.p.rows, &c.a.starts, &c.a.rows, &c.cones, &c.map].map(Vec::clone);
             assert!(words(&got) == words(want), "{}: the cut's tables", self.name);
+            // no problem here has a NaN, so sums too are compared bit by bit
             let values = |c: &Cut| [&c.p.values, &c.q, &c.a.values, &c.b, &c.alphas].map(Vec::clone);
             let same = values(&got).iter().zip(&values(want)).all(|(got, want)| all_bits(got, want));
             assert!(same, "{}: the cut's values", self.name);

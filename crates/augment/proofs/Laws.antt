@@ -3,10 +3,10 @@ use Prim.Native.Nat.{ℕ, suc, _+_, _-_, _*_, _≤_, _<_}
 use native.Mathlib.Omega.{arith}
 use mathlib.Core.Path.{_≡_, refl, sym, ap, _∙_}
 use mathlib.Core.List.{List, [], _∷_, _++_, append-nil}
-use lib.ListN.{length, take, drop, set, length-set, length-drop, drop-of-length-le}
+use lib.ListN.{length, take, drop, set, length-set, length-drop, length-append, drop-of-length-le}
 use lib.Seq.{take-all, take-at, drop-at, drop-drop, length-take-le}
 use Rattle.layout.specs.Lists.{written}
-use Rattle.layout.specs.Problem.{Problem, Csc, Route, standard}
+use Rattle.layout.specs.Problem.{Problem, Csc, Route, standard, one64, minusOne64}
 use Rattle.layout.specs.Blocks.{Part, standardRows, blockRowCount}
 use Rattle.layout.specs.Checks.{Sound, layout, refusal, checks}
 use Rattle.layout.specs.Standard.{standardA}
@@ -18,10 +18,10 @@ use Rattle.layout.proofs.Laid.{sound-laid}
 use Rattle.layout.proofs.Columns.{right-P}
 use Rattle.layout.proofs.Sizes.{standard-count}
 use Rattle.tables.proofs.Laws.{three-more}
-use Rattle.augment_standard.specs.Beside.{hRows, besideStarts, besideRows, besideValues, besideH}
+use Rattle.augment_standard.specs.Beside.{hRows, pairValues, besideStarts, besideRows, besideValues, besideH}
 use Rattle.augment_standard.specs.Constraints.{Accepted}
-use Rattle.augment_standard.proofs.Constraints.{whole, sound, few-entries, starts-right, same-b, even-A}
-use Rattle.augment_standard.proofs.Columns.{length-hRows}
+use Rattle.augment_standard.proofs.Constraints.{whole, sound, few-entries, starts-right, same-b}
+use Rattle.augment_standard.proofs.Columns.{length-hRows, length-pairs}
 use Rattle.augment_standard.proofs.Beside.{beside-standard}
 use Rattle.layout.proofs.Buffers.{written-after}
 
@@ -102,18 +102,25 @@ module _ {p : Problem} (h : Accepted standard p) where
     pub few-ends : length (p .A .values) + 2 * k < 4294967296
     few-ends = omega (arith, few-entries h, few-rows)
 
-    -- room for the rows of A and H, and for b with zeros
-    pub room-rows : (room : ℕ) → length (p .A .values) + 2 * k ≤ room → length (p .A .rows) + 2 * k ≤ room
-    room-rows room r = omega (arith, even-A h, r)
+    columns : k ≡ length (standardRows (layout p))
+    columns = e ∙ sym (rows-count (sound h))
+
+    pub values-A : besideValues (p .A .values) k ≡ standardA p .values
+    values-A = ap (besideValues (p .A .values)) columns ∙ ap (λ (M : Csc). M .values) beside
+
+    -- room for the rows and the values of A and H, and for b with zeros
+    pub room-rows : (room : ℕ) → length (standardA p .rows) ≤ room → length (p .A .rows) + 2 * k ≤ room
+    room-rows room r =
+        let os = standardRows (layout p) in
+        omega (arith, ap length rows-A, length-append (p .A .rows) (hRows (p .m) os), length-hRows (p .m) os, columns, r)
+
+    pub room-values : (room : ℕ) → length (standardA p .values) ≤ room → length (p .A .values) + 2 * k ≤ room
+    room-values room r =
+        let vs = pairValues one64 minusOne64 k in
+        omega (arith, ap length values-A, length-append (p .A .values) vs, length-pairs one64 minusOne64 k, r)
 
     pub room-b : (room : ℕ) → p .m + blockRowCount (layout p) ≤ room → length (p .b) + k ≤ room
     room-b room r = omega (arith, same-b h, e, r)
 
-    columns : k ≡ length (standardRows (layout p))
-    columns = e ∙ sym (rows-count (sound h))
-
     pub starts-A : besideStarts (p .A .starts) (length (p .A .values)) k ≡ standardA p .starts
     starts-A = ap (besideStarts (p .A .starts) (length (p .A .values))) columns ∙ ap (λ (M : Csc). M .starts) beside
-
-    pub values-A : besideValues (p .A .values) k ≡ standardA p .values
-    values-A = ap (besideValues (p .A .values)) columns ∙ ap (λ (M : Csc). M .values) beside

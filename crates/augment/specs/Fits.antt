@@ -1,5 +1,5 @@
 -- What the writers of a cut ask: a problem's parts, the columns that are added, and room in the outputs. Definitions only.
-use Prim.Native.Nat.{ℕ, suc, _+_, _*_, _≤_}
+use Prim.Native.Nat.{ℕ, suc, _+_, _≤_}
 use mathlib.Core.Path.{_≡_}
 use mathlib.Core.List.{_++_}
 use lib.ListN.{length, replicate}
@@ -29,7 +29,7 @@ pub record ConstrainedFits (route : Route) (p : Problem) (k : ℕ) (out : Constr
   pub accepted : Accepted route p
   pub added : k ≡ addedCount route (layout p)
   pub starts : suc (p .n + k) ≤ length (out .A .starts)
-  pub rows : length (p .A .values) + 2 * k ≤ length (out .A .rows)
-  pub values : length (p .A .values) + 2 * k ≤ length (out .A .values)
+  pub rows : length (augmented route p .A .rows) ≤ length (out .A .rows)
+  pub values : length (augmented route p .A .values) ≤ length (out .A .values)
   pub slacks : slackCount route (p .m) (layout p) ≤ length (out .b)
   pub cones : length (augmented route p .cones) ≤ length (out .cones)

@@ -2,7 +2,7 @@
 use Prim.Native.Nat.{ℕ, zero, suc, _+_, _-_, _≤_, _<_}
 use native.Mathlib.Numerals.{add-one}
 use native.Mathlib.Omega.{arith}
-use mathlib.Core.Path.{_≡_, ap, ap₂, sym, _∙_}
+use mathlib.Core.Path.{_≡_, refl, ap, ap₂, sym, _∙_}
 use mathlib.Core.List.{List, [], _∷_, _++_, map, map-map, append-nil, map-append}
 use lib.ListN.{length, getD, drop, length-map, length-append}
 use lib.Seq.{getD-take, getD-drop}
@@ -10,20 +10,21 @@ use lib.Ieee.{Float, nan}
 use Rattle.layout.specs.Lists.{upFrom, below, join, part}
 use Rattle.layout.specs.Problem.{Csc}
 use Rattle.layout.specs.Checks.{columnRows}
-use Rattle.layout.specs.Compact.{Entry, entriesFrom, column}
+use Rattle.layout.specs.Compact.{Entry, entriesFrom, column, summed}
+use Rattle.layout.specs.Runs.{runs, sums, runCount}
 use Rattle.layout.proofs.Members.{has-below}
 use Rattle.layout.proofs.Joins.{map-same, upFrom-shift}
 use Rattle.layout.proofs.Keeps.{below-more}
-use Rattle.layout.proofs.Rising.{rises-distinct}
 use Rattle.layout.proofs.Columns.{RightStarts}
 use Rattle.csc.specs.Matrix.{matrix}
 use Rattle.csc.proofs.Compressed.{fields-append}
-use Rattle.columns.proofs.Marks.{column-count}
+use Rattle.csc.proofs.Runs.{count-more, count-le, sums-column}
+use Rattle.columns.proofs.Repeated.{summed-column-count}
 use Rattle.columns.proofs.Parts.{length-part}
 use Rattle.columns.specs.Column.{entries, codedColumn}
 use Rattle.columns.specs.Marks.{Placing}
 use Rattle.augment_compact.specs.Cut.{codedColumns}
-use Rattle.augment_compact.specs.Places.{ColumnsRise}
+use Rattle.augment_compact.specs.Places.{ColumnsInOrder}
 
 part-getD : {A : Type 0} (d : A) (a b t : ℕ) (xs : List A) → t < b - a → getD (part a b xs) t d ≡ getD xs (a + t) d
 part-getD d a b t xs l = getD-take (b - a) (drop a xs) t d l ∙ getD-drop a xs t d
@@ -75,41 +76,49 @@ columns-more {X} field c M codes =
     ∙ fields-append field (map f (below c)) (f c ∷ [])
     ∙ ap (λ (es : List Entry). map field (join (λ c. c) (map f (below c))) ++ map field es) (append-nil (f c))
 
-module _ (n : ℕ) (M : Csc) (codes place : List ℕ) (right : RightStarts n M) (rising : ColumnsRise n M) (h : Placing codes place (M .rows)) where
+module _ (n : ℕ) (M : Csc) (codes place : List ℕ) (right : RightStarts n M) (order : ColumnsInOrder n M) (h : Placing codes place (M .rows)) where
   module _ (c : ℕ) (l : c < n) where
     inside : getD (M .starts) (suc c) 0 ≤ length (M .rows)
     inside = right .inside (suc c) l
 
-    pub column-part : column M c
+    column-part : column M c
         ≡ entries (columnRows M c) (part (getD (M .starts) c 0) (getD (M .starts) (suc c) 0) (M .values))
     column-part = entries-part (getD (M .starts) c 0) (getD (M .starts) (suc c) 0) M (right .rise c l) inside
 
     pub column-placing : Placing codes place (columnRows M c)
     column-placing = placing-part codes place (M .rows) (getD (M .starts) c 0) (getD (M .starts) (suc c) 0) (right .rise c l) inside h
 
-    column-size : length (codedColumn codes (column M c)) ≡ getD (M .starts) (suc c) 0 - getD (M .starts) c 0
-    column-size =
-        ap (λ (es : List Entry). length (codedColumn codes es)) column-part
-        ∙ column-count codes place (columnRows M c) column-placing (rises-distinct (columnRows M c) (rising c l)) (part (getD (M .starts) c 0) (getD (M .starts) (suc c) 0) (M .values))
-        ∙ length-part (getD (M .starts) c 0) (getD (M .starts) (suc c) 0) (M .rows) (right .rise c l) inside
+    -- a column with its repeats added, by the parts of the tables that hold it
+    pub column-sums : column (sums n M) c
+        ≡ summed (entries (columnRows M c) (part (getD (M .starts) c 0) (getD (M .starts) (suc c) 0) (M .values)))
+    column-sums = sums-column n M c l ∙ ap summed column-part
 
-  -- the columns before c take as many places as A's
+    column-size : length (codedColumn codes (column (sums n M) c)) ≡ length (runs (columnRows M c))
+    column-size =
+        let a = getD (M .starts) c 0 in
+        let b = getD (M .starts) (suc c) 0 in
+        ap (λ (es : List Entry). length (codedColumn codes es)) column-sums
+        ∙ summed-column-count codes place (columnRows M c) column-placing (order c l) (part a b (M .values))
+        (length-part a b (M .values) (right .rise c l) (omega (arith, inside, right .even)) ∙ sym (length-part a b (M .rows) (right .rise c l) inside))
+
+  -- the columns before c take as many places as they have runs
   pub columns-start : {X : Type 0} (field : Entry → X) (c : ℕ) → c ≤ n
-      → length (map field (join (λ c. c) (codedColumns c M codes))) ≡ getD (M .starts) c 0
-  columns-start field zero l = sym (right .zeroth)
+      → length (map field (join (λ c. c) (codedColumns c (sums n M) codes))) ≡ runCount c M
+  columns-start field zero l = refl
   columns-start field (suc c) l =
       let e : suc c ≡ c + 1 = sym (add-one c) in
-      ap (λ (k : ℕ). length (map field (join (λ c. c) (codedColumns k M codes)))) e
-      ∙ ap length (columns-more field c M codes)
-      ∙ length-append (map field (join (λ c. c) (codedColumns c M codes))) (map field (codedColumn codes (column M c)))
+      ap (λ (k : ℕ). length (map field (join (λ c. c) (codedColumns k (sums n M) codes)))) e
+      ∙ ap length (columns-more field c (sums n M) codes)
+      ∙ length-append (map field (join (λ c. c) (codedColumns c (sums n M) codes))) (map field (codedColumn codes (column (sums n M) c)))
       ∙ omega (
         arith,
         columns-start field c (omega arith),
-        length-map (codedColumn codes (column M c)) field,
+        length-map (codedColumn codes (column (sums n M) c)) field,
         column-size c l,
-        right .rise c l,
+        count-more M c,
+        ap (λ (k : ℕ). runCount k M) e,
       )
 
   pub columns-room : {X : Type 0} (field : Entry → X) (c : ℕ) → c ≤ n
-      → length (map field (join (λ c. c) (codedColumns c M codes))) ≤ length (M .rows)
-  columns-room field c l = omega (arith, columns-start field c l, right .inside c l)
+      → length (map field (join (λ c. c) (codedColumns c (sums n M) codes))) ≤ runCount n M
+  columns-room field c l = omega (arith, columns-start field c l, count-le M c n l)

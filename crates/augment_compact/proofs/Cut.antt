@@ -2,7 +2,7 @@
 use Prim.Native.Nat.{ℕ, zero, suc, _+_, _-_, _*_, _≤_, _<_}
 use native.Mathlib.Nat.{zero-add}
 use native.Mathlib.Omega.{arith}
-use mathlib.Core.Path.{_≡_, refl, ap, ap₂, sym, _∙_}
+use mathlib.Core.Path.{_≡_, refl, ap, ap₂, sym, subst, _∙_}
 use mathlib.Core.List.{List, [], _∷_, _++_, map, map-map, map-append}
 use lib.ListN.{length, getD, length-map}
 use lib.Dec.{T, ltb}
@@ -12,18 +12,20 @@ use Rattle.layout.specs.Lists.{upFrom, below, all, join, startsFrom}
 use Rattle.layout.specs.Problem.{Problem, compact, one64, minusOne64}
 use Rattle.layout.specs.Blocks.{Row, kept, owned, overlap, originalRow, compactRows, overlapCount}
 use Rattle.layout.specs.Checks.{layout, refusal}
-use Rattle.layout.specs.Compact.{Entry, column, csc, moved, rowEntries, augmentedColumn, overlapColumn, overlapColumns, compactA}
+use Rattle.layout.specs.Compact.{Entry, column, csc, summed, summedA, moved, rowEntries, augmentedColumn, overlapColumn, overlapColumns, compactA}
 use Rattle.layout.proofs.Tests.{and-iff, ltb-iff}
 use Rattle.layout.proofs.Members.{every-cons, has-below, all-has, has-at}
 use Rattle.layout.proofs.Joins.{map-same, join-same}
 use Rattle.layout.proofs.Accepted.{accepted-sound}
-use Rattle.layout.proofs.Columns.{column-all, right-A}
+use Rattle.layout.proofs.Columns.{column-all}
+use Rattle.layout.proofs.Repeats.{summed-column, right-summed, summed-each}
 use Rattle.layout.proofs.Links.{links}
 use Rattle.layout.proofs.Cut.{link-count}
 use Rattle.layout.proofs.Augmented.{columns-keep}
 use Rattle.codes.specs.Codes.{cutCode}
 use Rattle.codes.proofs.Rows.{Small, accepted-small}
-use Rattle.csc.proofs.Compressed.{totals, starts-beside, fields-append}
+use Rattle.layout.proofs.Compressed.{totals}
+use Rattle.csc.proofs.Compressed.{starts-beside, fields-append}
 use Rattle.augment_standard.specs.Beside.{hStarts, pairValues}
 use Rattle.augment_standard.proofs.Columns.{length-pairs}
 use Rattle.columns.specs.Column.{codedColumn}
@@ -112,43 +114,52 @@ module _ (p : Problem) (ok : refusal compact p ≡ 0) where
   abbrev added : List (List Entry)
   added = overlapColumns 0 R
 
+  -- A's columns, their repeats added, over the augmented rows
+  abbrev moving : ℕ → List Entry
+  moving c = augmentedColumn (summed (column (p .A) c)) 0 R
+
   -- every entry stands on an original row
-  entries-original : (c : ℕ) → c < p .n → Originals (column (p .A) c)
-  entries-original c l = column-all (p .n) (p .A) (right-A compact p ok) c l (λ r. ltb r 65536)
+  entries-original : (c : ℕ) → c < p .n → Originals (summed (column (p .A) c))
+  entries-original c l =
+      subst Originals (summed-column p c l)
+      (column-all (p .n) (summedA p) (right-summed p) c l (λ r. ltb r 65536)
+      (summed-each p compact ok (λ r. ltb r 65536)
       (all-has (λ r. ltb r 65536) (p .A .rows) .1 (λ r h.
       let (t, m, e) = has-at 0 r (p .A .rows) .0 h in
-      ltb-iff r 65536 .1 (omega (arith, rows-known p ok t m, accepted-sound compact p ok .few))))
+      ltb-iff r 65536 .1 (omega (arith, rows-known p ok t m, accepted-sound compact p ok .few))))))
 
-  columns-coded : map (λ c. augmentedColumn (column (p .A) c) 0 R) (below (p .n)) ≡ codedColumns (p .n) (p .A) codes
-  columns-coded = map-same (λ c. augmentedColumn (column (p .A) c) 0 R) (λ c. codedColumn codes (column (p .A) c)) (below (p .n))
-      (λ c h. column-coded (column (p .A) c) R (entries-original c (has-below c (p .n) .0 h)))
+  columns-coded : map moving (below (p .n)) ≡ codedColumns (p .n) (summedA p) codes
+  columns-coded = map-same moving (λ c. codedColumn codes (column (summedA p) c)) (below (p .n)) (λ c h.
+      let l = has-below c (p .n) .0 h in
+      column-coded (summed (column (p .A) c)) R (entries-original c l) ∙ ap (codedColumn codes) (sym (summed-column p c l)))
 
   -- the columns keep their lengths
-  lengths-keep : map length (map (λ c. augmentedColumn (column (p .A) c) 0 R) (below (p .n))) ≡ map length (map (column (p .A)) (below (p .n)))
+  lengths-keep : map length (map moving (below (p .n))) ≡ map length (map (column (summedA p)) (below (p .n)))
   lengths-keep =
-      map-map length (λ c. augmentedColumn (column (p .A) c) 0 R) (below (p .n))
-      ∙ map-same (λ c. length (augmentedColumn (column (p .A) c) 0 R)) (λ c. length (column (p .A) c)) (below (p .n))
-      (λ c h. columns-keep p ok c (has-below c (p .n) .0 h))
-      ∙ sym (map-map length (column (p .A)) (below (p .n)))
+      map-map length moving (below (p .n))
+      ∙ map-same (λ c. length (moving c)) (λ c. length (column (summedA p) c)) (below (p .n)) (λ c h.
+      let l = has-below c (p .n) .0 h in
+      columns-keep p ok c l ∙ ap length (sym (summed-column p c l)))
+      ∙ sym (map-map length (column (summedA p)) (below (p .n)))
 
-  starts : compactA p .starts ≡ cutA (p .n) (p .A) codes (overlapCount (layout p)) .starts
+  starts : compactA p .starts ≡ cutA (p .n) (summedA p) codes (overlapCount (layout p)) .starts
   starts =
       ap (startsFrom 0)
-      (map-append length (map (λ c. augmentedColumn (column (p .A) c) 0 R) (below (p .n))) added
+      (map-append length (map moving (below (p .n))) added
       ∙ ap (λ (ks : List ℕ). ks ++ map length added) lengths-keep
-      ∙ sym (map-append length (map (column (p .A)) (below (p .n))) added))
-      ∙ starts-beside (p .n) (p .A) (right-A compact p ok) added
-      ∙ ap (λ (l : List ℕ). p .A .starts ++ l)
-      (tied-starts (length (p .A .values)) 0 R ∙ ap (hStarts (length (p .A .values))) (link-count p ok))
+      ∙ sym (map-append length (map (column (summedA p)) (below (p .n))) added))
+      ∙ starts-beside (p .n) (summedA p) (right-summed p) added
+      ∙ ap (λ (l : List ℕ). summedA p .starts ++ l)
+      (tied-starts (length (summedA p .values)) 0 R ∙ ap (hStarts (length (summedA p .values))) (link-count p ok))
 
-  rows : compactA p .rows ≡ cutA (p .n) (p .A) codes (overlapCount (layout p)) .rows
+  rows : compactA p .rows ≡ cutA (p .n) (summedA p) codes (overlapCount (layout p)) .rows
   rows =
-      fields-append (λ (e : Entry). e .row) (map (λ c. augmentedColumn (column (p .A) c) 0 R) (below (p .n))) added
+      fields-append (λ (e : Entry). e .row) (map moving (below (p .n))) added
       ∙ ap₂ _++_ (ap (λ (cs : List (List Entry)). csc cs .rows) columns-coded) (tied-rows 0 R (accepted-small p ok))
 
-  values : compactA p .values ≡ cutA (p .n) (p .A) codes (overlapCount (layout p)) .values
+  values : compactA p .values ≡ cutA (p .n) (summedA p) codes (overlapCount (layout p)) .values
   values =
-      fields-append (λ (e : Entry). e .value) (map (λ c. augmentedColumn (column (p .A) c) 0 R) (below (p .n))) added
+      fields-append (λ (e : Entry). e .value) (map moving (below (p .n))) added
       ∙ ap₂ _++_ (ap (λ (cs : List (List Entry)). csc cs .values) columns-coded)
       (tied-values 0 R ∙ ap (pairValues minusOne64 one64) (link-count p ok))
 
@@ -160,5 +171,5 @@ module _ (p : Problem) (ok : refusal compact p ≡ 0) where
       ∙ length-pairs minusOne64 one64 (length (links 0 R)) ∙ ap (λ (k : ℕ). 2 * k) (link-count p ok)
 
   -- what a caller cites: the tables written are those of the compact cut
-  pub cut-compact : cutA (p .n) (p .A) (map cutCode (compactRows (layout p))) (overlapCount (layout p)) ≡ compactA p
+  pub cut-compact : cutA (p .n) (summedA p) (map cutCode (compactRows (layout p))) (overlapCount (layout p)) ≡ compactA p
   cut-compact = sym (λ i. record { starts = starts i; rows = rows i; values = values i })

@@ -9,10 +9,10 @@ use lib.ListN.{length, getD, set, length-set, length-map}
 use lib.Seq.{getD-set-same, getD-set-other}
 use lib.Dec.{T, ltb, leb}
 use borrow.Author.Tests.{lt-ltb}
-use Rattle.layout.specs.Lists.{has, all, below, rises, Below}
+use Rattle.layout.specs.Lists.{has, all, below, Below}
 use Rattle.layout.specs.Problem.{Problem, compact}
 use Rattle.layout.specs.Blocks.{Row, kept, owned, overlap, originalRow, compactRows, blockRowCount, overlapCount}
-use Rattle.layout.specs.Checks.{layout, refusal, checks, columnRows, coveredRows}
+use Rattle.layout.specs.Checks.{layout, refusal, checks, neverFalls, columnRows, coveredRows}
 use Rattle.layout.proofs.Tests.{and-iff, leb-iff, ltb-iff}
 use Rattle.layout.proofs.Members.{getD-map, has-map, has-getD, has-below, all-has}
 use Rattle.layout.proofs.Order.{passed}
@@ -24,7 +24,7 @@ use Rattle.layout.proofs.Columns.{right-A}
 use Rattle.codes.specs.Codes.{cutCode}
 use Rattle.codes.proofs.Rows.{rows-inside}
 use Rattle.columns.specs.Marks.{Placing}
-use Rattle.augment_compact.specs.Places.{placed, ColumnsRise}
+use Rattle.augment_compact.specs.Places.{placed, ColumnsInOrder}
 
 -- ---- the table
 
@@ -152,14 +152,14 @@ module _ (p : Problem) (ok : refusal compact p ≡ 0) where
   rows-known t l =
       ltb-iff (getD (p .A .rows) t 0) (p .m) .0
       (all-has (λ r. ltb r (p .m)) (p .A .rows) .0
-      (and-iff (all (λ r. ltb r (p .m)) (p .A .rows)) (all (λ c. rises (columnRows (p .A) c)) (below (p .n))) .0 (accepted-checked compact p ok .rowsA) .0)
+      (and-iff (all (λ r. ltb r (p .m)) (p .A .rows)) (all (λ c. neverFalls (columnRows (p .A) c)) (below (p .n))) .0 (accepted-checked compact p ok .rowsA) .0)
       (getD (p .A .rows) t 0) (has-getD (p .A .rows) t 0 l))
 
   -- what `write_columns` asks
-  pub accepted-rise : ColumnsRise (p .n) (p .A)
-  accepted-rise c l =
-      all-has (λ c. rises (columnRows (p .A) c)) (below (p .n)) .0
-      (and-iff (all (λ r. ltb r (p .m)) (p .A .rows)) (all (λ c. rises (columnRows (p .A) c)) (below (p .n))) .0 (accepted-checked compact p ok .rowsA) .1)
+  pub accepted-order : ColumnsInOrder (p .n) (p .A)
+  accepted-order c l =
+      all-has (λ c. neverFalls (columnRows (p .A) c)) (below (p .n)) .0
+      (and-iff (all (λ r. ltb r (p .m)) (p .A .rows)) (all (λ c. neverFalls (columnRows (p .A) c)) (below (p .n))) .0 (accepted-checked compact p ok .rowsA) .1)
       c (has-below c (p .n) .1 l)
 
   pub accepted-placing : (t : List ℕ) → p .m ≤ length t

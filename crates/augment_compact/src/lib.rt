@@ -1,18 +1,19 @@
 // The compact cut's A. The codes say what stands on each augmented row: below 65,536 the original row that moves there, and from there on
-// the row that an overlap is tied to.
+// the row that an overlap is tied to. Each run of repeats of A is one entry of the cut, so the columns start where `run_starts` says.
 ghost use mathlib.Core.Path.{_≡_};
-ghost use Prim.Native.Nat.{_+_, _-_, _*_, _≤_, _<_};
+ghost use Prim.Native.Nat.{suc, _+_, _-_, _*_, _≤_, _<_};
 ghost use lib.ListN.{length};
 ghost use lib.Dec.{T};
 ghost use Rattle.layout.specs.Lists.{written};
 ghost use Rattle.layout.specs.Problem.{one64, minusOne64};
 ghost use Rattle.layout.specs.Checks.{startsRight};
 ghost use Rattle.layout.specs.Compact.{csc};
+ghost use Rattle.layout.specs.Runs.{sums, runStarts, runCount};
 ghost use Rattle.codes.specs.Codes.{RowsInside};
-ghost use Rattle.csc.specs.Matrix.{matrix};
-ghost use Rattle.augment_standard.specs.Beside.{pairValues};
+ghost use Rattle.csc.specs.Matrix.{matrix, table, ColumnsInside};
+ghost use Rattle.augment_standard.specs.Beside.{pairValues, besideStarts};
 ghost use Rattle.augment_compact.specs.Cut.{codedColumns, tiedRows, cutRows, cutValues, Behind};
-ghost use Rattle.augment_compact.specs.Places.{placed, ColumnsRise};
+ghost use Rattle.augment_compact.specs.Places.{placed, ColumnsInOrder, RunsStart};
 ghost use Rattle.columns.specs.Marks.{Placing, Clear};
 
 // Writes where each original row moves to.
@@ -30,7 +31,17 @@ pub fn write_place(place: &mut [u32], codes: &[u32])
     }
 }
 
-// Writes the columns of A over the augmented rows. The codes and the flags are as before then.
+// Writes the starts of the cut's columns: those of A, whose runs are one entry each, and of the k overlaps, which hold two.
+pub fn write_starts(out: &mut [u32], n: u32, starts: &[u32], rows: &[u32], k: usize)
+    requires { ⌜ ColumnsInside n (now starts) (now rows) × (length (now starts) ≡ suc n) × (length (now rows) ≤ 262144) ⌝ }
+    requires { ⌜ (suc n + k ≤ length (now out)) × (k ≤ 262144) ⌝ }
+    ensures { λ _. let M = table (now (starts .entry)) (now (rows .entry)) in ⌜ now (out .exit) ≡ written (besideStarts (runStarts n M) (runCount n M) k) (now (out .entry)) ⌝ }
+{
+    let entries = csc::write_run_starts(&mut *out, n, starts, rows);
+    augment_standard::write_h_starts(&mut out[starts.len()..], entries, k);
+}
+
+// Writes the columns of A over the augmented rows, one entry a run. The codes and the flags are as before then.
 pub fn write_columns(
     rows_out: &mut [u32],
     values_out: &mut [f64],
@@ -41,12 +52,13 @@ pub fn write_columns(
     starts: &[u32],
     rows: &[u32],
     values: &[f64],
+    run_starts: &[u32],
 )
-    requires { ⌜ T (startsRight n (matrix (now starts) (now rows) (now values))) × ColumnsRise n (matrix (now starts) (now rows) (now values)) ⌝ }
+    requires { let M = matrix (now starts) (now rows) (now values) in ⌜ T (startsRight n M) × ColumnsInOrder n M × RunsStart n M (now «run_starts») ⌝ }
     requires { ⌜ Placing (now codes) (now place) (now rows) × Clear (length (now codes)) (now chunks) ⌝ }
-    requires { ⌜ (length (now rows) ≤ length (now «rows_out»)) × (length (now values) ≤ length (now «values_out»)) ⌝ }
-    ensures { λ _. ⌜ now («rows_out» .exit) ≡ written (csc (codedColumns n (matrix (now (starts .entry)) (now (rows .entry)) (now (values .entry))) (now (codes .entry))) .rows) (now («rows_out» .entry)) ⌝ }
-    ensures { λ _. ⌜ now («values_out» .exit) ≡ written (csc (codedColumns n (matrix (now (starts .entry)) (now (rows .entry)) (now (values .entry))) (now (codes .entry))) .values) (now («values_out» .entry)) ⌝ }
+    requires { let M = matrix (now starts) (now rows) (now values) in ⌜ (runCount n M ≤ length (now «rows_out»)) × (runCount n M ≤ length (now «values_out»)) ⌝ }
+    ensures { λ _. ⌜ now («rows_out» .exit) ≡ written (csc (codedColumns n (sums n (matrix (now (starts .entry)) (now (rows .entry)) (now (values .entry)))) (now (codes .entry))) .rows) (now («rows_out» .entry)) ⌝ }
+    ensures { λ _. ⌜ now («values_out» .exit) ≡ written (csc (codedColumns n (sums n (matrix (now (starts .entry)) (now (rows .entry)) (now (values .entry)))) (now (codes .entry))) .values) (now («values_out» .entry)) ⌝ }
     ensures { λ _. ⌜ now (codes .exit) ≡ now (codes .entry) ⌝ }
     ensures { λ _. ⌜ now (chunks .exit) ≡ now (chunks .entry) ⌝ }
 {
@@ -65,6 +77,8 @@ pub fn write_columns(
             values,
             first,
             end,
+            run_starts[c] as usize,
+            run_starts[c + 1] as usize,
         );
         c += 1;
     }
@@ -116,13 +130,14 @@ pub fn write_entries(
     starts: &[u32],
     rows: &[u32],
     values: &[f64],
+    run_starts: &[u32],
     k: usize,
 )
-    requires { ⌜ T (startsRight n (matrix (now starts) (now rows) (now values))) × ColumnsRise n (matrix (now starts) (now rows) (now values)) ⌝ }
+    requires { let M = matrix (now starts) (now rows) (now values) in ⌜ T (startsRight n M) × ColumnsInOrder n M × RunsStart n M (now «run_starts») ⌝ }
     requires { ⌜ RowsInside (length (now place)) (now codes) × Placing (now codes) (placed 0 (now codes) (now place)) (now rows) × Clear (length (now codes)) (now chunks) ⌝ }
-    requires { ⌜ (length (now rows) + length (tiedRows 0 (now codes)) ≤ length (now «rows_out»)) × (length (now values) + 2 * k ≤ length (now «values_out»)) ⌝ }
-    ensures { λ _. ⌜ now («rows_out» .exit) ≡ written (cutRows n (matrix (now (starts .entry)) (now (rows .entry)) (now (values .entry))) (now (codes .entry))) (now («rows_out» .entry)) ⌝ }
-    ensures { λ _. ⌜ now («values_out» .exit) ≡ written (cutValues n (matrix (now (starts .entry)) (now (rows .entry)) (now (values .entry))) (now (codes .entry)) k) (now («values_out» .entry)) ⌝ }
+    requires { let M = matrix (now starts) (now rows) (now values) in ⌜ (runCount n M + length (tiedRows 0 (now codes)) ≤ length (now «rows_out»)) × (runCount n M + 2 * k ≤ length (now «values_out»)) ⌝ }
+    ensures { λ _. ⌜ now («rows_out» .exit) ≡ written (cutRows n (sums n (matrix (now (starts .entry)) (now (rows .entry)) (now (values .entry)))) (now (codes .entry))) (now («rows_out» .entry)) ⌝ }
+    ensures { λ _. ⌜ now («values_out» .exit) ≡ written (cutValues n (sums n (matrix (now (starts .entry)) (now (rows .entry)) (now (values .entry)))) (now (codes .entry)) k) (now («values_out» .entry)) ⌝ }
     ensures { λ _. ⌜ now (codes .exit) ≡ now (codes .entry) ⌝ }
     ensures { λ _. ⌜ now (place .exit) ≡ placed 0 (now (codes .entry)) (now (place .entry)) ⌝ }
     ensures { λ _. ⌜ now (chunks .exit) ≡ now (chunks .entry) ⌝ }
@@ -138,6 +153,8 @@ pub fn write_entries(
         starts,
         rows,
         values,
+        run_starts,
     );
-    write_overlaps(rows_out, values_out, &*codes, values.len(), k);
+    let count = run_starts[n as usize] as usize;
+    write_overlaps(rows_out, values_out, &*codes, count, k);
 }

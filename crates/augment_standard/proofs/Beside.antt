@@ -12,7 +12,8 @@ use Rattle.layout.specs.Checks.{layout, startsRight}
 use Rattle.layout.specs.Compact.{column, csc}
 use Rattle.layout.specs.Standard.{blockColumns, standardA}
 use Rattle.layout.proofs.Columns.{RightStarts, starts-right}
-use Rattle.csc.proofs.Compressed.{totals, starts-beside, rows-beside, values-beside}
+use Rattle.layout.proofs.Compressed.{totals}
+use Rattle.csc.proofs.Compressed.{starts-beside, rows-beside, values-beside}
 use Rattle.augment_standard.specs.Beside.{hStarts, hRows, pairValues, besideH}
 
 columns-starts : (a r : ℕ) (os : List ℕ) → totals a (map length (blockColumns r os)) ≡ hStarts a (length os)

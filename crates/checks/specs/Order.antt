@@ -8,7 +8,7 @@ use lib.Ieee.{Float}
 use Rattle.layout.specs.Lists.{all}
 use Rattle.layout.specs.Problem.{Csc}
 use Rattle.layout.specs.Patterns.{patterns}
-use Rattle.layout.specs.Checks.{conesBounded, startsRight, rowsRight, conesRead, alphasAsMany, patternsRead, treeRight, cliquesRight, Check, check, firstFailing}
+use Rattle.layout.specs.Checks.{conesBounded, startsRight, rowsInOrder, rowsRight, conesRead, alphasAsMany, patternsRead, treeRight, cliquesRight, Check, check, firstFailing}
 use Rattle.layout.specs.Answers.{joinBounded}
 
 -- 1
@@ -18,7 +18,7 @@ bounds n m aEntries pEntries cones = leb n 65536 && leb m 65536 && leb aEntries 
 -- 2 and 3
 abbrev pub matricesRefusal : ℕ → ℕ → Csc → Csc → ℕ
 matricesRefusal n m P A =
-    firstFailing (check 2 (startsRight n A && startsRight n P) ∷ check 3 (rowsRight m n A && rowsRight n n P) ∷ [])
+    firstFailing (check 2 (startsRight n A && startsRight n P) ∷ check 3 (rowsInOrder m n A && rowsRight n n P) ∷ [])
 
 -- 4
 abbrev pub recordsRefusal : ℕ → ℕ → List Float → List Float → List ℕ → List Float → ℕ

@@ -38,7 +38,7 @@ pub fn bounded(n: u32, m: u32, a_entries: usize, p_entries: usize, cones: &[u32]
     join_bounded(n, m, cones)
 }
 
-// Checks 2 and 3.
+// Checks 2 and 3. Only A may repeat a row in a column.
 pub fn check_matrices(
     n: u32,
     m: u32,
@@ -57,7 +57,7 @@ pub fn check_matrices(
     if !csc::starts_right(n, p_starts, p_rows, p_values) {
         return 2;
     }
-    if !csc::rows_right(m, n, a_starts, a_rows, a_values) {
+    if !csc::rows_in_order(m, n, a_starts, a_rows, a_values) {
         return 3;
     }
     if !csc::rows_right(n, n, p_starts, p_rows, p_values) {

@@ -18,8 +18,8 @@ use Rattle.layout.proofs.Tree.{cliques-right}
 use Rattle.layout.proofs.Laid.{sound-laid}
 use Rattle.layout.proofs.Order.{passed}
 use Rattle.layout.proofs.Accepted.{accepted-checked}
-use Rattle.chordal_info.specs.Sizes.{Fitting}
-use Rattle.chordal_info.proofs.Sizes.{rows-fit}
+use Rattle.chordal_info.specs.Sizes.{entriesKept, Fitting}
+use Rattle.chordal_info.proofs.Sizes.{rows-fit, entries-few}
 
 -- ---- overlaps
 
@@ -70,8 +70,8 @@ sound-cones {m} {cones} {count} {words} h =
 
 pub accepted-fitting : (route : Route) (p : Problem) → refusal route p ≡ 0
     → let ps = layout p in
-    Fitting route (p .n) (p .m) (length (p .A .values)) (blockRowCount ps) (overlapCount ps) (coneCount ps)
+    Fitting route (p .n) (p .m) (entriesKept route (p .n) (p .A .starts) (p .A .rows)) (blockRowCount ps) (overlapCount ps) (coneCount ps)
 accepted-fitting route p ok =
     let ps = layout p in
     let h = accepted-checked route p ok in
-    (h .fewColumns, h .fewEntriesA, subst T (sym (rows-fit route (p .m) ps)) (passed 10 (checks route p) tt ok), overlaps-few ps, sound-cones (h .sound))
+    (h .fewColumns, entries-few route p ok, subst T (sym (rows-fit route (p .m) ps)) (passed 10 (checks route p) tt ok), overlaps-few ps, sound-cones (h .sound))

@@ -1,8 +1,9 @@
 -- Check 10 and the sizes from counts, for a route's number and for a problem that the route accepts.
 use Prim.Native.Nat.{ℕ, suc, _+_, _*_, _≤_, _<_}
+use native.Mathlib.Nat.{le-of-eq}
 use native.Mathlib.Numerals.{add-one}
 use native.Mathlib.Omega.{arith}
-use mathlib.Core.Path.{_≡_, refl, ap}
+use mathlib.Core.Path.{_≡_, refl, ap, sym, _∙_}
 use mathlib.Core.Bool.{false}
 use mathlib.Core.List.{List, [], _∷_}
 use lib.ListN.{length}
@@ -13,8 +14,11 @@ use Rattle.layout.specs.Blocks.{Part, blockRowCount, overlapCount, coneCount}
 use Rattle.layout.specs.Checks.{layout, check10, refusal}
 use Rattle.layout.specs.Answers.{sizes}
 use Rattle.layout.proofs.Tests.{and-iff, leb-iff}
-use Rattle.layout.proofs.Sizes.{compact-sizes, standard-sizes}
-use Rattle.chordal_info.specs.Sizes.{rowsFit, outputLengths, routeSizes}
+use Rattle.layout.proofs.Accepted.{accepted-checked}
+use Rattle.layout.proofs.Columns.{right-A}
+use Rattle.layout.proofs.Sizes.{compactSizes, compact-sizes, standardSizes, standard-sizes}
+use Rattle.csc.proofs.Runs.{sums-count, count-few}
+use Rattle.chordal_info.specs.Sizes.{rowsFit, outputLengths, entriesKept, routeSizes}
 
 -- ---- check 10 and the sizes of a problem
 
@@ -24,10 +28,21 @@ rows-fit compact m ps = refl
 
 pub route-sizes : (route : Route) (p : Problem) → refusal route p ≡ 0
     → let ps = layout p in
-    sizes route p ≡ routeSizes route (p .n) (p .m) (length (p .P .values)) (length (p .A .values)) (length (p .alphas))
+    sizes route p ≡ routeSizes route (p .n) (p .m) (length (p .P .values)) (entriesKept route (p .n) (p .A .starts) (p .A .rows)) (length (p .alphas))
     (blockRowCount ps) (overlapCount ps) (coneCount ps)
-route-sizes standard p ok = standard-sizes p ok
-route-sizes compact p ok = compact-sizes p ok
+route-sizes standard p ok =
+    standard-sizes p ok
+    ∙ ap (λ (a : ℕ). standardSizes (p .n) (p .m) (length (p .P .values)) a (length (p .alphas)) (layout p)) (sym (right-A standard p ok .even))
+route-sizes compact p ok =
+    compact-sizes p ok
+    ∙ ap (λ (a : ℕ). compactSizes (p .n) (length (p .P .values)) a (length (p .alphas)) (layout p)) (sums-count (p .n) (p .A) (right-A compact p ok))
+
+-- no more than A has
+pub entries-few : (route : Route) (p : Problem) → refusal route p ≡ 0 → entriesKept route (p .n) (p .A .starts) (p .A .rows) ≤ 262144
+entries-few standard p ok = omega (arith, right-A standard p ok .even, accepted-checked standard p ok .fewEntriesA)
+entries-few compact p ok =
+    let right = right-A compact p ok in
+    omega (arith, count-few (p .A .starts) (p .A .rows) (le-of-eq (sym (right .count)), λ c l. (right .rise c l, right .inside (suc c) l)) (p .n) (omega arith) .1, right .even, accepted-checked compact p ok .fewEntriesA)
 
 -- ---- what the bounds say
 

@@ -10,7 +10,8 @@ ghost use Rattle.layout.specs.Patterns.{patterns};
 ghost use Rattle.layout.specs.Blocks.{parts};
 ghost use Rattle.layout.specs.Checks.{Sound, firstFailing};
 ghost use Rattle.layout.specs.Answers.{routeOf};
-ghost use Rattle.chordal_info.specs.Sizes.{rowsFit, routeSizes, Fitting};
+ghost use Rattle.csc.specs.Matrix.{ColumnsInside};
+ghost use Rattle.chordal_info.specs.Sizes.{rowsFit, entriesKept, routeSizes, Fitting};
 ghost use Rattle.chordal_info.specs.Routes.{Counted, routeTests};
 use covered_rows::entries_right;
 use csc::copy_numbers;
@@ -69,6 +70,17 @@ pub fn check_route(
 }
 
 // ---- the sizes
+
+// How many entries of A, which has n columns, a route keeps: each run is one on the compact route.
+pub fn count_entries(route: u32, n: u32, starts: &[u32], rows: &[u32]) -> u32
+    requires { ⌜ ColumnsInside n (now starts) (now rows) × (length (now rows) ≤ 262144) ⌝ }
+    ensures { λ r. ⌜ r ≡ entriesKept (routeOf route) n (now (starts .entry)) (now (rows .entry)) ⌝ }
+{
+    if route == 0 {
+        return rows.len() as u32;
+    }
+    csc::count_all_runs(n, starts, rows) as u32
+}
 
 // The words of an entry of the cone map.
 const ENTRY_WORDS: u32 = 5;

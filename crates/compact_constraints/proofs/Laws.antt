@@ -1,10 +1,11 @@
 -- What the writers ask of constraints that the compact route accepts, and the cut's A and b as the writers state them.
-use Prim.Native.Nat.{ℕ, _+_, _-_, _*_, _/_, _≤_, _<_}
+use Prim.Native.Nat.{ℕ, suc, _+_, _-_, _*_, _/_, _≤_, _<_}
+use native.Mathlib.Nat.{le-of-eq}
 use native.Mathlib.Omega.{arith}
-use mathlib.Core.Path.{_≡_, sym, ap, subst, _∙_}
+use mathlib.Core.Path.{_≡_, sym, ap, ap₂, subst, _∙_}
 use mathlib.Core.Bool.{Bool, false}
-use mathlib.Core.List.{List, map}
-use lib.ListN.{length, take, replicate, length-replicate, replicate-append-replicate}
+use mathlib.Core.List.{List, _++_, map}
+use lib.ListN.{length, getD, take, replicate, length-replicate, length-append, replicate-append-replicate, List·getD-append}
 use lib.Seq.{take-at, length-take-le}
 use lib.Dec.{T, leb}
 use mir.Syntax.{w64}
@@ -13,10 +14,13 @@ use Rattle.layout.specs.Lists.{written}
 use Rattle.layout.specs.Problem.{Problem, Csc, compact}
 use Rattle.layout.specs.Blocks.{compactRows, blockRowCount, overlapCount}
 use Rattle.layout.specs.Checks.{Sound, layout, checks, startsRight}
-use Rattle.layout.specs.Compact.{compactA, compactB}
+use Rattle.layout.specs.Compact.{summedA, compactA, compactB}
+use Rattle.layout.specs.Runs.{sums, runStarts, runCount}
 use Rattle.layout.specs.Answers.{joinedParts}
 use Rattle.layout.proofs.Tests.{and-iff, leb-iff}
-use Rattle.layout.proofs.Starts.{length-written}
+use Rattle.layout.proofs.Starts.{length-written, written-front}
+use Rattle.layout.proofs.Columns.{RightStarts, right-A}
+use Rattle.layout.proofs.Sizes.{compact-sizes}
 use Rattle.layout.proofs.Buffers.{take-written}
 use Rattle.layout.proofs.Order.{passed}
 use Rattle.layout.proofs.Laid.{sound-laid}
@@ -27,13 +31,16 @@ use Rattle.tables.proofs.Tables.{table-length}
 use Rattle.sparsevector.specs.Values.{codeValue}
 use Rattle.sparsevector.proofs.Rows.{compact-values}
 use Rattle.columns.specs.Marks.{Placing, Clear}
-use Rattle.augment_standard.specs.Beside.{besideStarts}
+use Rattle.csc.specs.Matrix.{ColumnsInside}
+use Rattle.csc.proofs.Runs.{run-start, length-run-starts, sums-starts, sums-count}
+use Rattle.augment_standard.specs.Beside.{hStarts, besideStarts}
+use Rattle.augment_standard.proofs.Columns.{length-hStarts}
 use Rattle.augment_compact.specs.Cut.{tiedRows, cutRows, cutValues}
-use Rattle.augment_compact.specs.Places.{placed, ColumnsRise}
+use Rattle.augment_compact.specs.Places.{placed, ColumnsInOrder, RunsStart}
 use Rattle.augment_compact.proofs.Cut.{cut-compact, tied-count}
-use Rattle.augment_compact.proofs.Places.{few-rows as few-codes, accepted-rise, accepted-placing}
+use Rattle.augment_compact.proofs.Places.{few-rows as few-codes, accepted-order, accepted-placing}
 use Rattle.augment_standard.specs.Constraints.{Accepted}
-use Rattle.augment_standard.proofs.Constraints.{whole, sound, few-entries, starts-right, same-b, even-A}
+use Rattle.augment_standard.proofs.Constraints.{whole, sound, few-entries, starts-right, same-b}
 
 -- as many codes as augmented rows
 module _ {m : ℕ} {cones : List ℕ} {count : ℕ} {words : List ℕ} (h : Sound m cones count words) where
@@ -80,43 +87,74 @@ module _ {p : Problem} (h : Accepted compact p) where
   pub few-rows : {rows : ℕ} → rows ≡ blockRowCount (layout p) → rows ≤ 262144
   few-rows e = omega (arith, e, codes-count (sound h), few-codes (whole h) (h .accepted))
 
-  -- the entries of the cut's A
-  pub few-ends : (k : ℕ) → k ≡ overlapCount (layout p) → length (p .A .values) + 2 * k < 4294967296
-  few-ends k e =
+  -- no more columns are added than there are overlaps
+  pub few-overlaps : (k : ℕ) → k ≡ overlapCount (layout p) → k ≤ 262144
+  few-overlaps k e =
       let tenth = and-iff (leb (blockRowCount (layout p)) 262144) (leb (overlapCount (layout p)) 131072) .0 (passed 10 (checks compact (whole h)) tt (h .accepted)) in
-      omega (arith, e, few-entries h, leb-iff (overlapCount (layout p)) 131072 .0 (tenth .1))
+      omega (arith, e, leb-iff (overlapCount (layout p)) 131072 .0 (tenth .1))
 
   -- ---- what the writers ask of A, b and the codes
 
   pub rows-inside : RowsInside (length (p .b)) (map cutCode (compactRows (layout p)))
   rows-inside = accepted-inside (whole h) (h .accepted) (length (p .b)) (omega (arith, same-b h))
 
-  pub columns-right : T (startsRight (p .n) (p .A)) × ColumnsRise (p .n) (p .A)
-  columns-right = (starts-right h, accepted-rise (whole h) (h .accepted))
+  right : RightStarts (p .n) (p .A)
+  right = right-A compact (whole h) (h .accepted)
+
+  pub columns-inside : ColumnsInside (p .n) (p .A .starts) (p .A .rows) × (length (p .A .starts) ≡ suc (p .n)) × (length (p .A .rows) ≤ 262144)
+  columns-inside = ((le-of-eq (sym (right .count)), λ c l. (right .rise c l, right .inside (suc c) l)), right .count, omega (arith, right .even, few-entries h))
+
+  -- the starts that were written are those of the runs
+  runs-start : (k : ℕ) (old : List ℕ) {out : List ℕ} → suc (p .n) + k ≤ length old
+      → out ≡ written (besideStarts (runStarts (p .n) (p .A)) (runCount (p .n) (p .A)) k) old → RunsStart (p .n) (p .A) out
+  runs-start k old {out} room w =
+      let starts = runStarts (p .n) (p .A) in
+      let ends = hStarts (runCount (p .n) (p .A)) k in
+      let size = length-run-starts (p .n) (p .A) in
+      let whole-size : length (starts ++ ends) ≡ suc (p .n) + k = omega (arith, length-append starts ends, length-hStarts (runCount (p .n) (p .A)) k, size) in (
+        omega (arith, ap length w, length-written (starts ++ ends) old (omega (arith, whole-size))),
+        λ c l.
+            ap (λ (xs : List ℕ). getD xs c 0) w
+            ∙ written-front (starts ++ ends) old c 0 (omega (arith, whole-size)) ∙ List·getD-append starts ends 0 c (omega (arith, size)) ∙ run-start (p .n) (p .A) c l,
+      )
+
+  pub columns-right : (k : ℕ) (old : List ℕ) {out : List ℕ} → suc (p .n) + k ≤ length old
+      → out ≡ written (besideStarts (runStarts (p .n) (p .A)) (runCount (p .n) (p .A)) k) old
+      → T (startsRight (p .n) (p .A)) × ColumnsInOrder (p .n) (p .A) × RunsStart (p .n) (p .A) out
+  columns-right k old room w = (starts-right h, accepted-order (whole h) (h .accepted), runs-start k old room w)
 
   codes-placing : (t : List ℕ) → p .m ≤ length t
       → Placing (map cutCode (compactRows (layout p))) (placed 0 (map cutCode (compactRows (layout p))) t) (p .A .rows)
   codes-placing = accepted-placing (whole h) (h .accepted)
 
-  rows-room : length (p .A .rows) + length (tiedRows 0 (map cutCode (compactRows (layout p)))) ≡ length (p .A .values) + 2 * overlapCount (layout p)
-  rows-room = omega (arith, even-A h, tied-count (whole h) (h .accepted))
+  -- as many rows and values as the cut's A has
+  entries : length (summedA p .values) ≡ runCount (p .n) (p .A)
+  entries = sums-count (p .n) (p .A) right
+
+  rows-room : runCount (p .n) (p .A) + length (tiedRows 0 (map cutCode (compactRows (layout p)))) ≡ length (compactA p .rows)
+  rows-room =
+      omega (arith, entries, tied-count (whole h) (h .accepted), ap (λ (ks : List ℕ). getD ks 5 0) (compact-sizes (whole h) (h .accepted)))
+
+  values-room : runCount (p .n) (p .A) + 2 * overlapCount (layout p) ≡ length (compactA p .values)
+  values-room = omega (arith, entries, ap (λ (ks : List ℕ). getD ks 6 0) (compact-sizes (whole h) (h .accepted)))
 
   -- ---- the cut's A and b
 
   pub values-b : map (codeValue (p .b)) (map cutCode (compactRows (layout p))) ≡ compactB p
   values-b = compact-values (whole h) (h .accepted)
 
-  pub rows-A : cutRows (p .n) (p .A) (map cutCode (compactRows (layout p))) ≡ compactA p .rows
+  pub rows-A : cutRows (p .n) (sums (p .n) (p .A)) (map cutCode (compactRows (layout p))) ≡ compactA p .rows
   rows-A = ap (λ (M : Csc). M .rows) (cut-compact (whole h) (h .accepted))
 
   module _ (k : ℕ) (e : k ≡ overlapCount (layout p)) where
-    pub starts-A : besideStarts (p .A .starts) (length (p .A .values)) k ≡ compactA p .starts
+    pub starts-A : besideStarts (runStarts (p .n) (p .A)) (runCount (p .n) (p .A)) k ≡ compactA p .starts
     starts-A =
-        ap (besideStarts (p .A .starts) (length (p .A .values))) e ∙ ap (λ (M : Csc). M .starts) (cut-compact (whole h) (h .accepted))
+        ap₂ (λ (starts : List ℕ) (count : ℕ). besideStarts starts count k) (sym (sums-starts (p .n) (p .A) right)) (sym entries)
+        ∙ ap (besideStarts (summedA p .starts) (length (summedA p .values))) e ∙ ap (λ (M : Csc). M .starts) (cut-compact (whole h) (h .accepted))
 
-    pub values-A : cutValues (p .n) (p .A) (map cutCode (compactRows (layout p))) k ≡ compactA p .values
+    pub values-A : cutValues (p .n) (sums (p .n) (p .A)) (map cutCode (compactRows (layout p))) k ≡ compactA p .values
     values-A =
-        ap (cutValues (p .n) (p .A) (map cutCode (compactRows (layout p)))) e
+        ap (cutValues (p .n) (sums (p .n) (p .A)) (map cutCode (compactRows (layout p)))) e
         ∙ ap (λ (M : Csc). M .values) (cut-compact (whole h) (h .accepted))
 
 -- ---- the codes of so many rows, in tables just cleared
@@ -132,10 +170,10 @@ module _ {p : Problem} (h : Accepted compact p) {rows : ℕ} (e : rows ≡ block
     abbrev Placeable : List ℕ → Type 0
     Placeable cs =
         (RowsInside (length (replicate {A = ℕ} size 0)) cs × Placing cs (placed 0 cs (replicate size 0)) (p .A .rows) × Clear (length cs) (take ((rows + 63) / 64) (replicate flags false)))
-        × ((length (p .A .rows) + length (tiedRows 0 cs) ≤ rowsRoom) × (length (p .A .values) + 2 * k ≤ valuesRoom))
+        × ((runCount (p .n) (p .A) + length (tiedRows 0 cs) ≤ rowsRoom) × (runCount (p .n) (p .A) + 2 * k ≤ valuesRoom))
 
     pub placeable : {cs : List ℕ} → cs ≡ map cutCode (compactRows (layout p)) → p .m ≤ size → rows ≤ 64 * flags → flags ≤ 4096 → k ≡ overlapCount (layout p)
-        → length (p .A .values) + 2 * k ≤ rowsRoom → length (p .A .values) + 2 * k ≤ valuesRoom → Placeable cs
+        → length (compactA p .rows) ≤ rowsRoom → length (compactA p .values) ≤ valuesRoom → Placeable cs
     placeable taken known enough few overlaps r v =
         let place : p .m ≤ length (replicate {A = ℕ} size 0) = omega (arith, length-replicate {A = ℕ} size 0) in
         subst Placeable (sym taken) (
@@ -144,5 +182,5 @@ module _ {p : Problem} (h : Accepted compact p) {rows : ℕ} (e : rows ≡ block
             codes-placing h (replicate size 0) place,
             subst (λ (n : ℕ). Clear n (take ((rows + 63) / 64) (replicate flags false))) (e ∙ sym (codes-count (sound h))) (flags-down rows flags enough few),
           ),
-          (omega (arith, rows-room h, overlaps, r), v),
+          (omega (arith, rows-room h, r), omega (arith, values-room h, overlaps, v)),
         )

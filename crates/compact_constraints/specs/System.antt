@@ -1,5 +1,5 @@
 -- A and b of the compact cut: what their writers ask, and what they write. Definitions only.
-use Prim.Native.Nat.{ℕ, _+_, _*_, _≤_}
+use Prim.Native.Nat.{ℕ, suc, _+_, _≤_}
 use mathlib.Core.Path.{_≡_}
 use mathlib.Core.List.{List}
 use lib.ListN.{length}
@@ -23,9 +23,9 @@ pub record SystemFits (p : Problem) (rows k : ℕ) (out : System) : Type 0 where
   pub accepted : Accepted compact p
   pub blocks : rows ≡ blockRowCount (layout p)
   pub overlaps : k ≡ overlapCount (layout p)
-  pub starts : length (p .A .starts) + k ≤ length (out .A .starts)
-  pub entries : length (p .A .values) + 2 * k ≤ length (out .A .rows)
-  pub values : length (p .A .values) + 2 * k ≤ length (out .A .values)
+  pub starts : suc (p .n) + k ≤ length (out .A .starts)
+  pub entries : length (compactA p .rows) ≤ length (out .A .rows)
+  pub values : length (compactA p .values) ≤ length (out .A .values)
   pub slacks : rows ≤ length (out .b)
 
 -- the cut's A and b at the front of the outputs

@@ -1,13 +1,15 @@
 // The constraints of the compact cut: A and b over the augmented rows of a problem that the route accepts.
 ghost use mathlib.Core.Path.{_≡_};
-ghost use mathlib.Core.List.{map};
-ghost use Prim.Native.Nat.{_+_, _*_, _≤_, _<_};
+ghost use mathlib.Core.List.{[], map};
+ghost use Prim.Native.Nat.{suc, _+_, _≤_};
 ghost use lib.ListN.{length};
 ghost use Rattle.layout.specs.Lists.{written};
 ghost use Rattle.layout.specs.Blocks.{compactRows, blockRowCount};
 ghost use Rattle.layout.specs.Checks.{Sound};
+ghost use Rattle.layout.specs.Runs.{runStarts, runCount};
 ghost use Rattle.layout.specs.Answers.{joinedParts};
 ghost use Rattle.codes.specs.Codes.{cutCode, RowsInside};
+ghost use Rattle.csc.specs.Matrix.{matrix, ColumnsInside};
 ghost use Rattle.sparsevector.specs.Values.{codeValue};
 ghost use Rattle.augment_standard.specs.Beside.{besideStarts};
 ghost use Rattle.augment_standard.specs.Constraints.{constraints};
@@ -16,9 +18,10 @@ use tables::Table;
 
 // Writes the starts of A with the k overlaps' columns, the codes of the `rows` augmented rows to their table, and b from these.
 fn write_starts_and_b(
+    n: u32,
     m: u32,
     a_starts: &[u32],
-    entries: u32,
+    a_rows: &[u32],
     b: &[f64],
     cones: &[u32],
     count: u32,
@@ -32,12 +35,13 @@ fn write_starts_and_b(
     requires { ⌜ Sound m (now cones) count (now words) ⌝ }
     requires { ⌜ (rows ≡ blockRowCount (joinedParts (now cones) count (now words))) × (rows ≤ 262144) × (rows ≤ length (now table)) × (rows ≤ length (now «b_out»)) ⌝ }
     requires { ⌜ RowsInside (length (now b)) (map cutCode (compactRows (joinedParts (now cones) count (now words)))) ⌝ }
-    requires { ⌜ (length (now «a_starts») + k ≤ length (now «a_starts_out»)) × (entries + 2 * k < 4294967296) ⌝ }
+    requires { ⌜ ColumnsInside n (now «a_starts») (now «a_rows») × (length (now «a_starts») ≡ suc n) × (length (now «a_rows») ≤ 262144) ⌝ }
+    requires { ⌜ (suc n + k ≤ length (now «a_starts_out»)) × (k ≤ 262144) ⌝ }
     ensures { λ _. ⌜ now (table .exit) ≡ written (map cutCode (compactRows (joinedParts (now (cones .entry)) count (now (words .entry))))) (now (table .entry)) ⌝ }
-    ensures { λ _. ⌜ now («a_starts_out» .exit) ≡ written (besideStarts (now («a_starts» .entry)) entries k) (now («a_starts_out» .entry)) ⌝ }
+    ensures { λ _. let M = matrix (now («a_starts» .entry)) (now («a_rows» .entry)) [] in ⌜ now («a_starts_out» .exit) ≡ written (besideStarts (runStarts n M) (runCount n M) k) (now («a_starts_out» .entry)) ⌝ }
     ensures { λ _. ⌜ now («b_out» .exit) ≡ written (map (codeValue (now (b .entry))) (map cutCode (compactRows (joinedParts (now (cones .entry)) count (now (words .entry)))))) (now («b_out» .entry)) ⌝ }
 {
-    augment_standard::write_starts(a_starts_out, a_starts, entries, k);
+    augment_compact::write_starts(a_starts_out, n, a_starts, a_rows, k);
     tables::write_table(Table::CutRows, m, cones, count, words, &mut *table);
     sparsevector::move_values(b_out, &table[..rows], b);
 }
@@ -74,9 +78,10 @@ fn with_small_tables(
     let mut place = [0u32; 2048];
     let mut chunks = [false; 32];
     write_starts_and_b(
+        n,
         m,
         a_starts,
-        a_values.len() as u32,
+        a_rows,
         b,
         cones,
         count,
@@ -84,7 +89,7 @@ fn with_small_tables(
         rows,
         k,
         &mut table,
-        a_starts_out,
+        &mut *a_starts_out,
         b_out,
     );
     let end = (rows + 63) / 64;
@@ -98,6 +103,7 @@ fn with_small_tables(
         a_starts,
         a_rows,
         a_values,
+        &*a_starts_out,
         k,
     );
 }
@@ -134,9 +140,10 @@ fn with_large_tables(
     let mut place = [0u32; 65536];
     let mut chunks = [false; 4096];
     write_starts_and_b(
+        n,
         m,
         a_starts,
-        a_values.len() as u32,
+        a_rows,
         b,
         cones,
         count,
@@ -144,7 +151,7 @@ fn with_large_tables(
         rows,
         k,
         &mut table,
-        a_starts_out,
+        &mut *a_starts_out,
         b_out,
     );
     let end = (rows + 63) / 64;
@@ -158,6 +165,7 @@ fn with_large_tables(
         a_starts,
         a_rows,
         a_values,
+        &*a_starts_out,
         k,
     );
 }

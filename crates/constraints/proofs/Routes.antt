@@ -1,5 +1,6 @@
 -- A route by its number: what the writers ask and write on each.
-use Prim.Native.Nat.{ℕ, _≤_}
+use Prim.Native.Nat.{ℕ, suc, _+_, _≤_}
+use native.Mathlib.Omega.{arith}
 use mathlib.Core.Path.{_≡_, refl, sym, ap, subst, _∙_}
 use mathlib.Core.List.{List}
 use lib.ListN.{length}
@@ -36,6 +37,9 @@ module _ (p : Problem) {route other : Route} (e : route ≡ other) where
   pub map-on : {after : List ℕ} (before : List ℕ) → after ≡ written (augmented other p .map) before → after ≡ written (augmented route p .map) before
   map-on {after} before h = subst (λ (r : Route). after ≡ written (augmented r p .map) before) (sym e) h
 
--- room for b, by the counts
+-- room for the starts, and for b by the counts
+pub room-starts : (n k : ℕ) {room : ℕ} → suc (n + k) ≤ room → suc n + k ≤ room
+room-starts n k r = omega arith
+
 pub room-compact : {rows blocks : ℕ} (room : ℕ) → rows ≡ blocks → blocks ≤ room → rows ≤ room
 room-compact room e r = subst (λ (j : ℕ). j ≤ room) (sym e) r

@@ -1,2 +1,3 @@
 pub mod Fronts
+pub mod Runs
 pub mod Compressed

@@ -1,12 +1,13 @@
-// clarabel's algebra/csc/core.rs: checks 2 and 3 of one matrix of compressed columns, and the writers that copy and extend its
-// tables.
+// clarabel's algebra/csc/core.rs: checks 2 and 3 of one matrix of compressed columns, the runs of repeated rows in its columns, and
+// the writers that copy and extend its tables.
 ghost use mathlib.Core.Path.{_≡_};
 ghost use mathlib.Core.List.{_++_};
-ghost use Prim.Native.Nat.{_+_, _≤_};
+ghost use Prim.Native.Nat.{_+_, _≤_, _<_};
 ghost use lib.ListN.{length, replicate};
 ghost use lib.Dec.{T};
 ghost use Rattle.layout.specs.Lists.{all, below, rises, written};
-ghost use Rattle.layout.specs.Checks.{neverFalls, startsRight, rowsRight, columnRows};
+ghost use Rattle.layout.specs.Checks.{neverFalls, startsRight, rowsInOrder, rowsRight, columnRows};
+ghost use Rattle.layout.specs.Runs.{runs, runFirst, runLast, runStarts, runCount};
 ghost use Rattle.layout.specs.Compact.{extendedP};
 ghost use Rattle.csc.specs.Matrix.{matrix, table, ColumnsInside};
 
@@ -76,7 +77,25 @@ fn columns_rise(n: u32, starts: &[u32], rows: &[u32]) -> bool
     true
 }
 
-// Check 3 of an m by n matrix that passes check 2; the rest of clarabel's check_format.
+// Whether the rows of each of the n columns never fall.
+fn columns_never_fall(n: u32, starts: &[u32], rows: &[u32]) -> bool
+    requires { ⌜ ColumnsInside n (now starts) (now rows) ⌝ }
+    ensures { λ r. ⌜ r ≡ all (λ c. neverFalls (columnRows (table (now (starts .entry)) (now (rows .entry))) c)) (below n) ⌝ }
+{
+    let count = n as usize;
+    let mut c = 0;
+    while c < count {
+        let first = starts[c] as usize;
+        let end = starts[c + 1] as usize;
+        if !never_falls(&rows[first..end]) {
+            return false;
+        }
+        c += 1;
+    }
+    true
+}
+
+// Check 3 of P, an m by n matrix that passes check 2; the rest of clarabel's check_format.
 pub fn rows_right(m: u32, n: u32, starts: &[u32], rows: &[u32], values: &[f64]) -> bool
     requires { ⌜ T (startsRight n (matrix (now starts) (now rows) (now values))) ⌝ }
     ensures { λ r. ⌜ r ≡ rowsRight m n (matrix (now (starts .entry)) (now (rows .entry)) (now (values .entry))) ⌝ }
@@ -85,6 +104,122 @@ pub fn rows_right(m: u32, n: u32, starts: &[u32], rows: &[u32], values: &[f64]) 
         return false;
     }
     columns_rise(n, starts, rows)
+}
+
+// Check 3 of A, which may repeat a row in a column.
+pub fn rows_in_order(m: u32, n: u32, starts: &[u32], rows: &[u32], values: &[f64]) -> bool
+    requires { ⌜ T (startsRight n (matrix (now starts) (now rows) (now values))) ⌝ }
+    ensures { λ r. ⌜ r ≡ rowsInOrder m n (matrix (now (starts .entry)) (now (rows .entry)) (now (values .entry))) ⌝ }
+{
+    let end = m as usize;
+    if !utils::all_below(rows, end) {
+        return false;
+    }
+    columns_never_fall(n, starts, rows)
+}
+
+// ---- runs: places one after the other that hold the same row
+
+// The first and last place of a run.
+pub struct Run {
+    pub first: usize,
+    pub last: usize,
+}
+
+// Finds the first place of the run that holds place `t`.
+fn first_place(rows: &[u32], t: usize) -> usize
+    requires { ⌜ t < length (now rows) ⌝ }
+    ensures { λ r. ⌜ r ≡ runFirst (now (rows .entry)) t ⌝ }
+{
+    let mut first = t;
+    while first > 0 {
+        if rows[first - 1] != rows[first] {
+            break;
+        }
+        first -= 1;
+    }
+    first
+}
+
+// Finds the last place of the run that holds place `t`.
+fn last_place(rows: &[u32], t: usize) -> usize
+    requires { ⌜ t < length (now rows) ⌝ }
+    ensures { λ r. ⌜ r ≡ runLast (now (rows .entry)) t ⌝ }
+{
+    let mut last = t;
+    while last + 1 < rows.len() {
+        if rows[last + 1] != rows[last] {
+            break;
+        }
+        last += 1;
+    }
+    last
+}
+
+// Finds the run of one column that holds place `t`. clarabel's get_row_index answers its first place alone.
+pub fn get_row_run(rows: &[u32], t: usize) -> Run
+    requires { ⌜ t < length (now rows) ⌝ }
+    ensures { λ r. ⌜ (r .first ≡ runFirst (now (rows .entry)) t) × (r .last ≡ runLast (now (rows .entry)) t) ⌝ }
+{
+    Run {
+        first: first_place(rows, t),
+        last: last_place(rows, t),
+    }
+}
+
+// Counts the runs in the rows of one column.
+pub fn count_runs(rows: &[u32]) -> usize
+    ensures { λ r. ⌜ r ≡ length (runs (now (rows .entry))) ⌝ }
+{
+    if rows.len() == 0 {
+        return 0;
+    }
+    let mut count = 1;
+    let mut i = 0;
+    while i + 1 < rows.len() {
+        if rows[i + 1] != rows[i] {
+            count += 1;
+        }
+        i += 1;
+    }
+    count
+}
+
+// Counts the runs of `n` columns.
+pub fn count_all_runs(n: u32, starts: &[u32], rows: &[u32]) -> usize
+    requires { ⌜ ColumnsInside n (now starts) (now rows) × (length (now rows) ≤ 262144) ⌝ }
+    ensures { λ r. ⌜ r ≡ runCount n (table (now (starts .entry)) (now (rows .entry))) ⌝ }
+{
+    let columns = n as usize;
+    let mut count = 0;
+    let mut c = 0;
+    while c < columns {
+        let first = starts[c] as usize;
+        let end = starts[c + 1] as usize;
+        count += count_runs(&rows[first..end]);
+        c += 1;
+    }
+    count
+}
+
+// Writes the starts of `n` columns whose runs are one entry each, and answers how many entries these are.
+pub fn write_run_starts(out: &mut [u32], n: u32, starts: &[u32], rows: &[u32]) -> u32
+    requires { ⌜ ColumnsInside n (now starts) (now rows) × (length (now rows) ≤ 262144) × (n < length (now out)) ⌝ }
+    ensures { λ r. ⌜ r ≡ runCount n (table (now (starts .entry)) (now (rows .entry))) ⌝ }
+    ensures { λ _. ⌜ now (out .exit) ≡ written (runStarts n (table (now (starts .entry)) (now (rows .entry)))) (now (out .entry)) ⌝ }
+{
+    let columns = n as usize;
+    let mut count = 0;
+    let mut c = 0;
+    out[0] = 0;
+    while c < columns {
+        let first = starts[c] as usize;
+        let end = starts[c + 1] as usize;
+        count += count_runs(&rows[first..end]) as u32;
+        c += 1;
+        out[c] = count;
+    }
+    count
 }
 
 // How many entries a matrix that passes check 2 has: its last start.

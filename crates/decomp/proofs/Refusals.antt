@@ -10,7 +10,7 @@ use Rattle.layout.specs.Blocks.{blockRowCount, overlapCount, coneCount}
 use Rattle.layout.specs.Checks.{layout, check10, check, firstFailing, refusal}
 use Rattle.layout.specs.Answers.{orElse, roomRefusal, routeOf, onRoute, problemRefusal, sizesRefusal, sizes}
 use Rattle.checks.proofs.Order.{problem-then-route, first-given}
-use Rattle.chordal_info.specs.Sizes.{Fitting, routeSizes}
+use Rattle.chordal_info.specs.Sizes.{entriesKept, Fitting, routeSizes}
 use Rattle.chordal_info.specs.Routes.{routeTests}
 use Rattle.chordal_info.proofs.Routes.{entries-check}
 use Rattle.chordal_info.proofs.Sizes.{route-sizes}
@@ -53,13 +53,13 @@ accepted route p x z e h = refused-late route p z ∙ sym e ∙ h
 -- counts of the blocks' rows, their overlaps and the new cones
 module _ (route : Route) (p : Problem) (ok : refusal route p ≡ 0) (rows overlaps cones : ℕ)
     (e : rows ≡ blockRowCount (layout p)) (f : overlaps ≡ overlapCount (layout p)) (g : cones ≡ coneCount (layout p)) where
-  pub counts-fit : Fitting route (p .n) (p .m) (length (p .A .values)) rows overlaps cones
+  pub counts-fit : Fitting route (p .n) (p .m) (entriesKept route (p .n) (p .A .starts) (p .A .rows)) rows overlaps cones
   counts-fit = rw (e, f, g) (accepted-fitting route p ok)
 
-  counts-sizes : routeSizes route (p .n) (p .m) (length (p .P .values)) (length (p .A .values)) (length (p .alphas)) rows overlaps cones ≡ sizes route p
+  counts-sizes : routeSizes route (p .n) (p .m) (length (p .P .values)) (entriesKept route (p .n) (p .A .starts) (p .A .rows)) (length (p .alphas)) rows overlaps cones ≡ sizes route p
   counts-sizes = rw (e, f, g) (sym (route-sizes route p ok))
 
   pub sizes-written : {new : List ℕ} (old : List ℕ)
-      → new ≡ written (routeSizes route (p .n) (p .m) (length (p .P .values)) (length (p .A .values)) (length (p .alphas)) rows overlaps cones) old
+      → new ≡ written (routeSizes route (p .n) (p .m) (length (p .P .values)) (entriesKept route (p .n) (p .A .starts) (p .A .rows)) (length (p .alphas)) rows overlaps cones) old
       → new ≡ written (sizes route p) old
   sizes-written old w = w ∙ ap (λ (l : List ℕ). written l old) counts-sizes

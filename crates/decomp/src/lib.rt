@@ -59,7 +59,7 @@ pub fn sizes(
         return 11;
     }
     let p_entries = p_values.len() as u32;
-    let a_entries = a_values.len() as u32;
+    let a_entries = chordal_info::count_entries(route, n, a_starts, a_rows);
     let alpha_count = alphas.len() as u32;
     chordal_info::write_sizes(
         route,

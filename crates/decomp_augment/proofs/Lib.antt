@@ -1,4 +1,5 @@
 pub mod Rooms
 pub mod Demand3
 pub mod NoColumns
+pub mod Alone
 pub mod FirstRows

@@ -14,7 +14,7 @@ use Rattle.layout.specs.Calls.Cut.{Objective, objectiveOf, HoldsObjective, Cons
 use Rattle.layout.proofs.Tests.{and-iff, leb-iff}
 use Rattle.layout.proofs.Accepted.{accepted-checked}
 use Rattle.layout.proofs.Promises.{Taken}
-use Rattle.chordal_info.specs.Sizes.{routeSizes}
+use Rattle.chordal_info.specs.Sizes.{entriesKept, routeSizes}
 use Rattle.chordal_info.proofs.Sizes.{route-sizes}
 use Rattle.augment_standard.specs.Constraints.{constraints, Accepted}
 use Rattle.augment.specs.Fits.{extended, ObjectiveFits, ConstrainedFits}
@@ -62,7 +62,7 @@ module _ (p : Problem) (rooms : List ℕ) where
   -- what the outputs need, by the counts
   abbrev counts : Route → List ℕ
   counts route =
-      routeSizes route (p .n) (p .m) (length (p .P .values)) (length (p .A .values)) (length (p .alphas)) (blockRowCount (layout p))
+      routeSizes route (p .n) (p .m) (length (p .P .values)) (entriesKept route (p .n) (p .A .starts) (p .A .rows)) (length (p .alphas)) (blockRowCount (layout p))
       (overlapCount (layout p)) (coneCount (layout p))
 
   counted : (route : Route) → Taken route p rooms → T (roomy (counts route) rooms)
@@ -72,18 +72,18 @@ module _ (p : Problem) (rooms : List ℕ) where
   abbrev pub Rooms : Route → ℕ → Type 0
   Rooms route k =
       ((suc (p .n + k) ≤ room 0) × (length (p .P .values) ≤ room 1) × (length (p .P .values) ≤ room 2) × (p .n + k ≤ room 3) × (length (p .alphas) ≤ room 9))
-      × ((suc (p .n + k) ≤ room 4) × (length (p .A .values) + 2 * k ≤ room 5) × (length (p .A .values) + 2 * k ≤ room 6)
+      × ((suc (p .n + k) ≤ room 4) × (length (augmented route (only p) .A .rows) ≤ room 5) × (length (augmented route (only p) .A .values) ≤ room 6)
       × (slackCount route (p .m) (layout p) ≤ room 7) × (length (augmented route (only p) .cones) ≤ room 8) × (length (augmented route (only p) .map) ≤ room 10))
 
   by-counts : (route : Route) → Taken route p rooms → Rooms route (addedCount route (layout p))
   by-counts standard ok =
       let f : (i : ℕ) → i < 11 → getD (counts standard) i 0 ≤ room i = λ i l. fits (counts standard) rooms i (counted standard ok) l in
       let g : (i : ℕ) → i < 11 → getD (sizes standard p) i 0 ≤ room i = λ i l. fits (sizes standard p) rooms i (ok .1) l in
-      ((f 0 (lit< tt), f 1 (lit< tt), f 2 (lit< tt), f 3 (lit< tt), f 9 (lit< tt)), (f 4 (lit< tt), f 5 (lit< tt), f 6 (lit< tt), f 7 (lit< tt), g 8 (lit< tt), g 10 (lit< tt)))
+      ((f 0 (lit< tt), f 1 (lit< tt), f 2 (lit< tt), f 3 (lit< tt), f 9 (lit< tt)), (f 4 (lit< tt), g 5 (lit< tt), g 6 (lit< tt), f 7 (lit< tt), g 8 (lit< tt), g 10 (lit< tt)))
   by-counts compact ok =
       let f : (i : ℕ) → i < 11 → getD (counts compact) i 0 ≤ room i = λ i l. fits (counts compact) rooms i (counted compact ok) l in
       let g : (i : ℕ) → i < 11 → getD (sizes compact p) i 0 ≤ room i = λ i l. fits (sizes compact p) rooms i (ok .1) l in
-      ((f 0 (lit< tt), f 1 (lit< tt), f 2 (lit< tt), f 3 (lit< tt), f 9 (lit< tt)), (f 4 (lit< tt), f 5 (lit< tt), f 6 (lit< tt), f 7 (lit< tt), g 8 (lit< tt), g 10 (lit< tt)))
+      ((f 0 (lit< tt), f 1 (lit< tt), f 2 (lit< tt), f 3 (lit< tt), f 9 (lit< tt)), (f 4 (lit< tt), g 5 (lit< tt), g 6 (lit< tt), f 7 (lit< tt), g 8 (lit< tt), g 10 (lit< tt)))
 
   module _ (route : Route) (ok : Taken route p rooms) (k : ℕ) (e : k ≡ addedCount route (layout p)) where
     pub on-route : Rooms route k

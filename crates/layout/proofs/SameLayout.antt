@@ -13,13 +13,14 @@ use Rattle.layout.specs.Cones.{records}
 use Rattle.layout.specs.Patterns.{Pattern, Read, read, short, andThen, readPattern, readPatterns, endsRight, patterns}
 use Rattle.layout.specs.Blocks.{Part, parts, blockRowCount, overlapCount}
 use Rattle.layout.specs.Checks.{originsRise, namesItsCone, orderingsRight, layout, refusal}
-use Rattle.layout.specs.Compact.{compactPart, coneMap, mapWords, extendedP}
+use Rattle.layout.specs.Compact.{summedA, compactPart, coneMap, mapWords, extendedP}
 use Rattle.layout.specs.Standard.{standardPart}
 use Rattle.layout.specs.Answers.{augmented, sameBits, samePlaces, sameLayout, SameAugmented}
 use Rattle.layout.proofs.Tests.{and-iff}
 use Rattle.layout.proofs.Accepted.{accepted-sound}
 use Rattle.layout.proofs.Columns.{right-A, right-P}
-use Rattle.layout.proofs.Places.{SamePlaces, compact-same, standard-same}
+use Rattle.layout.proofs.Repeats.{right-summed}
+use Rattle.layout.proofs.Places.{SamePlaces, summed-same, compact-same, standard-same}
 use Rattle.layout.proofs.Walks.{same-at, numbers-equal}
 use Rattle.layout.proofs.Sizes.{compactSizes, compact-sizes, standardSizes, standard-sizes}
 
@@ -102,6 +103,10 @@ module _ (route : Route) (p q : Problem) (same : T (sameLayout p q)) (okp : refu
     sym (right-P route p okp .even) ∙ ap length (compared .6 .1) ∙ right-P route q okq .even,
   )
 
+  summed-entries : length (summedA p .values) ≡ length (summedA q .values)
+  summed-entries =
+      sym (right-summed p .even) ∙ ap length (summed-same p q (compared .0) (compared .5) .1) ∙ right-summed q .even
+
   α-count : length (p .alphas) ≡ length (q .alphas)
   α-count = same-at sameBits nan (p .alphas) (q .alphas) .0 (compared .4) .0
 
@@ -126,7 +131,8 @@ same-compact p q same okp okq =
       startsP = P .0;
       rowsP = P .1;
       lengths =
-          compact-sizes p okp ∙ (λ i. compactSizes (e .0 i) (k .1 i) (k .0 i) (α-count compact p q same okp okq i) (l i))
+          compact-sizes p okp
+          ∙ (λ i. compactSizes (e .0 i) (k .1 i) (summed-entries compact p q same okp okq i) (α-count compact p q same okp okq i) (l i))
           ∙ sym (compact-sizes q okq);
     }
 

@@ -7,12 +7,12 @@ use mathlib.Core.List.{List, [], _∷_, _++_, map, map-append, map-map, reverse}
 use lib.ListN.{length, replicate, length-append, length-map, length-replicate, length-reverse}
 use Rattle.layout.specs.Lists.{below, upFrom, sum, join}
 use Rattle.layout.specs.Triangle.{triangle}
-use Rattle.layout.specs.Problem.{Problem, zero64, Route, standard, compact}
+use Rattle.layout.specs.Problem.{Problem, Csc, zero64, standard, compact}
 use Rattle.layout.specs.Cones.{rowCount}
 use Rattle.layout.specs.Patterns.{Pattern, Clique, cliqueAt, cliqueCount, blockSize, noClique}
 use Rattle.layout.specs.Blocks.{Row, Part, whole, cut, block, blockRows, pairRow, compactRows, standardRows, blockRowCount, overlapCount, partCones, partRows, coneCount}
 use Rattle.layout.specs.Checks.{layout, refusal, RightPattern, Laid}
-use Rattle.layout.specs.Compact.{Entry, column, augmentedColumn, overlapColumns, compactA, rowValue, psdWords, compactPart, MapEntry, wholeCone, blockOf, blockEntry, mapPart, mapFrom, mapWords, compactB, compactP, coneMap, compactColumns}
+use Rattle.layout.specs.Compact.{Entry, column, summed, summedA, augmentedColumn, overlapColumns, compactA, rowValue, psdWords, compactPart, MapEntry, wholeCone, blockOf, blockEntry, mapPart, mapFrom, mapWords, compactB, compactP, coneMap, compactColumns}
 use Rattle.layout.specs.Standard.{blockColumns, standardA, standardP, standardPart, standardCones}
 use Rattle.layout.specs.Answers.{sizes}
 use Rattle.layout.proofs.Members.{length-upFrom, has-below, length-below}
@@ -21,7 +21,8 @@ use Rattle.layout.proofs.Starts.{sum-append, length-starts}
 use Rattle.layout.proofs.Accepted.{accepted-checked}
 use Rattle.layout.proofs.Rows.{block-length}
 use Rattle.layout.proofs.Laid.{accepted-laid, accepted-count}
-use Rattle.layout.proofs.Columns.{columns-sum, entry-count, even, right-A, right-P}
+use Rattle.layout.proofs.Columns.{RightStarts, columns-sum, entry-count, even, right-A, right-P}
+use Rattle.layout.proofs.Repeats.{summed-column, right-summed}
 use Rattle.layout.proofs.Links.{Link, links}
 use Rattle.layout.proofs.RowSums.{linkColumn, overlap-columns}
 use Rattle.layout.proofs.Cut.{link-count, all-columns-count}
@@ -118,11 +119,9 @@ standard-count row (cut i r k p ∷ ps) h =
       standard-count (row + triangle (p .vertexCount)) ps (h .2),
     )
 
-module _ (route : Route) (p : Problem) (ok : refusal route p ≡ 0) where
-  entries-A : sum (map (λ c. length (column (p .A) c)) (below (p .n))) ≡ length (p .A .values)
-  entries-A =
-      let right = right-A route p ok in
-      columns-sum (p .n) (p .A) right (p .n) (le-refl (p .n)) ∙ right .last ∙ right .even
+-- the columns' entries are the matrix's
+column-entries : (n : ℕ) (M : Csc) → RightStarts n M → sum (map (λ c. length (column M c)) (below n)) ≡ length (M .values)
+column-entries n M right = columns-sum n M right n (le-refl n) ∙ right .last ∙ right .even
 
 extended : {A : Type 0} (xs : List A) (n k : ℕ) (a : A) → length xs ≡ n → length (xs ++ replicate k a) ≡ n + k
 extended xs n k a e = length-append xs (replicate k a) ∙ ap₂ _+_ e (length-replicate k a)
@@ -137,7 +136,7 @@ module _ (p : Problem) (ok : refusal compact p ≡ 0) where
   R = compactRows (layout p)
 
   abbrev moving : ℕ → List Entry
-  moving c = augmentedColumn (column (p .A) c) 0 R
+  moving c = augmentedColumn (summed (column (p .A) c)) 0 R
 
   compact-columns : length (map length (compactColumns p)) ≡ p .n + k
   compact-columns =
@@ -147,17 +146,17 @@ module _ (p : Problem) (ok : refusal compact p ≡ 0) where
   compact-starts : length (compactA p .starts) ≡ suc (p .n + k)
   compact-starts = length-starts 0 (map length (compactColumns p)) ∙ ap suc compact-columns
 
-  compact-entries : length (compactA p .values) ≡ length (p .A .values) + 2 * k
+  compact-entries : length (compactA p .values) ≡ length (summedA p .values) + 2 * k
   compact-entries =
       entry-count (compactColumns p) ∙ two-parts moving (p .n) (overlapColumns 0 R)
       ∙ ap₂ _+_
-      (ap sum (map-same (λ c. length (moving c)) (λ c. length (column (p .A) c)) (below (p .n))
-      (λ c h. columns-keep p ok c (has-below c (p .n) .0 h)))
-      ∙ entries-A compact p ok)
+      (ap sum (map-same (λ c. length (moving c)) (λ c. length (column (summedA p) c)) (below (p .n))
+      (λ c h. let l = has-below c (p .n) .0 h in columns-keep p ok c l ∙ ap length (sym (summed-column p c l))))
+      ∙ column-entries (p .n) (summedA p) (right-summed p))
       (ap (λ (cs : List (List Entry)). sum (map length cs)) (overlap-columns 0 R) ∙ links-entries (links 0 R)
       ∙ ap (λ (j : ℕ). 2 * j) (link-count p ok))
 
-  compact-rows : length (compactA p .rows) ≡ length (p .A .values) + 2 * k
+  compact-rows : length (compactA p .rows) ≡ length (summedA p .values) + 2 * k
   compact-rows = even (compactColumns p) ∙ compact-entries
 
   compact-b : length (compactB p) ≡ blockRowCount (layout p)
@@ -169,7 +168,7 @@ module _ (p : Problem) (ok : refusal compact p ≡ 0) where
   compact-map : length (mapWords (coneMap (layout p))) ≡ 5 * coneCount (layout p)
   compact-map = omega (arith, map-count 0 (layout p), entries-length (coneMap (layout p)))
 
--- from n, the entries of P and of A, the number of α and the parts
+-- from n, the entries of P and of A with its repeats added, the number of α and the parts
 abbrev pub compactSizes : ℕ → ℕ → ℕ → ℕ → List Part → List ℕ
 compactSizes n entriesP entriesA alphas ps =
     let added = overlapCount ps in
@@ -179,7 +178,7 @@ compactSizes n entriesP entriesA alphas ps =
     ∷ (3 * coneCount ps) ∷ alphas ∷ (5 * coneCount ps) ∷ []
 
 pub compact-sizes : (p : Problem) → refusal compact p ≡ 0
-    → sizes compact p ≡ compactSizes (p .n) (length (p .P .values)) (length (p .A .values)) (length (p .alphas)) (layout p)
+    → sizes compact p ≡ compactSizes (p .n) (length (p .P .values)) (length (summedA p .values)) (length (p .alphas)) (layout p)
 compact-sizes p ok =
     let q-length = extended (p .q) (p .n) (overlapCount (layout p)) zero64 (accepted-checked compact p ok .lengthQ) in
     λ i.
@@ -210,7 +209,7 @@ module _ (p : Problem) (ok : refusal standard p ≡ 0) where
       let os = standardRows (layout p) in
       entry-count (map (column (p .A)) (below (p .n)) ++ blockColumns (p .m) os)
       ∙ two-parts (column (p .A)) (p .n) (blockColumns (p .m) os)
-      ∙ ap₂ _+_ (entries-A standard p ok) (blocks-entries (p .m) os ∙ ap (λ (j : ℕ). 2 * j) rows-count)
+      ∙ ap₂ _+_ (column-entries (p .n) (p .A) (right-A standard p ok)) (blocks-entries (p .m) os ∙ ap (λ (j : ℕ). 2 * j) rows-count)
 
   standard-rows : length (standardA p .rows) ≡ length (p .A .values) + 2 * rows
   standard-rows = even (map (column (p .A)) (below (p .n)) ++ blockColumns (p .m) (standardRows (layout p))) ∙ standard-entries

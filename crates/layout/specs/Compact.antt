@@ -4,7 +4,7 @@ use mathlib.Core.Bool.{cond}
 use mathlib.Core.List.{List, [], _∷_, _++_, map, reverse}
 use lib.ListN.{length, getD, replicate}
 use lib.Dec.{eqb}
-use lib.Ieee.{Float, nan, eq}
+use lib.Ieee.{Float, nan, eq, add, binary64}
 use Rattle.layout.specs.Lists.{keep, below, upFrom, join, startsFrom}
 use Rattle.layout.specs.Problem.{Problem, Csc, zero64, one64, minusOne64}
 use Rattle.layout.specs.Triangle.{triangle}
@@ -36,6 +36,27 @@ csc cs = record {
   values = map (λ (e : Entry). e .value) (join (λ c. c) cs);
 }
 
+-- an entry with the value of a repeat added
+abbrev pub plus : Entry → Entry → Entry
+plus e f = record { row = e .row; value = add binary64 (e .value) (f .value) }
+
+-- e and the entries after it, repeats of a row added from left to right: an entry alone keeps its value
+abbrev pub summedFrom : Entry → List Entry → List Entry
+summedFrom e [] = e ∷ []
+summedFrom e (f ∷ es) =
+    let together = summedFrom (plus e f) es in
+    let apart = e ∷ summedFrom f es in
+    cond (eqb (e .row) (f .row)) together apart
+
+-- a column with its repeats added
+abbrev pub summed : List Entry → List Entry
+summed [] = []
+summed (e ∷ es) = summedFrom e es
+
+-- A with the rounded sums in place
+abbrev pub summedA : Problem → Csc
+summedA p = csc (map (λ c. summed (column (p .A) c)) (below (p .n)))
+
 -- the entries of a column that stand on original row o, moved to row r
 abbrev pub moved : ℕ → ℕ → List Entry → List Entry
 moved o r es = map (λ (e : Entry). record { row = r; value = e .value }) (keep (λ (e : Entry). eqb (e .row) o) es)
@@ -60,11 +81,11 @@ abbrev pub overlapColumns : ℕ → List Row → List (List Entry)
 overlapColumns r [] = []
 overlapColumns r (x ∷ xs) = overlapColumn r x ++ overlapColumns (suc r) xs
 
--- A's columns, then the overlaps'
+-- A's columns with their repeats added, then the overlaps'
 abbrev pub compactColumns : Problem → List (List Entry)
 compactColumns p =
     let rows = compactRows (layout p) in
-    map (λ c. augmentedColumn (column (p .A) c) 0 rows) (below (p .n)) ++ overlapColumns 0 rows
+    map (λ c. augmentedColumn (summed (column (p .A) c)) 0 rows) (below (p .n)) ++ overlapColumns 0 rows
 
 abbrev pub compactA : Problem → Csc
 compactA p = csc (compactColumns p)

@@ -6,7 +6,7 @@ use lib.Ieee.{ofBits}
 use Rattle.layout.specs.Problem.{zero64}
 use Rattle.layout.proofs.Accepted.{fits-u32}
 use Rattle.augment_standard.proofs.Constraints.{renamed, sound, few-entries, room-starts}
-use Rattle.augment.proofs.Laws.{few-rows, few-ends, room-rows, room-b, starts-A, rows-A, values-A}
+use Rattle.augment.proofs.Laws.{few-rows, few-ends, room-rows, room-values, room-b, starts-A, rows-A, values-A}
 use Rattle.augment.proofs.decomp_augment_standard.Statement.{statement}
 use Rattle.augment.proofs.decomp_augment_standard.Tie as tie
 
@@ -27,7 +27,9 @@ standard-a-rows-requires c κs =
     (sound (s .pre .accepted), (e, few-rows (s .pre .accepted) k e, room-rows (s .pre .accepted) k e _ (s .pre .rows)))
 
 write-values-requires : tie.Need-write-values-requires
-write-values-requires c κs = c .before .before .before .before .before .before .before .before .before .before .before .before .before .before .before .before .before .before .before .before .pre .values
+write-values-requires c κs =
+    let s = c .before .before .before .before .before .before .before .before .before .before .before .before .before .before .before .before .before .before .before .before in
+    room-values (s .pre .accepted) (s .args .k) (s .pre .added) _ (s .pre .values)
 
 extend-values-requires : tie.Need-extend-values-requires
 extend-values-requires c κs =

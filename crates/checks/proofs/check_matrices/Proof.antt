@@ -1,7 +1,7 @@
 use mathlib.Core.Path.{_≡_, sym, _∙_}
 use mathlib.Core.Bool.{true}
 use borrow.Author.Tests.{not-true, not-false}
-use Rattle.layout.specs.Checks.{startsRight, rowsRight}
+use Rattle.layout.specs.Checks.{startsRight, rowsInOrder}
 use Rattle.csc.specs.Matrix.{matrix}
 use Rattle.layout.proofs.Tests.{passes}
 use Rattle.checks.proofs.check_matrices.Statement.{statement}
@@ -27,24 +27,24 @@ starts-of-p : (c : tie.Else2) → let s = c .before .before .before .before .bef
     startsRight (s .args .n) (matrix (s .args .p-starts .now) (s .args .p-rows .now) (s .args .p-values .now)) ≡ true
 starts-of-p c = sym (c .before .starts-right2 .ensures) ∙ not-false _ (c .if2 .left)
 
-rows-right-requires : tie.Need-rows-right-requires
-rows-right-requires c κs = passes _ (starts-of-a (c .before .before))
+rows-in-order-requires : tie.Need-rows-in-order-requires
+rows-in-order-requires c κs = passes _ (starts-of-a (c .before .before))
 
 returns-3 : tie.Need-returns-3
-returns-3 c = rw (starts-of-a (c .before .before .before .before), starts-of-p (c .before .before), sym (c .before .rows-right .ensures) ∙ not-true _ (c .if3 .taken))
+returns-3 c = rw (starts-of-a (c .before .before .before .before), starts-of-p (c .before .before), sym (c .before .rows-in-order .ensures) ∙ not-true _ (c .if3 .taken))
 
 rows-of-a : (c : tie.Else3) → let s = c .before .before .before .before .before .before .before .before .before .before .before .before in
-    rowsRight (s .args .m) (s .args .n) (matrix (s .args .a-starts .now) (s .args .a-rows .now) (s .args .a-values .now)) ≡ true
-rows-of-a c = sym (c .before .rows-right .ensures) ∙ not-false _ (c .if3 .left)
+    rowsInOrder (s .args .m) (s .args .n) (matrix (s .args .a-starts .now) (s .args .a-rows .now) (s .args .a-values .now)) ≡ true
+rows-of-a c = sym (c .before .rows-in-order .ensures) ∙ not-false _ (c .if3 .left)
 
-rows-right-requires-2 : tie.Need-rows-right-requires-2
-rows-right-requires-2 c κs = passes _ (starts-of-p (c .before .before))
+rows-right-requires : tie.Need-rows-right-requires
+rows-right-requires c κs = passes _ (starts-of-p (c .before .before))
 
 returns-4 : tie.Need-returns-4
-returns-4 c = rw (starts-of-a (c .before .before .before .before .before .before), starts-of-p (c .before .before .before .before), rows-of-a (c .before .before), sym (c .before .rows-right2 .ensures) ∙ not-true _ (c .if4 .taken))
+returns-4 c = rw (starts-of-a (c .before .before .before .before .before .before), starts-of-p (c .before .before .before .before), rows-of-a (c .before .before), sym (c .before .rows-right .ensures) ∙ not-true _ (c .if4 .taken))
 
 returns-5 : tie.Need-returns-5
-returns-5 c = rw (starts-of-a (c .before .before .before .before .before .before), starts-of-p (c .before .before .before .before), rows-of-a (c .before .before), sym (c .before .rows-right2 .ensures) ∙ not-false _ (c .if4 .left))
+returns-5 c = rw (starts-of-a (c .before .before .before .before .before .before), starts-of-p (c .before .before .before .before), rows-of-a (c .before .before), sym (c .before .rows-right .ensures) ∙ not-false _ (c .if4 .left))
 
 pub check-matrices-spec : {M : Type 1} → statement M
 check-matrices-spec =
@@ -54,8 +54,8 @@ check-matrices-spec =
     returns
     starts-right-requires-2
     returns-2
-    rows-right-requires
+    rows-in-order-requires
     returns-3
-    rows-right-requires-2
+    rows-right-requires
     returns-4
     returns-5)

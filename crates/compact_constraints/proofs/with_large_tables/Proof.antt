@@ -6,12 +6,12 @@ use lib.Seq.{length-take-le}
 use lib.Dec.{lit≤}
 use Rattle.layout.specs.Blocks.{compactRows}
 use Rattle.layout.specs.Answers.{joinedParts}
-use Rattle.layout.proofs.Accepted.{fits-u32}
+use Rattle.layout.specs.Runs.{sums}
 use Rattle.codes.specs.Codes.{cutCode}
 use Rattle.csc.specs.Matrix.{matrix}
 use Rattle.augment_compact.specs.Cut.{cutRows, cutValues}
-use Rattle.augment_standard.proofs.Constraints.{renamed, sound, few-entries}
-use Rattle.compact_constraints.proofs.Laws.{few-flags, flags-fit, flags-count, few-rows, few-ends, cleared, rows-inside, columns-right, coded, placeable, starts-A, rows-A, values-A, values-b}
+use Rattle.augment_standard.proofs.Constraints.{renamed, sound}
+use Rattle.compact_constraints.proofs.Laws.{few-flags, flags-fit, flags-count, few-rows, few-overlaps, cleared, rows-inside, columns-inside, columns-right, coded, placeable, starts-A, rows-A, values-A, values-b}
 use Rattle.compact_constraints.proofs.with_large_tables.Statement.{statement}
 use Rattle.compact_constraints.proofs.with_large_tables.Tie as tie
 
@@ -23,16 +23,13 @@ abbrev start : tie.After-write-starts-and-b → tie.Start
 start w = w .before .before .before .before .before .before .before .before .before .before .before .before .before .before
 
 abbrev table : tie.After-write-starts-and-b → List ℕ
-table w = w .write-starts-and-b .last .1 .1 .1 .1 .1 .1 .1 .1 .1 .0
+table w = w .write-starts-and-b .last .1 .1 .1 .1 .1 .1 .1 .1 .1 .1 .0
 
 codes : (w : tie.After-write-starts-and-b)
     → let s = start w in
     (take (s .args .rows) (table w) ≡ map cutCode (compactRows (joinedParts (s .args .cones .now) (s .args .count) (s .args .words .now))))
     × (s .args .rows ≤ length (table w))
 codes w = let s = start w in coded (s .pre .accepted) (s .pre .blocks) (few s) (w .write-starts-and-b .ensures .0)
-
-cast-write-starts-and-b : tie.Need-cast-write-starts-and-b
-cast-write-starts-and-b c = fits-u32 _ (few-entries (c .before .before .before .before .before .before .before .before .before .before .pre .accepted))
 
 slice-aggregate-write-starts-and-b : tie.Need-slice-aggregate-write-starts-and-b
 slice-aggregate-write-starts-and-b c = sym (length-replicate {A = ℕ} 262144 0)
@@ -44,7 +41,7 @@ write-starts-and-b-requires c κs =
       sound (f .accepted),
       (
         (f .blocks, few-rows (f .accepted) (f .blocks), cleared 262144 (few s), f .slacks),
-        (rows-inside (f .accepted), (f .starts, few-ends (f .accepted) (s .args .k) (f .overlaps))),
+        (rows-inside (f .accepted), (columns-inside (f .accepted), (f .starts, few-overlaps (f .accepted) (s .args .k) (f .overlaps)))),
       ),
     )
 
@@ -76,14 +73,14 @@ slice-aggregate-write-entries-3 c =
 
 write-entries-requires : tie.Need-write-entries-requires
 write-entries-requires c κs =
-    let w = c .before .before .before .before .before .before .before .before .before .before in
+    let w = c .before .before .before .before .before .before .before .before .before .before .before in
     let s = start w in
     let a = s .args in
     let f = s .pre in
-    (columns-right (f .accepted), placeable (f .accepted) (f .blocks) 65536 4096 (a .k) (length (a .a-rows-out .now)) (length (a .a-values-out .now)) (codes w .0) (sound (f .accepted) .few) (few s) (lit≤ tt) (f .overlaps) (f .entries) (f .values))
+    (columns-right (f .accepted) (a .k) (a .a-starts-out .now) (f .starts) (w .write-starts-and-b .ensures .1 .0), placeable (f .accepted) (f .blocks) 65536 4096 (a .k) (length (a .a-rows-out .now)) (length (a .a-values-out .now)) (codes w .0) (sound (f .accepted) .few) (few s) (lit≤ tt) (f .overlaps) (f .entries) (f .values))
 
 same-length : tie.Need-same-length
-same-length c = c .before .before .before .before .before .before .before .before .before .before .before .before .before .before .before .before .before .before .write-starts-and-b .kept .1 .1 .1 .1 .1 .1 .1 .1 .1 .1 .0
+same-length c = c .before .before .before .before .before .before .before .before .before .before .before .before .before .before .before .before .before .before .before .write-starts-and-b .kept .1 .1 .1 .1 .1 .1 .1 .1 .1 .1 .1 .0
 
 same-length-2 : tie.Need-same-length-2
 same-length-2 c = c .before .before .before .before .before .before .before .write-entries .kept .0
@@ -92,11 +89,11 @@ same-length-3 : tie.Need-same-length-3
 same-length-3 c = c .before .before .before .before .before .before .before .write-entries .kept .1 .0
 
 same-length-4 : tie.Need-same-length-4
-same-length-4 c = c .before .before .before .before .before .before .before .before .before .before .before .before .before .before .before .before .before .before .write-starts-and-b .kept .1 .1 .1 .1 .1 .1 .1 .1 .1 .1 .1 .0
+same-length-4 c = c .before .before .before .before .before .before .before .before .before .before .before .before .before .before .before .before .before .before .before .write-starts-and-b .kept .1 .1 .1 .1 .1 .1 .1 .1 .1 .1 .1 .1 .0
 
 returns : tie.Need-returns
 returns c =
-    let w = c .before .before .before .before .before .before .before .before .before .before .before .before .before .before .before .before .before .before in
+    let w = c .before .before .before .before .before .before .before .before .before .before .before .before .before .before .before .before .before .before .before in
     let s = start w in
     let a = s .args in
     let f = s .pre in
@@ -104,8 +101,8 @@ returns c =
     let moved = c .before .before .before .before .before .before .before .write-entries .ensures in
     let first = w .write-starts-and-b .ensures .1 in record {
       a-starts = renamed (a .a-starts-out .now) (starts-A (f .accepted) (a .k) (f .overlaps)) (first .0);
-      a-rows = renamed (a .a-rows-out .now) (ap (cutRows (a .n) A) (codes w .0) ∙ rows-A (f .accepted)) (moved .0);
-      a-values = renamed (a .a-values-out .now) (ap (λ (cs : List ℕ). cutValues (a .n) A cs (a .k)) (codes w .0) ∙ values-A (f .accepted) (a .k) (f .overlaps)) (moved .1 .0);
+      a-rows = renamed (a .a-rows-out .now) (ap (cutRows (a .n) (sums (a .n) A)) (codes w .0) ∙ rows-A (f .accepted)) (moved .0);
+      a-values = renamed (a .a-values-out .now) (ap (λ (cs : List ℕ). cutValues (a .n) (sums (a .n) A) cs (a .k)) (codes w .0) ∙ values-A (f .accepted) (a .k) (f .overlaps)) (moved .1 .0);
       b = renamed (a .b-out .now) (values-b (f .accepted)) (first .1);
     }
 
@@ -113,7 +110,6 @@ pub with-large-tables-spec : {M : Type 1} → statement M
 with-large-tables-spec =
     tie.close
     (tie.spec
-    cast-write-starts-and-b
     slice-aggregate-write-starts-and-b
     write-starts-and-b-requires
     add-end

@@ -22,7 +22,7 @@ room : (s : tie.Start) (size : ℕ) → s .args .rows ≤ size → length (codes
 room s size = subst (λ (k : ℕ). k ≤ size) (count s)
 
 abbrev start : tie.After-write-table → tie.Start
-start w = w .before .before .before .before .before .before .before .before .before .before .before .before .before
+start w = w .before .before .before .before .before .before .before .before .before .before .before .before .before .before
 
 abbrev filled : tie.After-write-table → List ℕ
 filled w = w .write-table .last .1 .1 .1 .1 .1 .0
@@ -32,11 +32,11 @@ taken : (w : tie.After-write-table) → (take (start w .args .rows) (filled w) �
 taken w = let s = start w in front (codes s) (s .args .table .now) (count s) (s .pre .1 .0 .2) (w .write-table .ensures .1)
 
 write-starts-requires : tie.Need-write-starts-requires
-write-starts-requires c κs = c .before .before .before .before .before .before .before .before .pre .1 .1 .1
+write-starts-requires c κs = c .before .before .before .before .before .before .before .before .before .pre .1 .1 .1
 
 write-table-requires : tie.Need-write-table-requires
 write-table-requires c κs =
-    let s = c .before .before .before .before .before .before .before .before .before .before .before .before in
+    let s = c .before .before .before .before .before .before .before .before .before .before .before .before .before in
     (s .pre .0, (subst (λ (k : ℕ). k ≤ 262144) (s .pre .1 .0 .0) (s .pre .1 .0 .1), room s _ (s .pre .1 .0 .2)))
 
 slice-reshare-prefix-move-values : tie.Need-slice-reshare-prefix-move-values

@@ -1,5 +1,5 @@
-use Rattle.augment_standard.proofs.Constraints.{sound, room-starts}
-use Rattle.constraints.proofs.Routes.{room-compact}
+use Rattle.augment_standard.proofs.Constraints.{sound}
+use Rattle.constraints.proofs.Routes.{room-starts, room-compact}
 use Rattle.constraints.proofs.decomp_augment_compact.Statement.{statement}
 use Rattle.constraints.proofs.decomp_augment_compact.Tie as tie
 
@@ -8,7 +8,7 @@ write-compact-a-requires c κs =
     let s = c .before .before .before .before .before .before .before .before .before .before .before .before .before .before .before in
     let f = s .pre .0 in
     let e = s .pre .1 in
-    record { accepted = f .accepted; blocks = e; overlaps = f .added; starts = room-starts (f .accepted) (s .args .k) _ (f .starts); entries = f .rows; values = f .values; slacks = room-compact _ e (f .slacks) }
+    record { accepted = f .accepted; blocks = e; overlaps = f .added; starts = room-starts (s .args .n) (s .args .k) (f .starts); entries = f .rows; values = f .values; slacks = room-compact _ e (f .slacks) }
 
 write-table-requires : tie.Need-write-table-requires
 write-table-requires c κs =

@@ -1,16 +1,18 @@
-use Prim.Native.Nat.{_≤_}
-use native.Mathlib.Nat.{le-trans}
+use Prim.Native.Nat.{suc, _≤_}
+use native.Mathlib.Nat.{le-of-eq, le-trans}
+use native.Mathlib.Omega.{arith}
 use mathlib.Core.Path.{_≡_, refl, sym, _∙_}
 use lib.ListN.{length}
 use lib.Dec.{ltb, lit≤}
 use borrow.Author.Tests.{le-leb, lt-leb}
-use Rattle.layout.specs.Lists.{all, below, rises}
+use Rattle.layout.specs.Lists.{all, below}
 use Rattle.layout.specs.Problem.{Problem, problem}
-use Rattle.layout.specs.Checks.{Checked, columnRows, refusal}
+use Rattle.layout.specs.Checks.{Checked, neverFalls, columnRows, refusal}
 use Rattle.layout.specs.Answers.{problemRefusal, routeOf}
 use Rattle.layout.proofs.Tests.{and-iff}
 use Rattle.layout.proofs.Buffers.{output-kept}
 use Rattle.layout.proofs.Accepted.{fits-u32}
+use Rattle.layout.proofs.Columns.{starts-right}
 use Rattle.checks.proofs.Checked.{problem-checked}
 use Rattle.decomp.proofs.Answers.{no-route, few-alphas}
 use Rattle.decomp.proofs.Refusals.{stopped-early, stopped-late, by-room, accepted, counts-fit, sizes-written}
@@ -57,7 +59,7 @@ check-route-requires c κs =
     let g = c .get-decomposed-dim-and-overlaps .ensures in (
       w .sound,
       (
-        (and-iff (all (λ r. ltb r (p .m)) (p .A .rows)) (all (λ k. rises (columnRows (p .A) k)) (below (p .n))) .0 (w .rowsA) .0, w .lengthB),
+        (and-iff (all (λ r. ltb r (p .m)) (p .A .rows)) (all (λ k. neverFalls (columnRows (p .A) k)) (below (p .n))) .0 (w .rowsA) .0, w .lengthB),
         (g .0, g .1 .0),
       ),
     )
@@ -87,23 +89,27 @@ returns-4 c =
 cast-p-entries : tie.Need-cast-p-entries
 cast-p-entries c = fits-u32 _ (checked (c .before .before .before .before) .fewEntriesP)
 
-cast-a-entries : tie.Need-cast-a-entries
-cast-a-entries c = fits-u32 _ (checked (c .before .before .before .before) .fewEntriesA)
+count-entries-requires : tie.Need-count-entries-requires
+count-entries-requires c κs =
+    let w = checked (c .before .before .before .before) in
+    let p = given (start (c .before .before .before .before .before .before)) in
+    let right = starts-right (p .n) (p .A) (w .startsA) in
+    ((le-of-eq (sym (right .count)), λ k l. (right .rise k l, right .inside (suc k) l)), omega (arith, right .even, w .fewEntriesA))
 
 cast-alpha-count : tie.Need-cast-alpha-count
 cast-alpha-count c =
-    let e = c .before .before .before .before in
+    let e = c .before .before .before .before .before in
     let p = given (start (e .before .before)) in
     fits-u32 _ (le-trans (few-alphas p (checked e)) (lit≤ tt))
 
 write-sizes-requires : tie.Need-write-sizes-requires
 write-sizes-requires c κs =
-    let k = c .before .before in
+    let k = c .before .before .before in
     let d = k .before .before in
     let s = start (d .before .before .before) in
     let r = d .get-decomposed-dim-and-overlaps .result in
     let g = d .get-decomposed-dim-and-overlaps .ensures in
-    (c .before .if4 .left, counts-fit (routeOf (s .args .route)) (given s) (ok k) (r .rows) (r .overlaps) (r .cones) (g .0) (g .1 .0) (g .1 .1))
+    (c .before .before .if4 .left, rw (c .before .count-entries .ensures) (counts-fit (routeOf (s .args .route)) (given s) (ok k) (r .rows) (r .overlaps) (r .cones) (g .0) (g .1 .0) (g .1 .1)))
 
 same-length : tie.Need-same-length
 same-length c = c .before .before .write-sizes .kept .1 .1 .1 .1 .1 .1 .1 .1 .1 .0
@@ -111,14 +117,15 @@ same-length c = c .before .before .write-sizes .kept .1 .1 .1 .1 .1 .1 .1 .1 .1 
 returns-5 : tie.Need-returns-5
 returns-5 c =
     let w = c .before .before in
-    let k = w .before .before .before in
+    let n = w .before .before in
+    let k = n .before .before in
     let d = k .before .before in
     let e = d .before .before .before in
     let s = start e in
     let r = d .get-decomposed-dim-and-overlaps .result in
     let g = d .get-decomposed-dim-and-overlaps .ensures in record {
-      number = sym (by-room (s .args .route) (given s) (length (s .args .out .now)) (e .if1 .left) (ok k) ∙ rw (le-leb 11 (length (s .args .out .now)) (w .before .before .if4 .left)));
-      out = sizes-written (routeOf (s .args .route)) (given s) (ok k) (r .rows) (r .overlaps) (r .cones) (g .0) (g .1 .0) (g .1 .1) (s .args .out .now) (w .write-sizes .ensures);
+      number = sym (by-room (s .args .route) (given s) (length (s .args .out .now)) (e .if1 .left) (ok k) ∙ rw (le-leb 11 (length (s .args .out .now)) (n .before .if4 .left)));
+      out = sizes-written (routeOf (s .args .route)) (given s) (ok k) (r .rows) (r .overlaps) (r .cones) (g .0) (g .1 .0) (g .1 .1) (s .args .out .now) (rw (n .count-entries .ensures) at (w .write-sizes .ensures));
     }
 
 pub sizes-spec : {M : Type 1} → statement M
@@ -133,7 +140,7 @@ sizes-spec =
     returns-3
     returns-4
     cast-p-entries
-    cast-a-entries
+    count-entries-requires
     cast-alpha-count
     write-sizes-requires
     same-length
