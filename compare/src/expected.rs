@@ -327,7 +327,7 @@ pub struct Layout {
 
 /// One augmented row of the compact route.
 #[derive(Clone, Copy)]
-enum Row {
+pub enum Row {
     Kept(usize),
     Owned(usize),
     /// the original row, and the row of the same pair in the parent's block
@@ -335,10 +335,13 @@ enum Row {
 }
 
 impl Row {
-    fn original(self) -> usize {
+    pub fn original(self) -> usize {
         match self {
             Row::Kept(o) | Row::Owned(o) | Row::Overlap(o, _) => o,
         }
+    }
+    pub fn is_kept(self) -> bool {
+        matches!(self, Row::Kept(_))
     }
 }
 
@@ -385,7 +388,7 @@ impl Layout {
     }
 
     // the compact route's rows: cones in order, cliques from last to first
-    fn compact_rows(&self) -> Vec<Row> {
+    pub fn compact_rows(&self) -> Vec<Row> {
         let mut rows = vec![];
         for part in &self.parts {
             let Some(k) = part.pattern else {

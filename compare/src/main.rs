@@ -4,6 +4,7 @@
 mod against;
 mod differences;
 mod door;
+mod exact;
 mod exhaustive;
 mod expected;
 #[cfg(feature = "mock")]
@@ -11,6 +12,7 @@ mod mock;
 mod problem;
 mod random;
 mod report;
+mod rounding;
 mod speed;
 mod store;
 mod vectors;
@@ -26,6 +28,7 @@ const HELP: &str = "compare/run [--cases N] [--seed S] [--routes standard|compac
 compare/run --case K --seed S      one case again, its problem printed
 compare/run --exhaustive           every clique tree on up to 4 vertices, every ordering; with a column, with entries
                                    repeated and without a column
+compare/run --rounding [--cases N]     errors of the joined s beside their bound (Q-9), in exact sums
 compare/run --vectors FILE         stored cases (JSON, one a line), told by the file's name: cases.jsonl, q-N.jsonl
 compare/run --differences          clarabel on the inputs of docs/DIFFERENCES.md
 compare/run --speed                times, with ratios where the door is linked
@@ -226,6 +229,7 @@ fn compare() -> i32 {
             }
             "--exhaustive" => mode = "exhaustive",
             "--differences" => mode = "differences",
+            "--rounding" => mode = "rounding",
             "--speed" => mode = "speed",
             "--vectors" => (mode, file) = ("vectors", Some(value())),
             "--store" => (mode, file) = ("store", Some(value())),
@@ -259,6 +263,7 @@ fn compare() -> i32 {
                 std::process::exit(2);
             }
         }
+        "rounding" => rounding::compare(&mut report, o.cases, o.seed).print(),
         "exhaustive" => exhaustive_cases(&mut report, &o),
         "one" => {
             for scale in [random::TINY, random::SMALL, random::LARGE] {

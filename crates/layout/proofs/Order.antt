@@ -2,12 +2,21 @@
 use Prim.Native.Nat.{ℕ, zero, suc}
 use native.Mathlib.Omega.{arith}
 use mathlib.Core.Path.{_≡_, refl, subst}
+use mathlib.Core.Logic.{_↔_}
 use mathlib.Core.Bool.{Bool, true, false, not, cond, _&&_}
 use mathlib.Core.List.{List, [], _∷_, _++_}
 use lib.Dec.{T, eqb}
 use Rattle.layout.specs.Checks.{Check, check, firstFailing}
 use Rattle.layout.specs.Answers.{orElse}
 use Rattle.layout.proofs.Tests.{and-iff, eqb-iff}
+
+-- ---- one number or another
+
+pub orElse-zero : (a b : ℕ) → (orElse a b ≡ 0) ↔ ((a ≡ 0) × (b ≡ 0))
+orElse-zero zero b = (λ e. (refl, e), λ h. h .1)
+orElse-zero (suc a) b = (λ e. absurd (omega arith), λ h. absurd (omega arith))
+
+-- ---- checks in order
 
 -- no check has the number 0, which stands for nothing refused
 abbrev pub numbered : List Check → Bool

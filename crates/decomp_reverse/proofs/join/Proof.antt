@@ -2,10 +2,12 @@ use Prim.Native.Nat.{ℕ}
 use mathlib.Core.Path.{_≡_, refl, sym, ap, subst, _∙_}
 use mathlib.Core.List.{List, [], _∷_}
 use lib.ListN.{length}
-use lib.Ieee.{Float}
+use lib.Ieee.{Float, nan, fits, binary64}
 use Rattle.layout.specs.Lists.{written}
 use Rattle.layout.specs.Problem.{Route, Solution, solution}
 use Rattle.layout.specs.Answers.{routeOf, onRoute, joinRefusal}
+use Rattle.layout.specs.Equations.{Doubles}
+use Rattle.layout.proofs.Members.{all-at}
 use Rattle.layout.proofs.Promises.{rejoined-kept}
 use Rattle.reverse.specs.Joined.{Joinable, joinedOf}
 use Rattle.decomp.proofs.Answers.{no-route, on-route}
@@ -13,11 +15,24 @@ use Rattle.decomp_reverse.proofs.Order.{Accepted, as-layout, join-accep
 use Rattle.decomp_reverse.proofs.join.Statement.{statement}
 use Rattle.decomp_reverse.proofs.join.Tie as tie
 
+-- where the call begins, once the slices are known
+abbrev begun : tie.After-slice-known4 → tie.Start
+begun k = k .before .before .before .before .before .before .before .before .before .before
+
+-- s is the fourth shared slice
+s-doubles : (k : tie.After-slice-known4) → Doubles (begun k .args .s .now)
+s-doubles k =
+    all-at nan (fits binary64) (begun k .args .s .now) .1 (λ i l. k .before .before .before .before .before .before .shared-slice-known4 .given i)
+
 returns : tie.Need-returns
-returns c = record { number = sym (no-route _ _ (c .if1 .taken)); tables = record { x = refl; s = refl; z = refl; scalars = refl } }
+returns c = record {
+  number = sym (no-route _ _ (c .if1 .taken));
+  tables = record { x = refl; s = refl; z = refl; scalars = refl };
+  doubles = s-doubles (c .before);
+}
 
 abbrev start : tie.Else1 → tie.Start
-start c = c .before .before .before .before .before .before .before .before .before .before .before
+start c = begun (c .before)
 
 -- the number on a route
 abbrev refused : tie.Start → Route → ℕ
@@ -44,7 +59,11 @@ refuse-join-requires c κs = tt
 returns-2 : tie.Need-returns-2
 returns-2 c =
     let k = c .before in
-    record { number = answered k ∙ sym (numbered (k .before)); tables = rejoined-kept (k .refuse-join .result) (c .if2 .taken) _ _ }
+    record {
+      number = answered k ∙ sym (numbered (k .before));
+      tables = rejoined-kept (k .refuse-join .result) (c .if2 .taken) _ _;
+      doubles = s-doubles (k .before .before);
+    }
 
 -- nothing was refused
 none : (c : tie.Else2) → let s = start (c .before .before) in refused s (routeOf (s .args .route)) ≡ 0
@@ -121,6 +140,7 @@ returns-3 c =
         z = e .1 ∙ put (a .z-out .now) _ _ (ap (λ (r : Route). on r .z) (by-number (a .route)) ∙ parts .2);
         scalars = w .write-scalars .ensures ∙ put (a .scalars-out .now) _ _ scalars;
       };
+      doubles = s-doubles (l .before .before .before);
     }
 
 pub join-spec : {M : Type 1} → statement M

@@ -5,6 +5,7 @@ use mathlib.Core.List.{List, [], _∷_}
 use lib.ListN.{length}
 use lib.Ieee.{Float}
 use Rattle.layout.specs.Problem.{Solution}
+use Rattle.layout.specs.Equations.{Doubles}
 use Rattle.layout.specs.Answers.{output, onRoute, routeOf, joinedParts, joined, joinRefusal, scalars}
 
 -- the four outputs
@@ -32,3 +33,5 @@ pub record HoldsRejoined (r : ℕ) (new before after : Rejoined) : Type 0 where
 pub record Join (route n m : ℕ) (cones : List ℕ) (count : ℕ) (words : List ℕ) (sol : Solution) (map : List ℕ) (before after : Rejoined) (r : ℕ) : Type 0 where
   pub number : r ≡ onRoute route (λ rt. joinRefusal rt n m cones count words sol map (rooms before))
   pub tables : HoldsRejoined r (rejoinedOf (joined (routeOf route) n m (joinedParts cones count words) sol)) before after
+  -- s stands in a slice of f64, so its values are doubles: statements on rounding rest on it
+  pub doubles : Doubles (sol .s)
