@@ -1,37 +1,5 @@
-/* Three projectors, one seam: cut and joined on both routes through the door, printed and held to what must come out.
- *
- * One unknown and a PSD cone of dimension 3 with the cliques {0, 1} and {1, 2}: row 2, the pair (1, 1), is in both.
- */
-#include "chordal.h"
-
-#include <stdio.h>
-#include <stdlib.h>
-#include <string.h>
-
-#define N 1
-#define M 6
-
-/* a table as pointer and length; tables without entries have a pointer too */
-#define ALL(table) (table), sizeof(table) / sizeof((table)[0])
-#define NO_WORDS no_words, 0
-#define NO_VALUES no_values, 0
-
-static const uint32_t no_words[1] = {0};
-static const double no_values[1] = {0};
-
-static const uint32_t p_starts[] = {0, 0};
-static const double q[] = {0};
-static const uint32_t a_starts[] = {0, 5};
-static const uint32_t a_rows[] = {0, 1, 2, 4, 5};
-static const double a_values[] = {10, 20, 30, 40, 50};
-static double b[M] = {1, 2, 3, 0, 4, 5};
-static const uint32_t cones[] = {6, 3, 0};
-/* orig_index, vertices, cliques; ordering; then parent, snode and separator of each clique */
-static const uint32_t pattern_words[] = {0, 3, 2, 0, 1, 2, 1, 1, 1, 0, 1, CHORDAL_NONE, 2, 0, 1, 2};
-
-#define PROBLEM                                                                                                      \
-    N, M, ALL(p_starts), NO_WORDS, NO_VALUES, ALL(q), ALL(a_starts), ALL(a_rows), ALL(a_values), ALL(b), ALL(cones), \
-        NO_VALUES, 1, ALL(pattern_words)
+/* Three projectors, one seam: cut and joined on both routes through the door, printed and held to what must come out. */
+#include "three_projectors.h"
 
 /* what the cut writes: eleven tables, in the order of chordal_sizes */
 enum { P_STARTS, P_ROWS, P_VALUES, Q, A_STARTS, A_ROWS, A_VALUES, B, CONES, ALPHAS, MAP, TABLES };
@@ -41,12 +9,6 @@ static const size_t element[TABLES] = {4, 4, 8, 8, 4, 4, 8, 8, 4, 8, 4};
 enum { ORIG_INDEX, PATTERN, CLIQUE, FIRST_ROW, ROWS, ENTRY };
 #define CLIQUES 2
 
-static void print_values(const char *name, const double *values, size_t count) {
-    printf("  %s:", name);
-    for (size_t k = 0; k < count; k++) printf(" %g", values[k]);
-    printf("\n");
-}
-
 static void print_columns(const uint32_t *starts, const uint32_t *rows, const double *values, size_t columns) {
     for (size_t c = 0; c < columns; c++) {
         printf("  column %zu:", c);
@@ -54,12 +16,6 @@ static void print_columns(const uint32_t *starts, const uint32_t *rows, const do
             printf("%s %g at row %u", k > starts[c] ? "," : "", values[k], (unsigned)rows[k]);
         printf("\n");
     }
-}
-
-static int equal(const char *what, const double *got, const double *want, size_t count) {
-    if (memcmp(got, want, count * sizeof *got) == 0) return 1;
-    printf("  %s: not what must come out\n", what);
-    return 0;
 }
 
 /* A clique's values of b, found by one entry of the compact map: the only pattern's cliques stand from last to first. */
@@ -130,9 +86,9 @@ int main(void) {
     right &= run(1, compact_solved, s, compact_z);
 
     /* no clique covers row 3, the pair (0, 2) */
+    static const double uncovered[M] = {1, 2, 3, 1, 4, 5};
     uint32_t size[TABLES];
-    b[3] = 1;
-    uint32_t refusal = chordal_sizes(1, PROBLEM, size, TABLES);
+    uint32_t refusal = chordal_sizes(1, BEFORE_B, ALL(uncovered), AFTER_B, size, TABLES);
     printf("a value of b in row 3: refused, number %u\n", (unsigned)refusal);
     right &= refusal == CHORDAL_UNCOVERED;
 

@@ -2,7 +2,7 @@
 use std::path::PathBuf;
 use std::{env, fs};
 
-const CALLS: [&str; 8] = [
+const CALLS: [&str; 9] = [
     "chordal_pair_index",
     "chordal_pair_back",
     "chordal_inverse",
@@ -11,6 +11,7 @@ const CALLS: [&str; 8] = [
     "chordal_cut",
     "chordal_join",
     "chordal_same_layout",
+    "chordal_change_route",
 ];
 
 fn main() {

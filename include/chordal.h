@@ -97,6 +97,19 @@ uint32_t chordal_join(
     double *x_out, size_t x_out_len, double *s_out, size_t s_out_len, double *z_out, size_t z_out_len,
     double *scalars_out, size_t scalars_out_len);
 
+/* A standard solution as a compact one of the same problem: the first n of x and +0.0 for each overlap; s and z without
+ * their first m, block by block in compact order; tau and kappa, which are copied. Cones and patterns are the original
+ * ones. The outputs are n plus overlaps, the blocks' rows twice, and 2 long. Refusals 1, 4 to 7, 10 (of both routes),
+ * 11, 12. */
+uint32_t chordal_change_route(
+    uint32_t n, uint32_t m,
+    const uint32_t *cones, size_t cones_len,
+    uint32_t pattern_count, const uint32_t *pattern_words, size_t pattern_words_len,
+    const double *x, size_t x_len, const double *s, size_t s_len, const double *z, size_t z_len,
+    double tau, double kappa,
+    double *x_out, size_t x_out_len, double *s_out, size_t s_out_len, double *z_out, size_t z_out_len,
+    double *scalars_out, size_t scalars_out_len);
+
 /* out[0]: 1 where two problems agree in n, m, cone records, pattern words, alphas, and the starts and rows of A and of P, else 0.
  * Alphas are compared bit by bit: +0.0 and -0.0 differ; one NaN is not told from another. Where it is 1 and a route accepts both
  * problems, their cuts on it have the same starts and rows of A and P, cones and map, and outputs of one length serve both.

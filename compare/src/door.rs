@@ -402,20 +402,20 @@ pub use linked::*;
 const WORD: u32 = 0xdead_beef;
 const VALUE: u64 = 0x7ff8_1234_5678_9abc;
 
-fn words(room: usize) -> Vec<u32> {
+pub fn words(room: usize) -> Vec<u32> {
     vec![WORD; room]
 }
-fn values(room: usize) -> Vec<f64> {
+pub fn values(room: usize) -> Vec<f64> {
     vec![f64::from_bits(VALUE); room]
 }
 
 // the front of an output after a call, the rest being what it held
-fn words_after(front: &[u32], room: usize) -> Vec<u32> {
+pub fn words_after(front: &[u32], room: usize) -> Vec<u32> {
     let mut out = words(room);
     out[..front.len()].copy_from_slice(front);
     out
 }
-fn values_after(front: &[f64], room: usize) -> Vec<f64> {
+pub fn values_after(front: &[f64], room: usize) -> Vec<f64> {
     let mut out = values(room);
     out[..front.len()].copy_from_slice(front);
     out
@@ -427,7 +427,7 @@ fn same_after(got: &[f64], front: &[f64]) -> bool {
 }
 
 /// An output's room: mostly long enough, now and then one short.
-fn room(d: &mut Draws, needed: usize, short: bool) -> usize {
+pub fn room(d: &mut Draws, needed: usize, short: bool) -> usize {
     if short && needed > 0 {
         needed - 1 - if d.chance(20) { d.below(needed) } else { 0 }
     } else if d.chance(30) {
@@ -458,7 +458,7 @@ pub fn join_outputs(rooms: &[usize; 4]) -> JoinOutputs {
 }
 
 // the first output of a cut that is not what it should be
-fn cut_wrong(o: &CutOutputs, cut: &Cut, rooms: &[usize; 11]) -> Option<&'static str> {
+pub fn cut_wrong(o: &CutOutputs, cut: &Cut, rooms: &[usize; 11]) -> Option<&'static str> {
     let tests = [
         ("P starts", o.p_starts == words_after(&cut.p.starts, rooms[0])),
         ("P rows", o.p_rows == words_after(&cut.p.rows, rooms[1])),
@@ -495,7 +495,7 @@ fn join_wrong(o: &JoinOutputs, j: &Joined) -> Option<&'static str> {
 
 // counts or fails one call: its number, and its first wrong output
 #[allow(clippy::too_many_arguments)]
-fn judge(
+pub fn judge(
     report: &mut Report,
     call: &str,
     expected: u32,

@@ -343,6 +343,13 @@ impl Row {
     pub fn is_kept(self) -> bool {
         matches!(self, Row::Kept(_))
     }
+    /// The row that an overlap is tied to.
+    pub fn parent_row(self) -> Option<usize> {
+        match self {
+            Row::Overlap(_, parent) => Some(parent),
+            _ => None,
+        }
+    }
 }
 
 impl Layout {
@@ -430,8 +437,8 @@ impl Layout {
         rows
     }
 
-    // the rows of H's ones: cones in order, cliques from first to last
-    fn standard_rows(&self) -> Vec<usize> {
+    /// The rows of H's ones: cones in order, cliques from first to last.
+    pub fn standard_rows(&self) -> Vec<usize> {
         let mut rows = vec![];
         for part in &self.parts {
             match part.pattern {
@@ -445,6 +452,26 @@ impl Layout {
             }
         }
         rows
+    }
+
+    /// The compact row of each block entry, the blocks in standard order.
+    pub fn standard_order(&self) -> Vec<usize> {
+        let mut order = vec![];
+        let mut first = 0;
+        for part in &self.parts {
+            let lengths: Vec<usize> = match part.pattern {
+                None => vec![part.cone.rows() as usize],
+                Some(k) => self.patterns[k].cliques.iter().map(|c| triangle(c.size()) as usize).collect(),
+            };
+            // on the compact route the last clique comes first
+            let mut end = first + lengths.iter().sum::<usize>();
+            first = end;
+            for length in lengths {
+                end -= length;
+                order.extend(end..end + length);
+            }
+        }
+        order
     }
 
     // rows of decomposed cones that no clique covers
@@ -713,8 +740,8 @@ pub fn join_input<'a>(p: &'a Problem, solution: &'a Solution) -> JoinInput<'a> {
     }
 }
 
-/// `rooms` are those of x, s, z and the two scalars.
-pub fn join(route: Route, j: &JoinInput, rooms: Option<&[usize; 4]>) -> Result<Joined, u32> {
+/// Checks 1 to 10 of a joining on a route.
+pub fn joinable(route: Route, j: &JoinInput) -> Result<Layout, u32> {
     if !bounded(j.n, j.m, j.cones) {
         return Err(1);
     }
@@ -725,6 +752,12 @@ pub fn join(route: Route, j: &JoinInput, rooms: Option<&[usize; 4]>) -> Result<J
     checks6and7(&patterns)?;
     let layout = Layout::new(j.cones, patterns);
     layout.check10(route, j.m)?;
+    Ok(layout)
+}
+
+/// `rooms` are those of x, s, z and the two scalars.
+pub fn join(route: Route, j: &JoinInput, rooms: Option<&[usize; 4]>) -> Result<Joined, u32> {
+    let layout = joinable(route, j)?;
     let (n, m) = (j.n as usize, j.m as usize);
     if let Some(rooms) = rooms {
         if rooms[0] < n || rooms[1] < m || rooms[2] < m || rooms[3] < 2 {

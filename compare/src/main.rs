@@ -1,7 +1,9 @@
 //! Compares the plain reading of documents 01 and 02 (`expected`), clarabel's own files (crate `reference`) and, where
 //! libdoor.a is there, the door.
 
+mod added;
 mod against;
+mod change_route;
 mod differences;
 mod door;
 mod exact;
@@ -79,6 +81,9 @@ fn case(report: &mut Report, o: &Options, index: u64, scale: Scale) {
                 random::damage_solution(&mut d, &mut solution);
             }
             door::compare_join(report, &mut d, route, &p, &solution);
+            if route == Route::Standard {
+                added::compare_change_route(report, &mut d, &p, &solution);
+            }
         }
     }
     // one pattern alone, and a permutation, each damaged now and then
@@ -135,6 +140,9 @@ fn random_cases(report: &mut Report, o: &Options) {
                     door::compare_cut(report, &mut d, route, &p);
                 }
                 door::compare_join(report, &mut d, route, &p, &solution);
+                if route == Route::Standard {
+                    added::compare_change_route(report, &mut d, &p, &solution);
+                }
             }
         }
     }
@@ -187,6 +195,9 @@ fn exhaustive_cases(report: &mut Report, o: &Options) {
                     if door::LINKED {
                         door::compare_cut(report, d, route, &p);
                         door::compare_join(report, d, route, &p, &solution);
+                        if route == Route::Standard {
+                            added::compare_change_route(report, d, &p, &solution);
+                        }
                     }
                 }
             }

@@ -1,5 +1,5 @@
 //! A door made of the plain reading, with the door's own signatures, so that the comparison through it can be
-//! tried without libdoor.a. `COMPARE_MOCK_FAULT` (1 to 12) plants a fault that the comparison must find.
+//! tried without libdoor.a. `COMPARE_MOCK_FAULT` (1 to 14) plants a fault that the comparison must find.
 #![allow(clippy::too_many_arguments, clippy::missing_safety_doc)]
 
 use crate::expected;
@@ -331,6 +331,68 @@ pub unsafe extern "C" fn chordal_join(
         Ok(mut j) => {
             if fault() == 7 {
                 j.z = j.s.clone();
+            }
+            put(xo, xol, &j.x);
+            put(so, sol, &j.s);
+            put(zo, zol, &j.z);
+            put(sco, scol, &[j.tau, j.kappa]);
+            0
+        }
+        Err(number) => number,
+    }
+}
+
+#[no_mangle]
+pub unsafe extern "C" fn chordal_change_route(
+    n: u32,
+    m: u32,
+    cones: *const u32,
+    cones_len: usize,
+    pattern_count: u32,
+    w: *const u32,
+    wl: usize,
+    x: *const f64,
+    xl: usize,
+    s: *const f64,
+    sl: usize,
+    z: *const f64,
+    zl: usize,
+    tau: f64,
+    kappa: f64,
+    xo: *mut f64,
+    xol: usize,
+    so: *mut f64,
+    sol: usize,
+    zo: *mut f64,
+    zol: usize,
+    sco: *mut f64,
+    scol: usize,
+) -> u32 {
+    let solution = Solution {
+        x: from_raw_parts(x, xl).to_vec(),
+        s: from_raw_parts(s, sl).to_vec(),
+        z: from_raw_parts(z, zl).to_vec(),
+        tau,
+        kappa,
+        map: vec![],
+    };
+    let input = expected::JoinInput {
+        n,
+        m,
+        cones: from_raw_parts(cones, cones_len),
+        pattern_count,
+        pattern_words: from_raw_parts(w, wl),
+        solution: &solution,
+    };
+    match crate::change_route::change_route(&input, Some(&[xol, sol, zol, scol])) {
+        Ok(mut j) => {
+            if fault() == 13 {
+                // cliques left in standard order
+                j.s.copy_from_slice(&solution.s[m as usize..]);
+            }
+            if fault() == 14 {
+                // as a reversal gives them
+                (j.tau, j.kappa) = (1.0, 1.0);
             }
             put(xo, xol, &j.x);
             put(so, sol, &j.s);

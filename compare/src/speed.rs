@@ -3,7 +3,9 @@
 //! clarabel's time is that of `decomp_augment` and `decomp_reverse` alone, on tables already in its own types; the
 //! door's is the whole call, checks included, with outputs already allocated.
 
+use crate::added;
 use crate::against::{join_input, tables};
+use crate::change_route;
 use crate::door;
 use crate::expected::{self, Clique, Pattern};
 use crate::problem::*;
@@ -212,6 +214,15 @@ fn line(input: &str, call: &str, clarabel: Option<f64>, door: Option<f64>) {
     println!("| {input} | {call} | {} | {} | {ratio} |", shown(clarabel), shown(door));
 }
 
+// a solution of ordinary values: NaNs and subnormals have times of their own
+fn plain_solution(d: &mut Draws, shape: &(usize, usize, Vec<u32>)) -> Solution {
+    let mut solution = random::solution(d, shape);
+    for v in [&mut solution.x, &mut solution.s, &mut solution.z] {
+        v.iter_mut().for_each(|x| *x = d.below(201) as f64 - 100.0);
+    }
+    solution
+}
+
 fn one(name: &str, p: &Problem) {
     let d = &mut Draws::new(5);
     for route in [Route::Compact, Route::Standard] {
@@ -248,11 +259,7 @@ fn one(name: &str, p: &Problem) {
         }
 
         let shape = expected::solution_shape(route, p).unwrap();
-        let mut solution = random::solution(d, &shape);
-        // ordinary values: NaNs and subnormals have times of their own
-        for v in [&mut solution.x, &mut solution.s, &mut solution.z] {
-            v.iter_mut().for_each(|x| *x = d.below(201) as f64 - 100.0);
-        }
+        let solution = plain_solution(d, &shape);
         let vars = Vars::new(&solution.x, &solution.s, &solution.z, 1.0, 1.0);
         let input = join_input(p, &solution);
         let mut outputs = door::join_outputs(&[p.n as usize, p.m as usize, p.m as usize, 2]);
@@ -368,12 +375,38 @@ fn doubled_entries(name: &str, p: &Problem) {
     }
 }
 
+// beside copying what it gives
+fn changed_route(name: &str, p: &Problem) {
+    let shape = expected::solution_shape(Route::Standard, p).expect("a problem that a joining takes");
+    let solution = plain_solution(&mut Draws::new(5), &shape);
+    let input = join_input(p, &solution);
+    let Ok(lengths) = change_route::lengths(&input) else { return };
+    let (mut out, mut copy) = (door::join_outputs(&lengths), door::join_outputs(&lengths));
+    assert_eq!(added::change_route(&input, &mut out), 0, "the door refuses {name}");
+    let given = out.clone();
+    let times = medians([
+        &mut || {
+            black_box(added::change_route(&input, &mut out));
+        },
+        &mut || {
+            let given = black_box(&given);
+            copy.x.copy_from_slice(&given.x);
+            copy.s.copy_from_slice(&given.s);
+            copy.z.copy_from_slice(&given.z);
+            copy.scalars.copy_from_slice(&given.scalars);
+            black_box(&mut copy);
+        },
+    ]);
+    beside_line(name, "change of route", "its outputs copied (memcpy)", times);
+}
+
 fn requests() {
     println!("\n| input | call | door | beside | time | door / beside |");
     println!("|---|---|---|---|---|---|");
     for (name, p) in inputs() {
         same_layout_tables(&name, &p);
         doubled_entries(&name, &p);
+        changed_route(&name, &p);
     }
 }
 

@@ -2,7 +2,9 @@
 //! door on the same inputs. The file's name says which call its cases are of; a call more is a function and its line in
 //! `FORMS`.
 
+use crate::added;
 use crate::against::{self, cut_difference, join_difference, join_input};
+use crate::change_route;
 use crate::door;
 use crate::expected;
 use crate::problem::*;
@@ -217,6 +219,16 @@ fn stored_cut(j: &Json, ours: &Cut) -> Result<Cut, String> {
     })
 }
 
+fn stored_solution(j: &Json) -> Result<Joined, String> {
+    Ok(Joined {
+        x: j.get("x")?.floats()?,
+        s: j.get("s")?.floats()?,
+        z: j.get("z")?.floats()?,
+        tau: j.get("tau")?.float()?,
+        kappa: j.get("kappa")?.float()?,
+    })
+}
+
 const NAMES: [&str; 11] =
     ["P_starts", "P_rows", "P_values", "q", "A_starts", "A_rows", "A_values", "b", "cones", "alpha", "cone_map"];
 
@@ -300,14 +312,7 @@ impl Run<'_> {
     fn join(&mut self, route: Route, p: &Problem, solution: &Solution, stored: &Json) -> Result<(), String> {
         let joined = expected::join(route, &join_input(p, solution), None);
         self.answered(&format!("{} joining", route.name()), p, &joined, stored, |joined, stored| {
-            let stored = Joined {
-                x: stored.get("x")?.floats()?,
-                s: stored.get("s")?.floats()?,
-                z: stored.get("z")?.floats()?,
-                tau: stored.get("tau")?.float()?,
-                kappa: stored.get("kappa")?.float()?,
-            };
-            Ok(join_difference(joined, &stored).map(|w| format!("{w} differs")))
+            Ok(join_difference(joined, &stored_solution(stored)?).map(|w| format!("{w} differs")))
         })?;
         if door::LINKED {
             for _ in 0..TIMES {
@@ -376,15 +381,39 @@ fn same_layout(run: &mut Run, case: &Json) -> Result<(), String> {
     Ok(())
 }
 
+// what a standard joining takes, and the compact solution
+fn changes(run: &mut Run, case: &Json) -> Result<(), String> {
+    let p = Problem {
+        n: case.get("n")?.number()?,
+        m: case.get("m")?.number()?,
+        cones: case.get("cones")?.numbers()?,
+        pattern_count: case.get("npatterns")?.number()?,
+        pattern_words: case.get("patterns")?.numbers()?,
+        ..Problem::default()
+    };
+    let given = solution(case.get("solution")?, vec![])?;
+    let changed = change_route::change_route(&join_input(&p, &given), None);
+    run.answered("change of route", &p, &changed, case.get("answer")?, |changed, stored| {
+        Ok(join_difference(changed, &stored_solution(stored)?).map(|w| format!("{w} differs")))
+    })?;
+    if door::LINKED {
+        for _ in 0..TIMES {
+            added::compare_change_route(run.report, run.draws, &p, &given);
+        }
+    }
+    Ok(())
+}
+
 // what reads and compares a case of a file
 type Form = fn(&mut Run, &Json) -> Result<(), String>;
 
-const FORMS: [(&str, Form); 5] = [
+const FORMS: [(&str, Form); 6] = [
     ("cases", base),
     ("q-7", |run, case| cuts(run, case, 3)),
     ("q-10", same_layout),
     ("q-3", |run, case| cuts(run, case, MAP_WORDS)),
     ("q-4", |run, case| cuts(run, case, MAP_WORDS)),
+    ("q-12", changes),
 ];
 
 /// Compares each case of the file, whose name without its ending is one of `FORMS`.

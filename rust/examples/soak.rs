@@ -1,4 +1,4 @@
-//! A soak: damaged inputs through all eight calls.
+//! A soak: damaged inputs through all calls.
 //!
 //!     cargo run --release --example soak -- [COUNT] [SEED] [--exact]
 //!
@@ -8,6 +8,9 @@
 //! 2 MB of stack. The exit status is 1 if anything failed. With --exact each table ends where its memory ends, so that
 //! memcheck sees the first byte beyond it.
 
+#[allow(dead_code)]
+#[path = "../../compare/src/change_route.rs"]
+mod change_route;
 #[allow(dead_code)]
 #[path = "../../compare/src/expected.rs"]
 mod expected;
@@ -27,8 +30,8 @@ use std::io::Write;
 use std::time::Instant;
 use tejiwakpa::flat::{self, CutOutputs, JoinOutputs};
 
-const CALLS: [&str; 8] =
-    ["pair index", "pair back", "inverse", "renumbering", "sizes", "cut", "joining", "same layout"];
+const CALLS: [&str; 9] =
+    ["pair index", "pair back", "inverse", "renumbering", "sizes", "cut", "joining", "same layout", "change of route"];
 const ROUTES: [Route; 2] = [Route::Standard, Route::Compact];
 
 // how many inputs are damaged from one right one
@@ -149,6 +152,8 @@ struct Right {
     problem: Problem,
     rooms: [[usize; 11]; 2],
     solutions: [Solution; 2],
+    // of the outputs of the change of route
+    changed: [usize; 4],
     pattern: Problem,
     permutation: Vec<u32>,
 }
@@ -163,10 +168,11 @@ impl Right {
         let rooms = ROUTES.map(|route| expected::sizes(route, &problem, 11).unwrap_or([3; 11]));
         let solutions =
             ROUTES.map(|route| random::solution(d, &expected::solution_shape(route, &problem).unwrap_or_default()));
+        let changed = change_route::lengths(&expected::join_input(&problem, &solutions[0])).unwrap_or([3; 4]);
         let (cone, vertices, length) = (d.next() as u32, 1 + d.below(scale.psd), d.below(9));
         let words = random::pattern(d, cone, vertices).words();
         let pattern = Problem { pattern_count: 1, pattern_words: words, ..Problem::default() };
-        Right { problem, rooms, solutions, pattern, permutation: d.permutation(length) }
+        Right { problem, rooms, solutions, changed, pattern, permutation: d.permutation(length) }
     }
 }
 
@@ -176,7 +182,7 @@ impl Right {
 struct Soak {
     exact: bool,
     // counts by call and number
-    counts: [[u64; 13]; 8],
+    counts: [[u64; 13]; CALLS.len()],
     failures: u64,
     // the damaged input
     problem: Problem,
@@ -209,6 +215,17 @@ fn room(d: &mut Draws, needed: usize, short: bool) -> usize {
         needed.saturating_sub(1 + d.below(2))
     } else {
         needed + d.below(3)
+    }
+}
+
+// the four outputs of a solution
+fn join_rooms<'a>(f: &'a mut [Room<f64>; 5], lengths: &[usize; 4], exact: bool) -> JoinOutputs<'a> {
+    let [x, s, z, scalars, _] = f;
+    JoinOutputs {
+        x: x.lend(lengths[0], exact),
+        s: s.lend(lengths[1], exact),
+        z: z.lend(lengths[2], exact),
+        scalars: scalars.lend(lengths[3], exact),
     }
 }
 
@@ -356,8 +373,8 @@ impl Soak {
         self.judge(5, input, got, want, (&results.0, &results.1));
     }
 
-    fn join(&mut self, d: &mut Draws, input: u64, right: &Right) {
-        let (code, route) = route(d);
+    // what a joining takes, damaged, and the output that is short, if one is
+    fn damage_joining(&mut self, d: &mut Draws, right: &Right, route: Route) -> usize {
         copy(&mut self.problem, &right.problem);
         copy_solution(&mut self.solution, &right.solutions[route.code() as usize]);
         let mut short = 4;
@@ -376,23 +393,34 @@ impl Soak {
             fit(&mut self.problem);
             fit_solution(&mut self.solution);
         }
+        short
+    }
+
+    fn join(&mut self, d: &mut Draws, input: u64, right: &Right) {
+        let (code, route) = route(d);
+        let short = self.damage_joining(d, right, route);
         let (n, m) = (right.problem.n as usize, right.problem.m as usize);
         let mut lengths = [n, m, m, 2];
         lengths.iter_mut().enumerate().for_each(|(k, length)| *length = room(d, *length, k == short));
-        let exact = self.exact;
-        let [f0, f1, f2, f3, _] = &mut self.f;
-        let mut out = JoinOutputs {
-            x: f0.lend(lengths[0], exact),
-            s: f1.lend(lengths[1], exact),
-            z: f2.lend(lengths[2], exact),
-            scalars: f3.lend(lengths[3], exact),
-        };
         let (p, solution) = (&self.problem, &self.solution);
-        let got = number(flat::join(code, &joining(p, solution), &mut out));
+        let got = number(flat::join(code, &joining(p, solution), &mut join_rooms(&mut self.f, &lengths, self.exact)));
         let plain = expected::join_input(p, solution);
         let want = if code > 1 { 1 } else { expected::join(route, &plain, Some(&lengths)).err().unwrap_or(0) };
         let (n, m) = (p.n as usize, p.m as usize);
         self.judge(6, input, got, want, (&[], &[n, m, m, 2]));
+    }
+
+    fn change_route(&mut self, d: &mut Draws, input: u64, right: &Right) {
+        let short = self.damage_joining(d, right, Route::Standard);
+        let mut lengths = right.changed;
+        lengths.iter_mut().enumerate().for_each(|(k, length)| *length = room(d, *length, k == short));
+        let (p, solution) = (&self.problem, &self.solution);
+        let out = &mut join_rooms(&mut self.f, &lengths, self.exact);
+        let got = number(flat::change_route(&joining(p, solution), out));
+        let plain = expected::join_input(p, solution);
+        let want = change_route::change_route(&plain, Some(&lengths)).err().unwrap_or(0);
+        let needed = change_route::lengths(&plain).unwrap_or_default();
+        self.judge(8, input, got, want, (&[], &needed));
     }
 
     fn same_layout(&mut self, d: &mut Draws, input: u64, right: &Right) {
@@ -412,7 +440,7 @@ impl Soak {
     }
 
     fn one(&mut self, d: &mut Draws, input: u64, right: &Right) {
-        match d.below(32) {
+        match d.below(36) {
             0 => self.pair_index(d, input),
             1 => self.pair_back(d, input),
             2..=3 => self.inverse(d, input, right),
@@ -420,7 +448,8 @@ impl Soak {
             8..=12 => self.sizes(d, input, right),
             13..=20 => self.cut(d, input, right),
             21..=28 => self.join(d, input, right),
-            _ => self.same_layout(d, input, right),
+            29..=31 => self.same_layout(d, input, right),
+            _ => self.change_route(d, input, right),
         }
     }
 }
@@ -447,7 +476,7 @@ fn run(count: u64, seed: u64, exact: bool) -> bool {
     for (call, numbers) in CALLS.iter().zip(&soak.counts) {
         let counts = numbers.iter().enumerate().filter(|(_, &count)| count > 0);
         let text: Vec<String> = counts.map(|(number, count)| format!("{number}: {count}")).collect();
-        println!("  {call:<12} {}", text.join("  "));
+        println!("  {call:<15} {}", text.join("  "));
     }
     soak.failures == 0
 }

@@ -1,4 +1,4 @@
-//! The same eight calls over lent slices, for callers who keep their own tables and buffers.
+//! The same calls over lent slices, for callers who keep their own tables and buffers.
 //!
 //! Anything at all may be passed: a call ends with its full result at the front of its outputs, the rest of a longer
 //! output being kept, or with a [`Refusal`] and outputs that hold what they held. Routes are numbers, 0 standard and 1
@@ -138,9 +138,9 @@ pub struct Joining<'a> {
     pub s: &'a [f64],
     /// The augmented dual values.
     pub z: &'a [f64],
-    /// The solution's τ, which is not read.
+    /// The solution's τ, which a joining does not read.
     pub tau: f64,
-    /// The solution's κ, which is not read.
+    /// The solution's κ, which a joining does not read.
     pub kappa: f64,
     /// The cone map; not read on the standard route.
     pub map: &'a [u32],
@@ -170,7 +170,7 @@ pub struct JoinOutputs<'a> {
 fn answer(number: u32) -> Result<(), Refusal> {
     match number {
         0 => Ok(()),
-        _ => Err(Refusal::from_number(number).expect("a call answers 0 to 12")),
+        _ => Err(Refusal::from_number(number).expect("a number of document 01 or 02")),
     }
 }
 
@@ -351,6 +351,50 @@ pub fn join(route: u32, joining: &Joining, out: &mut JoinOutputs) -> Result<(), 
     })
 }
 
+/// A standard solution as a compact one. The outputs are as long as a solution of the compact cut: n and the overlaps, the
+/// blocks' rows twice, and τ and κ, which are copied. The map is not read.
+///
+/// ```
+/// use tejiwakpa::flat::{change_route, JoinOutputs, Joining};
+/// use tejiwakpa::Problem;
+///
+/// let words = Problem::three_projectors().words();
+/// let given = Joining {
+///     n: 1,
+///     m: 6,
+///     cones: &words.cones,
+///     pattern_count: words.pattern_count,
+///     pattern_words: &words.pattern_words,
+///     x: &[0.5; 7],
+///     s: &[0.0, 0.0, 0.0, 0.0, 0.0, 0.0, 1.0, 2.0, 7.0, 3.0, 4.0, 5.0],
+///     z: &[0.0; 12],
+///     tau: 2.0,
+///     ..Joining::default()
+/// };
+/// let (mut x, mut s, mut z, mut scalars) = ([9.0; 2], [9.0; 6], [9.0; 6], [9.0; 2]);
+/// change_route(&given, &mut JoinOutputs { x: &mut x, s: &mut s, z: &mut z, scalars: &mut scalars })?;
+/// assert_eq!(x, [0.5, 0.0]);
+/// assert_eq!(s, [3.0, 4.0, 5.0, 1.0, 2.0, 7.0]);
+/// assert_eq!(scalars, [2.0, 0.0]);
+/// # Ok::<(), tejiwakpa::Refusal>(())
+/// ```
+#[rustfmt::skip]
+pub fn change_route(joining: &Joining, out: &mut JoinOutputs) -> Result<(), Refusal> {
+    let (j, o) = (joining, out);
+    // SAFETY: as above.
+    answer(unsafe {
+        c::chordal_change_route(
+            j.n, j.m,
+            j.cones.as_ptr(), j.cones.len(),
+            j.pattern_count, j.pattern_words.as_ptr(), j.pattern_words.len(),
+            j.x.as_ptr(), j.x.len(), j.s.as_ptr(), j.s.len(), j.z.as_ptr(), j.z.len(),
+            j.tau, j.kappa,
+            o.x.as_mut_ptr(), o.x.len(), o.s.as_mut_ptr(), o.s.len(), o.z.as_mut_ptr(), o.z.len(),
+            o.scalars.as_mut_ptr(), o.scalars.len(),
+        )
+    })
+}
+
 /// `out[0]`: 1 where n, m, cone records, exponents bit by bit (save for which NaN), pattern words, and the starts and rows
 /// of A and P of two problems agree, else 0.
 ///
@@ -436,6 +480,15 @@ mod c {
             pattern_count: u32, pattern_words: *const u32, pattern_words_len: usize,
             x: *const f64, x_len: usize, s: *const f64, s_len: usize, z: *const f64, z_len: usize,
             tau: f64, kappa: f64, map: *const u32, map_len: usize,
+            x_out: *mut f64, x_out_len: usize, s_out: *mut f64, s_out_len: usize, z_out: *mut f64, z_out_len: usize,
+            scalars_out: *mut f64, scalars_out_len: usize,
+        ) -> u32;
+        pub fn chordal_change_route(
+            n: u32, m: u32,
+            cones: *const u32, cones_len: usize,
+            pattern_count: u32, pattern_words: *const u32, pattern_words_len: usize,
+            x: *const f64, x_len: usize, s: *const f64, s_len: usize, z: *const f64, z_len: usize,
+            tau: f64, kappa: f64,
             x_out: *mut f64, x_out_len: usize, s_out: *mut f64, s_out_len: usize, z_out: *mut f64, z_out_len: usize,
             scalars_out: *mut f64, scalars_out_len: usize,
         ) -> u32;

@@ -11,6 +11,7 @@
 //! | [`sizes`] | how large the augmented problem is |
 //! | [`cut`] | the augmented problem on a [`Route`] |
 //! | [`join`] | the original problem's solution from the augmented one's |
+//! | [`change_route`] | a compact solution from a standard one |
 //! | [`same_layout`] | whether what was worked out from one problem's places serves another |
 //!
 //! The code behind the calls is proved: given anything at all, a call ends with its full result or with one [`Refusal`].
@@ -55,6 +56,7 @@
 #![deny(missing_docs, unsafe_op_in_unsafe_fn)]
 
 mod calls;
+mod change_route;
 mod cone;
 pub mod flat;
 mod pattern;
@@ -63,6 +65,7 @@ mod refusal;
 mod solution;
 
 pub use calls::{cut, inverse, join, pair_back, pair_index, renumber, same_layout, sizes, Sizes};
+pub use change_route::change_route;
 pub use cone::Cone;
 pub use pattern::{Clique, Pattern};
 pub use problem::{Columns, Problem, Route, Words};

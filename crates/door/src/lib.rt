@@ -1,5 +1,6 @@
 // The public calls for C and Rust, one module a call: each returns the refusal number, 0 for done. include/chordal.h says what the
 // numbers mean.
+mod change_routes;
 mod cut;
 mod inverse;
 mod join;
@@ -9,6 +10,7 @@ mod renumber;
 mod same_layouts;
 mod sizes;
 
+pub use change_routes::chordal_change_route;
 pub use cut::chordal_cut;
 pub use inverse::chordal_inverse;
 pub use join::chordal_join;

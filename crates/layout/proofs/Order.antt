@@ -39,6 +39,17 @@ passed k (check (suc j) true ∷ cs) h e = go (eqb k (suc j)) (passed k cs h e)
     go true r = tt
     go false r = r
 
+-- every check passes
+abbrev pub Passing : List Check → Type 0
+Passing [] = Unit {0}
+Passing (check k b ∷ cs) = T b × Passing cs
+
+-- then nothing is refused
+pub none-fails : (cs : List Check) → Passing cs → firstFailing cs ≡ 0
+none-fails [] h = refl
+none-fails (check k true ∷ cs) h = none-fails cs (h .1)
+none-fails (check k false ∷ cs) h = absurd (h .0)
+
 -- no check has the number k
 abbrev pub lacks : ℕ → List Check → Bool
 lacks k [] = true

@@ -8,3 +8,4 @@ pub mod CutEntries
 pub mod Join
 pub mod JoinEntries
 pub mod SameLayout
+pub mod ChangeRoute

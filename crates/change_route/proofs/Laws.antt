@@ -1,0 +1,123 @@
+-- Blocks moved one by one, and parts one by one.
+use Prim.Native.Nat.{ℕ, _+_, _-_, _≤_}
+use native.Mathlib.Nat.{add-sub-cancel-left}
+use native.Mathlib.Omega.{arith}
+use mathlib.Core.Path.{_≡_, refl, sym, ap, ap₂, _∙_}
+use mathlib.Core.List.{List, [], _∷_, _++_, append-assoc, append-nil}
+use lib.ListN.{length, take, drop, length-append, length-drop, take-append-drop, drop-of-length-le}
+use lib.Seq.{length-take-le, drop-at, take-at, drop-drop, take-all}
+use lib.Ieee.{Float}
+use Rattle.layout.specs.Lists.{sum, written}
+use Rattle.layout.specs.Blocks.{Part, partRows, blockRowCount}
+use Rattle.layout.specs.Orders.{blockLengths, lastFirst, compactOrder}
+use Rattle.layout.proofs.Orders.{length-last, last-front, length-part, compact-cons}
+use Rattle.layout.proofs.Buffers.{written-whole}
+use Rattle.reverse_blocks.proofs.Room.{length-part as part-length}
+use Rattle.reverse_cones.specs.Parts.{writtenAt}
+use Rattle.reverse_cones.proofs.Laws.{put-same}
+
+-- k values were copied to a part that was lent, and are `new` now
+pub moved : (k from : ℕ) (vs : List Float) (to : ℕ) (old new : List Float) → from + k ≤ length vs → to + k ≤ length old
+    → new ≡ written (take (from + k - from) (drop from vs)) (take (to + k - to) (drop to old))
+    → take to old ++ (new ++ drop (to + k - to) (drop to old)) ≡ writtenAt to (take k (drop from vs)) old
+moved k from vs to old new l m e =
+    let src : List Float = take (from + k - from) (drop from vs) in
+    let lent : List Float = take (to + k - to) (drop to old) in
+    let whole : new ≡ src = e ∙ written-whole src lent (part-length to k old m ∙ sym (part-length from k vs l)) in
+    put-same (take k (drop from vs)) new old to k m (whole ∙ ap (λ (n : ℕ). take n (drop from vs)) (add-sub-cancel-left from k))
+    (ap length whole ∙ part-length from k vs l ∙ sym (part-length to k old m))
+
+-- what was written from a on stands there, and what was before a still does
+module _ (xs old new : List Float) (a : ℕ) (l : a + length xs ≤ length old) (e : new ≡ writtenAt a xs old) where
+  front : length (take a old) ≡ a
+  front = length-take-le a old (omega arith)
+
+  pub from-there : drop a new ≡ xs ++ drop (a + length xs) old
+  from-there =
+      ap (drop a) e ∙ drop-at (take a old) (written xs (drop a old)) a front ∙ ap (λ (r : List Float). xs ++ r) (drop-drop (length xs) a old)
+
+  pub up-to-there : take a new ≡ take a old
+  up-to-there = ap (take a) e ∙ take-at (take a old) (written xs (drop a old)) a front
+
+  pub after-it : drop (a + length xs) new ≡ drop (a + length xs) old
+  after-it =
+      sym (drop-drop (length xs) a new) ∙ ap (drop (length xs)) from-there ∙ drop-at xs (drop (a + length xs) old) (length xs) refl
+
+  pub up-to-its-end : take (a + length xs) new ≡ take a old ++ xs
+  up-to-its-end =
+      ap (take (a + length xs)) (e ∙ sym (append-assoc (take a old) xs (drop (length xs) (drop a old))))
+      ∙ take-at (take a old ++ xs) (drop (length xs) (drop a old)) (a + length xs) (omega (arith, length-append (take a old) xs, front))
+
+-- a block of k values more is moved to its place before the others
+pub block-more : (k : ℕ) (ks : List ℕ) (vs old new : List Float) (from to : ℕ) → from + k ≤ length vs → to + k ≤ length old
+    → new ≡ writtenAt to (take k (drop from vs)) old
+    → lastFirst (k ∷ ks) (drop from vs) ++ drop (to + k) old ≡ lastFirst ks (drop (from + k) vs) ++ drop to new
+block-more k ks vs old new from to l m e =
+    let b : List Float = take k (drop from vs) in
+    let size : length b ≡ k = length-take-le k (drop from vs) (omega (arith, length-drop from vs)) in
+    ap (λ (ws : List Float). (lastFirst ks ws ++ b) ++ drop (to + k) old) (drop-drop k from vs)
+    ∙ append-assoc (lastFirst ks (drop (from + k) vs)) b (drop (to + k) old)
+    ∙ ap (λ (r : List Float). lastFirst ks (drop (from + k) vs) ++ r)
+    (ap (λ (n : ℕ). b ++ drop (to + n) old) (sym size) ∙ sym (from-there b old new to (omega arith) e))
+
+-- the blocks of a cut cone were moved within a part that was lent, and are `new` now
+pub cut-moved : (ks : List ℕ) (vs : List Float) (t n : ℕ) (old new : List Float) → sum ks ≡ n → t + n ≤ length vs → t + n ≤ length old
+    → new ≡ lastFirst ks (take (t + n - t) (drop t vs))
+    → take t old ++ (new ++ drop (t + n - t) (drop t old)) ≡ writtenAt t (lastFirst ks (drop t vs)) old
+cut-moved ks vs t n old new e l m w =
+    let lent : List Float = take (t + n - t) (drop t vs) in
+    let size : length lent ≡ n = part-length t n vs l in
+    let same : lastFirst ks (drop t vs) ≡ lastFirst ks lent =
+    ap (lastFirst ks) (sym (take-append-drop (t + n - t) (drop t vs))) ∙ last-front ks lent (drop (t + n - t) (drop t vs)) (omega (arith, size)) in
+    put-same (lastFirst ks (drop t vs)) new old t n m (w ∙ sym same)
+    (ap length w ∙ length-last ks lent (omega (arith, size)) ∙ e ∙ sym (part-length t n old m))
+
+-- a part more is moved: xs are its values
+module _ (x : Part) (before later : List Part) (vs first old new : List Float) (t end : ℕ) (total : List Float) (e : before ≡ x ∷ later)
+    (fits : t + partRows x ≤ length vs) (room : t + partRows x ≤ length old) (ends : end ≡ t + partRows x)
+    (put : new ≡ writtenAt t (lastFirst (blockLengths x) (drop t vs)) old) where
+  abbrev xs : List Float
+  xs = lastFirst (blockLengths x) (drop t vs)
+
+  size : length xs ≡ partRows x
+  size = length-part x (drop t vs) (omega (arith, length-drop t vs))
+
+  here : end ≡ t + length xs
+  here = omega (arith, size)
+
+  pub part-more : take t old ++ compactOrder before (drop t vs) ≡ total → take end new ++ compactOrder later (drop end vs) ≡ total
+  part-more h =
+      ap₂ _++_ (ap (λ (n : ℕ). take n new) here ∙ up-to-its-end xs old new t (omega (arith, size)) put)
+      (ap (λ (n : ℕ). compactOrder later (drop n vs)) ends)
+      ∙ append-assoc (take t old) xs (compactOrder later (drop (t + partRows x) vs))
+      ∙ ap (λ (r : List Float). take t old ++ r)
+      (sym (ap (λ (ps : List Part). compactOrder ps (drop t vs)) e ∙ compact-cons x later (drop t vs)
+      ∙ ap (λ (ws : List Float). xs ++ compactOrder later ws) (drop-drop (partRows x) t vs)))
+      ∙ h
+
+  pub rest-kept : drop t old ≡ drop t first → drop end new ≡ drop end first
+  rest-kept h =
+      ap (λ (n : ℕ). drop n new) here ∙ after-it xs old new t (omega (arith, size)) put
+      ∙ sym (drop-drop (length xs) t old) ∙ ap (drop (length xs)) h ∙ drop-drop (length xs) t first
+      ∙ ap (λ (n : ℕ). drop n first) (sym here)
+
+  pub length-kept : length new ≡ length old
+  length-kept =
+      ap length put ∙ omega (
+        arith,
+        length-append (take t old) (written xs (drop t old)),
+        length-append xs (drop (length xs) (drop t old)),
+        length-take-le t old (omega arith),
+        length-drop t old,
+        length-drop (length xs) (drop t old),
+        size,
+      )
+
+-- all parts are moved
+pub parts-done : (ps : List Part) (vs first out total : List Float) (t : ℕ) → ps ≡ [] → t ≤ length out → take t out ++ compactOrder ps (drop t vs) ≡ total
+    → drop t out ≡ drop t first → out ≡ written total first
+parts-done ps vs first out total t none l h k =
+    let whole : take t out ≡ total =
+    sym (append-nil (take t out)) ∙ ap (λ (qs : List Part). take t out ++ compactOrder qs (drop t vs)) (sym none) ∙ h in
+    let size : t ≡ length total = sym (length-take-le t out l) ∙ ap length whole in
+    sym (take-append-drop t out) ∙ ap₂ _++_ whole (k ∙ ap (λ (n : ℕ). drop n first) size)

@@ -1,0 +1,15 @@
+-- The refusals from counts and lengths: n, m, the blocks' rows and their overlaps; the lengths of x, s and z; the room of each output.
+use Prim.Native.Nat.{ℕ, _+_}
+use mathlib.Core.List.{List, [], _∷_}
+use Rattle.layout.specs.Problem.{standard, compact}
+use Rattle.layout.specs.Checks.{check, firstFailing}
+use Rattle.layout.specs.Answers.{roomy}
+use Rattle.chordal_info.specs.Sizes.{rowsFit}
+use Rattle.decomp_reverse.specs.Fits.{lengthsFit}
+
+-- check 10 of both routes, 11 and 12
+unfoldable pub countedRefusal : ℕ → ℕ → ℕ → ℕ → ℕ → ℕ → ℕ → List ℕ → ℕ
+countedRefusal n m rows overlaps x s z rooms =
+    firstFailing
+    (check 10 (rowsFit standard m rows overlaps) ∷ check 10 (rowsFit compact m rows overlaps)
+    ∷ check 11 (roomy ((n + overlaps) ∷ rows ∷ rows ∷ 2 ∷ []) rooms) ∷ check 12 (lengthsFit standard n m rows overlaps x s z) ∷ [])
