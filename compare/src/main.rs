@@ -3,6 +3,7 @@
 
 mod added;
 mod against;
+mod both_routes;
 mod change_route;
 mod differences;
 mod door;
@@ -31,6 +32,7 @@ compare/run --case K --seed S      one case again, its problem printed
 compare/run --exhaustive           every clique tree on up to 4 vertices, every ordering; with a column, with entries
                                    repeated and without a column
 compare/run --rounding [--cases N]     errors of the joined s beside their bound (Q-9), in exact sums
+compare/run --both-routes [--cases N]  solutions held against both routes' written equations (Q-13), in exact sums
 compare/run --vectors FILE         stored cases (JSON, one a line), told by the file's name: cases.jsonl, q-N.jsonl
 compare/run --differences          clarabel on the inputs of docs/DIFFERENCES.md
 compare/run --speed                times, with ratios where the door is linked
@@ -241,6 +243,7 @@ fn compare() -> i32 {
             "--exhaustive" => mode = "exhaustive",
             "--differences" => mode = "differences",
             "--rounding" => mode = "rounding",
+            "--both-routes" => mode = "both routes",
             "--speed" => mode = "speed",
             "--vectors" => (mode, file) = ("vectors", Some(value())),
             "--store" => (mode, file) = ("store", Some(value())),
@@ -275,6 +278,7 @@ fn compare() -> i32 {
             }
         }
         "rounding" => rounding::compare(&mut report, o.cases, o.seed).print(),
+        "both routes" => both_routes::compare(&mut report, o.cases, o.seed),
         "exhaustive" => exhaustive_cases(&mut report, &o),
         "one" => {
             for scale in [random::TINY, random::SMALL, random::LARGE] {

@@ -33,6 +33,6 @@ module _ (p : Problem) (before after : Augmented) (cut : Cut 1 p before after 0)
       → MeetsOriginal p d x s ↔ ((r : ℕ) → r < p .m → columnsTerm count r (p .A) 0 x +ℤ at s r ≡ pos d *ℤ count (getD (p .b) r nan))
   meets-alone d x s = (subst (λ (M : Csc). MeetsOf M p d x s) same, subst (λ (M : Csc). MeetsOf M p d x s) (sym same))
 
-  pub demand3-alone : T (all finite (p .A .values) && all finite (p .b)) → SameSolutionsAs p (writtenA p after) (writtenB p after)
+  pub demand3-alone : T (all finite (p .A .values) && all finite (p .b)) → SameSolutionsAs p (writtenA compact p after) (writtenB compact p after)
   demand3-alone h =
       demand3-written p before after cut (subst (λ (M : Csc). T (all finite (M .values) && all finite (p .b))) (sym same) h)

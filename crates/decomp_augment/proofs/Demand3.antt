@@ -1,7 +1,7 @@
 -- Demand 3 on what is written: the equations read off the outputs of a compact cut have exactly the original's solutions.
 use Prim.Native.Nat.{ℕ}
 use native.Mathlib.Omega.{arith}
-use mathlib.Core.Path.{_≡_, sym, ap, subst, _∙_}
+use mathlib.Core.Path.{_≡_, sym, ap, subst₂, _∙_}
 use mathlib.Core.List.{List}
 use lib.ListN.{length, getD}
 use lib.Ieee.{Float}
@@ -10,7 +10,7 @@ use Rattle.layout.specs.Blocks.{blockRowCount}
 use Rattle.layout.specs.Checks.{layout, refusal}
 use Rattle.layout.specs.Compact.{compactA, compactB}
 use Rattle.layout.specs.Equations.{AllFinite}
-use Rattle.layout.specs.Answers.{Augmented, lengths}
+use Rattle.layout.specs.Answers.{Augmented, augmented, lengths, routeOf}
 use Rattle.layout.specs.Calls.Cut.{Cut}
 use Rattle.layout.proofs.Buffers.{front-read}
 use Rattle.layout.proofs.Demand3.{demand3}
@@ -18,7 +18,7 @@ use Rattle.layout.proofs.Sizes.{compact-sizes}
 use Rattle.layout.proofs.Promises.{taken}
 use Rattle.decomp_augment.specs.Equations.{writtenA, writtenB, SameSolutionsAs}
 
-matrix-same : (M N : Csc) → M .starts ≡ N .starts → M .rows ≡ N .rows → M .values ≡ N .values → M ≡ N
+pub matrix-same : (M N : Csc) → M .starts ≡ N .starts → M .rows ≡ N .rows → M .values ≡ N .values → M ≡ N
 matrix-same M N e f g = λ i. record { starts = e i; rows = f i; values = g i }
 
 -- over the definitions: the cut's own A and b
@@ -33,15 +33,24 @@ defined p ok finite =
       reached = λ d z x s e g m. let some = h .reached d z x s e g m in (some .0, some .1 ∙ sym rows, some .2);
     }
 
+-- A and b at the fronts of the outputs of a cut that answers 0 are the cut's own
+module _ (k : ℕ) (p : Problem) (before after : Augmented) (cut : Cut k p before after 0) where
+  pub written-A : writtenA (routeOf k) p after ≡ augmented (routeOf k) p .A
+  written-A =
+      let t = cut .tables .constrained in
+      let M = augmented (routeOf k) p .A in
+      matrix-same (writtenA (routeOf k) p after) M (front-read (M .starts) (before .A .starts) (t .a-starts))
+      (front-read (M .rows) (before .A .rows) (t .a-rows)) (front-read (M .values) (before .A .values) (t .a-values))
+
+  pub written-b : writtenB (routeOf k) p after ≡ augmented (routeOf k) p .b
+  written-b = front-read (augmented (routeOf k) p .b) (before .b) (cut .tables .constrained .b)
+
+  pub cut-accepted : refusal (routeOf k) p ≡ 0
+  cut-accepted = taken k p (lengths before) (sym (cut .number)) .1 .0
+
 -- Demand 3 of what a compact cut that answers 0 leaves in its outputs.
 pub demand3-written : (p : Problem) (before after : Augmented) → Cut 1 p before after 0 → AllFinite p
-    → SameSolutionsAs p (writtenA p after) (writtenB p after)
+    → SameSolutionsAs p (writtenA compact p after) (writtenB compact p after)
 demand3-written p before after cut finite =
-    let t = cut .tables .constrained in
-    subst (λ (M : Csc). SameSolutionsAs p M (writtenB p after))
-    (sym (matrix-same (writtenA p after) (compactA p)
-    (front-read (compactA p .starts) (before .A .starts) (t .a-starts))
-    (front-read (compactA p .rows) (before .A .rows) (t .a-rows))
-    (front-read (compactA p .values) (before .A .values) (t .a-values))))
-    (subst (λ (v : List Float). SameSolutionsAs p (compactA p) v) (sym (front-read (compactB p) (before .b) (t .b)))
-    (defined p (taken 1 p (lengths before) (sym (cut .number)) .1 .0) finite))
+    subst₂ (λ (M : Csc) (v : List Float). SameSolutionsAs p M v) (sym (written-A 1 p before after cut)) (sym (written-b 1 p before after cut))
+    (defined p (cut-accepted 1 p before after cut) finite)

@@ -54,7 +54,7 @@ module _ (p : Problem) (before after : Augmented) (cut : Cut 1 p before after 0)
   accepted : refusal compact p ≡ 0
   accepted = taken 1 p (lengths before) (sym (cut .number)) .1 .0
 
-  b-is : writtenB p after ≡ compactB p
+  b-is : writtenB compact p after ≡ compactB p
   b-is = front-read (compactB p) (before .b) (cut .tables .constrained .b)
 
   inside : (k : ℕ) → k < coneCount (layout p) → k < length entries
@@ -82,7 +82,7 @@ module _ (p : Problem) (before after : Augmented) (cut : Cut 1 p before after 0)
   first-written k l = first-is k l ∙ first-at (layout p) k (wholeCone 0 0 0) (inside k l) ∙ ap sum (sym (counts-are k (omega arith)))
 
   -- all of them are the rows of b
-  pub rows-written : sum (map rowCount (below (coneCount (layout p)))) ≡ length (writtenB p after)
+  pub rows-written : sum (map rowCount (below (coneCount (layout p)))) ≡ length (writtenB compact p after)
   rows-written =
       let n = coneCount (layout p) in
       ap sum (counts-are n (omega arith) ∙ take-all n (map entryRows entries) (omega (arith, length-map entries entryRows, map-count 0 (layout p))))
@@ -90,7 +90,7 @@ module _ (p : Problem) (before after : Augmented) (cut : Cut 1 p before after 0)
 
   -- b has the rows of an entry's block from its first row on
   pub block-written : (k : ℕ) → k < coneCount (layout p)
-      → take (rowCount k) (drop (firstRow k) (writtenB p after)) ≡ map (rowValue (p .b)) (getD (blocksFrom 0 (layout p)) k [])
+      → take (rowCount k) (drop (firstRow k) (writtenB compact p after)) ≡ map (rowValue (p .b)) (getD (blocksFrom 0 (layout p)) k [])
   block-written k l =
       let f : Row → Float = rowValue (p .b) in
       let R = compactRows (layout p) in

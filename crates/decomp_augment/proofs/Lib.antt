@@ -3,3 +3,4 @@ pub mod Demand3
 pub mod NoColumns
 pub mod Alone
 pub mod FirstRows
+pub mod BothRoutes

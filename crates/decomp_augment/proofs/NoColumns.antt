@@ -4,7 +4,7 @@ use mathlib.Core.Path.{_≡_, sym}
 use mathlib.Core.List.{List, []}
 use lib.ListN.{length}
 use lib.IntN.{ℤ}
-use Rattle.layout.specs.Problem.{Problem}
+use Rattle.layout.specs.Problem.{Problem, compact}
 use Rattle.layout.specs.Blocks.{overlapCount}
 use Rattle.layout.specs.Checks.{layout}
 use Rattle.layout.specs.Equations.{MeetsOriginal, slackSums, ExactlyOne, AllFinite}
@@ -15,15 +15,15 @@ use Rattle.decomp_augment.proofs.Demand3.{demand3-written}
 
 module _ (p : Problem) (before after : Augmented) (cut : Cut 1 p before after 0) (finite : AllFinite p) (none : p .n ≡ 0) (d : ℕ) (z : 0 < d) where
   -- slacks whose sums meet the original equations have exactly one choice of the added unknowns, others have none
-  pub empty-solved : (s : List ℤ) → length s ≡ length (writtenB p after) → MeetsOriginal p d [] (slackSums p s)
-      → ExactlyOne (overlapCount (layout p)) (λ y. Meets (writtenA p after) (writtenB p after) p d [] y s)
+  pub empty-solved : (s : List ℤ) → length s ≡ length (writtenB compact p after) → MeetsOriginal p d [] (slackSums p s)
+      → ExactlyOne (overlapCount (layout p)) (λ y. Meets (writtenA compact p after) (writtenB compact p after) p d [] y s)
   empty-solved s l m = demand3-written p before after cut finite .solved d z [] s (sym none) l m
 
-  pub empty-unsolved : (s : List ℤ) → length s ≡ length (writtenB p after) → (MeetsOriginal p d [] (slackSums p s) → ⊥)
-      → (y : List ℤ) → length y ≡ overlapCount (layout p) → Meets (writtenA p after) (writtenB p after) p d [] y s → ⊥
+  pub empty-unsolved : (s : List ℤ) → length s ≡ length (writtenB compact p after) → (MeetsOriginal p d [] (slackSums p s) → ⊥)
+      → (y : List ℤ) → length y ≡ overlapCount (layout p) → Meets (writtenA compact p after) (writtenB compact p after) p d [] y s → ⊥
   empty-unsolved s l n y k m = demand3-written p before after cut finite .unsolved d z [] s (sym none) l n y k m
 
   -- slacks that meet the original equations are sums of some
   pub empty-reached : (s : List ℤ) → length s ≡ p .m → MeetsOriginal p d [] s
-      → (t : List ℤ) × (length t ≡ length (writtenB p after)) × (slackSums p t ≡ s)
+      → (t : List ℤ) × (length t ≡ length (writtenB compact p after)) × (slackSums p t ≡ s)
   empty-reached s l m = demand3-written p before after cut finite .reached d z [] s (sym none) l m

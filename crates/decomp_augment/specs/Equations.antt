@@ -1,31 +1,27 @@
--- Demand 3 in terms of what a compact cut leaves at the front of its outputs.
+-- What a cut leaves at the front of its outputs, as equations, and demand 3 in terms of it.
 use Prim.Native.Nat.{ℕ, _<_}
 use mathlib.Core.Path.{_≡_}
 use mathlib.Core.List.{List}
 use lib.ListN.{length, getD}
 use lib.IntN.{ℤ, pos, _+ℤ_, _*ℤ_}
 use lib.Ieee.{Float, nan}
-use Rattle.layout.specs.Problem.{Problem, Csc, compact}
+use Rattle.layout.specs.Problem.{Problem, Csc, Route}
 use Rattle.layout.specs.Blocks.{overlapCount}
 use Rattle.layout.specs.Checks.{layout}
 use Rattle.layout.specs.Equations.{count, unit, at, columnsTerm, MeetsOriginal, slackSums, ExactlyOne}
 use Rattle.layout.specs.Answers.{Augmented}
 use Rattle.layout.specs.Calls.Cut.{frontOn}
 
--- the front of output i of a compact cut
-abbrev pub front : {A : Type 0} → Problem → ℕ → List A → List A
-front p i out = frontOn compact p i out
-
 -- the written A and b: outputs 4, 5 and 6 are the starts, rows and values of A, and 7 is b
-abbrev pub writtenA : Problem → Augmented → Csc
-writtenA p out = record {
-  starts = front p 4 (out .A .starts);
-  rows = front p 5 (out .A .rows);
-  values = front p 6 (out .A .values);
+abbrev pub writtenA : Route → Problem → Augmented → Csc
+writtenA route p out = record {
+  starts = frontOn route p 4 (out .A .starts);
+  rows = frontOn route p 5 (out .A .rows);
+  values = frontOn route p 6 (out .A .values);
 }
 
-abbrev pub writtenB : Problem → Augmented → List Float
-writtenB p out = front p 7 (out .b)
+abbrev pub writtenB : Route → Problem → Augmented → List Float
+writtenB route p out = frontOn route p 7 (out .b)
 
 -- the equations of a matrix and a right side: the columns before n times x, those from n on times y, and the slack
 abbrev pub Meets : Csc → List Float → Problem → ℕ → List ℤ → List ℤ → List ℤ → Type 0

@@ -5,8 +5,8 @@ use native.Mathlib.Omega.{arith}
 use mathlib.Core.Path.{_≡_, refl, sym, ap, ap₂, subst, _∙_}
 use mathlib.Core.Bool.{Bool, true, _&&_}
 use mathlib.Core.List.{List, [], _∷_, _++_, map, map-append, map-map, append-nil}
-use lib.ListN.{length, getD, take, drop, length-map}
-use lib.Seq.{take-suc, take-all, take-add}
+use lib.ListN.{length, getD, take, drop, length-append, length-map, List·getD-append}
+use lib.Seq.{getD-append-add, take-suc, take-all, take-add}
 use lib.Dec.{T, leb, ltb, le→leb, lt→ltb}
 use lib.Ieee.{nan}
 use Rattle.layout.specs.Lists.{has, all, below, upFrom, rises, sum, join, startsFrom}
@@ -14,7 +14,7 @@ use Rattle.layout.specs.Problem.{Csc}
 use Rattle.layout.specs.Checks.{neverFalls, startCount, startsAtZero, startsEnd, rowsAsMany, startsRight, columnRows, rowsRight}
 use Rattle.layout.specs.Compact.{Entry, column, csc, rowsOf}
 use Rattle.layout.proofs.Tests.{and-iff, eqb-iff}
-use Rattle.layout.proofs.Members.{getD-map, has-join, has-below, all-has}
+use Rattle.layout.proofs.Members.{getD-map, has-join, has-below, length-below, getD-below, all-has}
 use Rattle.layout.proofs.Joins.{map-same, upFrom-last}
 use Rattle.layout.proofs.Starts.{part-at, length-starts, starts-at, join-append, join-map}
 use Rattle.layout.proofs.Columns.{column-csc, starts-right, RightStarts, column-length, column-rows, columns-sum, entry-count, even}
@@ -91,6 +91,26 @@ module _ (cs : List (List Entry)) where
             (ap rowsOf (sym (column-csc cs c l)) ∙ column-rows (length cs) (csc cs) (starts-right (length cs) (csc cs) csc-starts) c l)
             (rising c l)),
       )
+
+-- ---- columns given by a rule below n, and others after them
+
+module _ (f : ℕ → List Entry) (n : ℕ) (ds : List (List Entry)) where
+  abbrev ruled : List (List Entry)
+  ruled = map f (below n)
+
+  pub ruled-count : length (map f (below n)) ≡ n
+  ruled-count = length-map (below n) f ∙ length-below n
+
+  pub csc-ruled : (c : ℕ) → c < n → column (csc (map f (below n) ++ ds)) c ≡ f c
+  csc-ruled c l =
+      column-csc (ruled ++ ds) c (omega (arith, length-append ruled ds, ruled-count))
+      ∙ List·getD-append ruled ds [] c (omega (arith, ruled-count))
+      ∙ getD-map f (below n) c 0 [] (omega (arith, length-below n)) ∙ ap f (getD-below n c 0 l)
+
+  pub csc-later : (k : ℕ) → k < length ds → column (csc (map f (below n) ++ ds)) (n + k) ≡ getD ds k []
+  csc-later k l =
+      column-csc (ruled ++ ds) (n + k) (omega (arith, length-append ruled ds, ruled-count))
+      ∙ ap (λ (i : ℕ). getD (ruled ++ ds) (i + k) []) (sym ruled-count) ∙ getD-append-add ruled ds k []
 
 -- ---- a matrix's own columns
 

@@ -14,6 +14,7 @@ use Rattle.layout.specs.Problem.{Problem, Route}
 use Rattle.layout.specs.Blocks.{compactRows}
 use Rattle.layout.specs.Checks.{layout, refusal, neverFalls, columnRows, startsRight, rowsRight}
 use Rattle.layout.specs.Compact.{Entry, column, csc, rowsOf, plus, summedFrom, summed, summedA, moved, augmentedColumn, overlapColumns, compactColumns, compactA}
+use Rattle.layout.specs.BothRoutes.{withoutRepeats}
 use Rattle.layout.proofs.Tests.{and-iff, eqb-iff, cond-failed, either-iff}
 use Rattle.layout.proofs.Members.{has-cons, getD-map, getD-below, length-below, has-below, all-has}
 use Rattle.layout.proofs.Joins.{map-same}
@@ -243,10 +244,6 @@ moved-sum o q es h =
     ∙ ap (map (λ (v : Float). record { row = q; value = v })) (summed-values o es h)
 
 -- ---- A with the sums in place
-
--- the rows of A's columns strictly rise: no row is repeated
-abbrev pub withoutRepeats : Problem → Bool
-withoutRepeats p = all (λ c. rises (columnRows (p .A) c)) (below (p .n))
 
 -- the problem with them
 abbrev pub withSums : Problem → Problem

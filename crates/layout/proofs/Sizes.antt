@@ -87,7 +87,7 @@ blocks-entries : (r : ℕ) (os : List ℕ) → sum (map length (blockColumns r o
 blocks-entries r [] = refl
 blocks-entries r (o ∷ os) = omega (arith, blocks-entries (suc r) os)
 
-blocks-count : (r : ℕ) (os : List ℕ) → length (blockColumns r os) ≡ length os
+pub blocks-count : (r : ℕ) (os : List ℕ) → length (blockColumns r os) ≡ length os
 blocks-count r [] = refl
 blocks-count r (o ∷ os) = ap suc (blocks-count (suc r) os)
 
