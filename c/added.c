@@ -22,8 +22,36 @@ static int change_route(void) {
            equal("scalars", scalars_out, scalars, 2);
 }
 
+/* what the compact cut of three projectors writes beside b: the room of each table */
+#define CUT_P_Q ALL(p_starts_out), p_rows_out, 0, p_values_out, 0, ALL(q_out)
+#define CUT_A ALL(a_starts_out), ALL(a_rows_out), ALL(a_values_out)
+#define CUT_CONES ALL(cones_out), alphas_out, 0, ALL(map_out)
+#define AUGMENTED_ROWS 6
+
+static uint32_t p_starts_out[3], p_rows_out[1], a_starts_out[3], a_rows_out[7], cones_out[6], map_out[10];
+static double p_values_out[1], q_out[2], a_values_out[7], alphas_out[1];
+
+/* each marker known to a half: both limits move to the same places */
+static int cut_between(void) {
+    static const double low[M] = {0.5, 1.5, 2.5, 0, 3.5, 4.5}, high[M] = {1.5, 2.5, 3.5, 0, 4.5, 5.5};
+    static const double want_low[] = {2.5, 3.5, 4.5, 0.5, 1.5, 0}, want_high[] = {3.5, 4.5, 5.5, 1.5, 2.5, 0};
+    double b_low[AUGMENTED_ROWS], b_high[AUGMENTED_ROWS];
+    uint32_t refusal = chordal_cut_between(BEFORE_B, ALL(low), ALL(high), AFTER_B, CUT_P_Q, CUT_A, ALL(b_low),
+                                           ALL(b_high), CUT_CONES);
+    if (!done("cut between limits", refusal)) return 0;
+    print_values("low", b_low, AUGMENTED_ROWS);
+    print_values("high", b_high, AUGMENTED_ROWS);
+    int right = equal("low", b_low, want_low, AUGMENTED_ROWS) & equal("high", b_high, want_high, AUGMENTED_ROWS);
+
+    refusal = chordal_cut_between(BEFORE_B, ALL(high), ALL(low), AFTER_B, CUT_P_Q, CUT_A, ALL(b_low), ALL(b_high),
+                                  CUT_CONES);
+    done("limits exchanged", refusal);
+    return right & (refusal == CHORDAL_LIMITS);
+}
+
 int main(void) {
     int right = change_route();
+    right &= cut_between();
     printf(right ? "all as it must be\n" : "something is wrong\n");
     return right ? EXIT_SUCCESS : EXIT_FAILURE;
 }

@@ -2,7 +2,7 @@
 use std::path::PathBuf;
 use std::{env, fs};
 
-const CALLS: [&str; 9] = [
+const CALLS: [&str; 10] = [
     "chordal_pair_index",
     "chordal_pair_back",
     "chordal_inverse",
@@ -12,16 +12,12 @@ const CALLS: [&str; 9] = [
     "chordal_join",
     "chordal_same_layout",
     "chordal_change_route",
+    "chordal_cut_between",
 ];
 
 fn main() {
     println!("cargo:rustc-check-cfg=cfg(door)");
     println!("cargo:rerun-if-env-changed=CHORDAL_DOOR_LIB");
-    println!("cargo:rerun-if-env-changed=CARGO_FEATURE_MOCK");
-    if env::var_os("CARGO_FEATURE_MOCK").is_some() {
-        println!("cargo:rustc-cfg=door");
-        return;
-    }
     let Some(folder) = env::var_os("CHORDAL_DOOR_LIB").map(PathBuf::from) else {
         return;
     };

@@ -40,7 +40,8 @@ enum chordal_refusal {
     CHORDAL_UNCOVERED = 9,   /* compact: an entry of A or a b unequal to zero in a row that no clique covers */
     CHORDAL_TOO_LARGE = 10,  /* more than 262,144 augmented rows or, compact, 131,072 overlaps */
     CHORDAL_SHORT = 11,      /* an output is too short */
-    CHORDAL_SOLUTION = 12    /* a solution's lengths, or the cone map, are not those that the problem gives */
+    CHORDAL_SOLUTION = 12,   /* a solution's lengths, or the cone map, are not those that the problem gives */
+    CHORDAL_LIMITS = 16      /* a low limit above its high one, or a NaN in either; comes after 4 */
 };
 
 /* out[0]: the index of the pair (i, j) in the packed upper triangle. Refusals 1, 11. */
@@ -109,6 +110,26 @@ uint32_t chordal_change_route(
     double tau, double kappa,
     double *x_out, size_t x_out_len, double *s_out, size_t s_out_len, double *z_out, size_t z_out_len,
     double *scalars_out, size_t scalars_out_len);
+
+/* The augmented problem on the compact route, where each value of b is known only as a low and a high limit: both are
+ * carried to the same places, everything else is the cut's. b_low and b_high are each as long as the cut's b. A row that
+ * no clique covers needs both limits zero. Refusals 1 to 4, 16, 5 to 7, 9 to 11. */
+uint32_t chordal_cut_between(
+    uint32_t n, uint32_t m,
+    const uint32_t *p_starts, size_t p_starts_len, const uint32_t *p_rows, size_t p_rows_len,
+    const double *p_values, size_t p_values_len, const double *q, size_t q_len,
+    const uint32_t *a_starts, size_t a_starts_len, const uint32_t *a_rows, size_t a_rows_len,
+    const double *a_values, size_t a_values_len,
+    const double *low, size_t low_len, const double *high, size_t high_len,
+    const uint32_t *cones, size_t cones_len, const double *alphas, size_t alphas_len,
+    uint32_t pattern_count, const uint32_t *pattern_words, size_t pattern_words_len,
+    uint32_t *p_starts_out, size_t p_starts_out_len, uint32_t *p_rows_out, size_t p_rows_out_len,
+    double *p_values_out, size_t p_values_out_len, double *q_out, size_t q_out_len,
+    uint32_t *a_starts_out, size_t a_starts_out_len, uint32_t *a_rows_out, size_t a_rows_out_len,
+    double *a_values_out, size_t a_values_out_len,
+    double *b_low_out, size_t b_low_out_len, double *b_high_out, size_t b_high_out_len,
+    uint32_t *cones_out, size_t cones_out_len, double *alphas_out, size_t alphas_out_len,
+    uint32_t *map_out, size_t map_out_len);
 
 /* out[0]: 1 where two problems agree in n, m, cone records, pattern words, alphas, and the starts and rows of A and of P, else 0.
  * Alphas are compared bit by bit: +0.0 and -0.0 differ; one NaN is not told from another. Where it is 1 and a route accepts both

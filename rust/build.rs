@@ -4,7 +4,7 @@ use std::path::{Path, PathBuf};
 use std::process::Command;
 use std::{env, fs};
 
-const CALLS: [&str; 9] = [
+const CALLS: [&str; 10] = [
     "chordal_pair_index",
     "chordal_pair_back",
     "chordal_inverse",
@@ -14,6 +14,7 @@ const CALLS: [&str; 9] = [
     "chordal_join",
     "chordal_same_layout",
     "chordal_change_route",
+    "chordal_cut_between",
 ];
 
 fn main() {

@@ -2,6 +2,7 @@
 //! says of what they give.
 #![cfg_attr(not(door), allow(dead_code))]
 
+use crate::against;
 use crate::change_route;
 use crate::door::*;
 use crate::exact::Exact;
@@ -9,6 +10,7 @@ use crate::expected::{self, join_input, JoinInput};
 use crate::problem::*;
 use crate::random::Draws;
 use crate::report::*;
+use crate::sides;
 
 #[cfg(door)]
 #[allow(clippy::too_many_arguments)]
@@ -38,6 +40,59 @@ mod c {
             z_out_len: usize,
             scalars_out: *mut f64,
             scalars_out_len: usize,
+        ) -> u32;
+        pub fn chordal_cut_between(
+            n: u32,
+            m: u32,
+            p_starts: *const u32,
+            p_starts_len: usize,
+            p_rows: *const u32,
+            p_rows_len: usize,
+            p_values: *const f64,
+            p_values_len: usize,
+            q: *const f64,
+            q_len: usize,
+            a_starts: *const u32,
+            a_starts_len: usize,
+            a_rows: *const u32,
+            a_rows_len: usize,
+            a_values: *const f64,
+            a_values_len: usize,
+            low: *const f64,
+            low_len: usize,
+            high: *const f64,
+            high_len: usize,
+            cones: *const u32,
+            cones_len: usize,
+            alphas: *const f64,
+            alphas_len: usize,
+            pattern_count: u32,
+            pattern_words: *const u32,
+            pattern_words_len: usize,
+            p_starts_out: *mut u32,
+            p_starts_out_len: usize,
+            p_rows_out: *mut u32,
+            p_rows_out_len: usize,
+            p_values_out: *mut f64,
+            p_values_out_len: usize,
+            q_out: *mut f64,
+            q_out_len: usize,
+            a_starts_out: *mut u32,
+            a_starts_out_len: usize,
+            a_rows_out: *mut u32,
+            a_rows_out_len: usize,
+            a_values_out: *mut f64,
+            a_values_out_len: usize,
+            b_low_out: *mut f64,
+            b_low_out_len: usize,
+            b_high_out: *mut f64,
+            b_high_out_len: usize,
+            cones_out: *mut u32,
+            cones_out_len: usize,
+            alphas_out: *mut f64,
+            alphas_out_len: usize,
+            map_out: *mut u32,
+            map_out_len: usize,
         ) -> u32;
     }
 }
@@ -150,4 +205,213 @@ pub fn compare_change_route(report: &mut Report, d: &mut Draws, p: &Problem, sol
     } else {
         report.fail(format!("change of route: a compact joining refuses what it gives, {number}"), p.weight(), text);
     }
+}
+
+// ---- limits
+
+/// The door's call: the cut with the low limits' b, and the high limits' b.
+pub fn cut_between(p: &Problem, low: &[f64], high: &[f64], o: &mut CutOutputs, b_high: &mut [f64]) -> u32 {
+    #[cfg(not(door))]
+    {
+        let _ = (p, low, high, o, b_high);
+        unreachable!("the door is not linked")
+    }
+    #[cfg(door)]
+    unsafe {
+        c::chordal_cut_between(
+            p.n,
+            p.m,
+            p.p.starts.as_ptr(),
+            p.p.starts.len(),
+            p.p.rows.as_ptr(),
+            p.p.rows.len(),
+            p.p.values.as_ptr(),
+            p.p.values.len(),
+            p.q.as_ptr(),
+            p.q.len(),
+            p.a.starts.as_ptr(),
+            p.a.starts.len(),
+            p.a.rows.as_ptr(),
+            p.a.rows.len(),
+            p.a.values.as_ptr(),
+            p.a.values.len(),
+            low.as_ptr(),
+            low.len(),
+            high.as_ptr(),
+            high.len(),
+            p.cones.as_ptr(),
+            p.cones.len(),
+            p.alphas.as_ptr(),
+            p.alphas.len(),
+            p.pattern_count,
+            p.pattern_words.as_ptr(),
+            p.pattern_words.len(),
+            o.p_starts.as_mut_ptr(),
+            o.p_starts.len(),
+            o.p_rows.as_mut_ptr(),
+            o.p_rows.len(),
+            o.p_values.as_mut_ptr(),
+            o.p_values.len(),
+            o.q.as_mut_ptr(),
+            o.q.len(),
+            o.a_starts.as_mut_ptr(),
+            o.a_starts.len(),
+            o.a_rows.as_mut_ptr(),
+            o.a_rows.len(),
+            o.a_values.as_mut_ptr(),
+            o.a_values.len(),
+            o.b.as_mut_ptr(),
+            o.b.len(),
+            b_high.as_mut_ptr(),
+            b_high.len(),
+            o.cones.as_mut_ptr(),
+            o.cones.len(),
+            o.alphas.as_mut_ptr(),
+            o.alphas.len(),
+            o.map.as_mut_ptr(),
+            o.map.len(),
+        )
+    }
+}
+
+// rooms for the cut's outputs, one of them short now and then
+fn some_rooms(d: &mut Draws, mut rooms: [usize; 11]) -> [usize; 11] {
+    let short = if d.chance(15) { d.below(11) } else { 11 };
+    for (i, space) in rooms.iter_mut().enumerate() {
+        *space = room(d, *space, i == short);
+    }
+    rooms
+}
+
+// the first table but b in which two cuts differ; in sums of several entries any NaN equals any NaN
+fn beside_b(a: &CutOutputs, b: &CutOutputs) -> Option<&'static str> {
+    let tests = [
+        ("P", (&a.p_starts, &a.p_rows) == (&b.p_starts, &b.p_rows) && all_bits(&a.p_values, &b.p_values)),
+        ("q", all_bits(&a.q, &b.q)),
+        ("A", (&a.a_starts, &a.a_rows) == (&b.a_starts, &b.a_rows) && all_same(&a.a_values, &b.a_values)),
+        ("cones", a.cones == b.cones && all_bits(&a.alphas, &b.alphas)),
+        ("map", a.map == b.map),
+    ];
+    tests.iter().find(|t| !t.1).map(|t| t.0)
+}
+
+// outputs without what lies behind the results
+fn cut_off(o: &CutOutputs, lengths: &[usize; 11]) -> CutOutputs {
+    CutOutputs {
+        p_starts: o.p_starts[..lengths[0]].to_vec(),
+        p_rows: o.p_rows[..lengths[1]].to_vec(),
+        p_values: o.p_values[..lengths[2]].to_vec(),
+        q: o.q[..lengths[3]].to_vec(),
+        a_starts: o.a_starts[..lengths[4]].to_vec(),
+        a_rows: o.a_rows[..lengths[5]].to_vec(),
+        a_values: o.a_values[..lengths[6]].to_vec(),
+        b: o.b[..lengths[7]].to_vec(),
+        cones: o.cones[..lengths[8]].to_vec(),
+        alphas: o.alphas[..lengths[9]].to_vec(),
+        map: o.map[..lengths[10]].to_vec(),
+    }
+}
+
+// a number between two, which may be one of them
+fn between(d: &mut Draws, low: f64, high: f64) -> f64 {
+    let middle = low / 2.0 + high / 2.0;
+    match d.below(4) {
+        0 => low,
+        1 => high,
+        2 if low == high && low == 0.0 => -low,
+        _ if middle >= low && middle <= high => middle,
+        _ => low,
+    }
+}
+
+fn all_between(d: &mut Draws, low: &[f64], high: &[f64]) -> Vec<f64> {
+    low.iter().zip(high).map(|(&low, &high)| between(d, low, high)).collect()
+}
+
+// What document 02 says of an accepted pair of lists and its results: a b between the lists is augmented into something
+// between the results, and a vector between the results is, as numbers, the augmentation of exactly one such b.
+fn limits_wrong(d: &mut Draws, p: &Problem, lists: [&[f64]; 2], results: [&[f64]; 2]) -> Option<&'static str> {
+    let augmented = |b: &[f64]| cut_made(Route::Compact, &sides::with_b(p, b)).map(|cut| cut.b);
+    let within = |b: &[f64], [low, high]: [&[f64]; 2]| sides::in_order(low, b) && sides::in_order(b, high);
+    let b = all_between(d, lists[0], lists[1]);
+    match augmented(&b) {
+        Err(_) => return Some("a b between the limits is refused"),
+        Ok(made) if !within(&made, results) => return Some("a b between the limits leaves the results"),
+        Ok(_) => {}
+    }
+    let vector = all_between(d, results[0], results[1]);
+    let layout = expected::first_seven(&sides::with_b(p, lists[0])).ok()?;
+    let mut b = vec![0.0; p.m as usize];
+    for (row, &value) in layout.compact_rows().iter().zip(&vector) {
+        if row.parent_row().is_none() {
+            b[row.original()] = value;
+        }
+    }
+    if !within(&b, lists) {
+        return Some("a vector between the results comes from no b between the limits");
+    }
+    if augmented(&b).as_ref() != Ok(&vector) {
+        return Some("a vector between the results is no augmentation");
+    }
+    // any other b between the limits gives another vector
+    let open: Vec<usize> = (0..b.len()).filter(|&at| lists[0][at] < lists[1][at]).collect();
+    if !open.is_empty() {
+        let at = open[d.below(open.len())];
+        b[at] = if b[at] == lists[0][at] { lists[1][at] } else { lists[0][at] };
+        if augmented(&b).as_ref() == Ok(&vector) {
+            return Some("a vector between the results is the augmentation of two");
+        }
+    }
+    None
+}
+
+/// The compact cut with two lists for b, `p`'s own b being passed over.
+pub fn compare_between(report: &mut Report, d: &mut Draws, p: &Problem, low: &[f64], high: &[f64]) {
+    let needed = sides::lengths_between(p, low, high).unwrap_or([3; 11]);
+    let rooms = some_rooms(d, needed);
+    let short = d.chance(3);
+    let high_room = room(d, needed[7], short);
+    let (mut out, mut b_high) = (cut_outputs(&rooms), values(high_room));
+    let number = cut_between(p, low, high, &mut out, &mut b_high);
+    let expected = sides::cut_between(p, low, high, Some((&rooms, high_room)));
+    let refusal = expected.as_ref().err().copied().unwrap_or(0);
+    let (cut, front) = expected.unwrap_or_default();
+    let wrong = if all_bits(&b_high, &values_after(&front, high_room)) {
+        cut_wrong(&out, &cut, &rooms)
+    } else {
+        Some("high limits")
+    };
+    let text = || {
+        let lists = format!(" low {}\n high {}", floats(low), floats(high));
+        format!("{}\n{lists}\n rooms {rooms:?} {high_room} needed {needed:?}", problem_text(p))
+    };
+    judge(report, "cut between", refusal, number, wrong, p.weight(), text);
+
+    // what the two single cuts give
+    let singles = [low, high].map(|b| cut_made(Route::Compact, &sides::with_b(p, b)));
+    let first = singles.iter().filter_map(|cut| cut.as_ref().err().copied()).min();
+    let by_singles = match first {
+        Some(number) if number <= 4 => number,
+        _ if !sides::in_order(low, high) => 16,
+        Some(number) => number,
+        None => number * (number == 11) as u32,
+    };
+    if by_singles != number {
+        let kind = format!("cut between: answers {number}, by the single cuts {by_singles}");
+        report.fail(kind, p.weight(), text);
+    }
+    let (0, [Ok(by_low), Ok(by_high)]) = (number, &singles) else { return };
+    let made = cut_off(&out, &needed);
+    let results = [&made.b[..], &b_high[..needed[7]]];
+    let wrong = [by_low, by_high]
+        .into_iter()
+        .zip(results)
+        .find_map(|(single, b)| beside_b(&made, single).or((!all_bits(b, &single.b)).then_some("b")));
+    let wrong = wrong.or_else(|| limits_wrong(d, p, [low, high], results));
+    match wrong {
+        None => report.count("cut between: what the single cuts give; a b and a vector between the limits"),
+        Some(what) => report.fail(format!("cut between, beside the single cuts: {what}"), p.weight(), text),
+    }
+    let either = if d.chance(50) { low } else { high };
+    against::compare(report, Route::Compact, &sides::with_b(p, either), None, 0);
 }

@@ -11,31 +11,7 @@ use crate::report::*;
 
 // the written A and b of a route
 fn written(route: Route, p: &Problem) -> Option<(Columns, Vec<f64>)> {
-    if !door::LINKED {
-        return expected::cut(route, p, None).ok().map(|cut| (cut.a, cut.b));
-    }
-    let mut sizes = [0u32; 11];
-    if door::sizes(route.code(), p, &mut sizes) != 0 {
-        return None;
-    }
-    let words = |k: usize| vec![u32::MAX; sizes[k] as usize];
-    let values = |k: usize| vec![f64::NAN; sizes[k] as usize];
-    let mut out = door::CutOutputs {
-        p_starts: words(0),
-        p_rows: words(1),
-        p_values: values(2),
-        q: values(3),
-        a_starts: words(4),
-        a_rows: words(5),
-        a_values: values(6),
-        b: values(7),
-        cones: words(8),
-        alphas: values(9),
-        map: words(10),
-    };
-    if door::cut(route.code(), p, &mut out) != 0 {
-        return None;
-    }
+    let out = door::cut_made(route, p).ok()?;
     Some((Columns { starts: out.a_starts, rows: out.a_rows, values: out.a_values }, out.b))
 }
 

@@ -453,6 +453,31 @@ pub fn cut_outputs(rooms: &[usize; 11]) -> CutOutputs {
     }
 }
 
+/// A cut on a route: the door's where it is linked, and else the plain reading's.
+pub fn cut_made(route: Route, p: &Problem) -> Result<CutOutputs, u32> {
+    if !LINKED {
+        let cut = expected::cut(route, p, None)?;
+        return Ok(CutOutputs {
+            p_starts: cut.p.starts,
+            p_rows: cut.p.rows,
+            p_values: cut.p.values,
+            q: cut.q,
+            a_starts: cut.a.starts,
+            a_rows: cut.a.rows,
+            a_values: cut.a.values,
+            b: cut.b,
+            cones: cut.cones,
+            alphas: cut.alphas,
+            map: cut.map,
+        });
+    }
+    let mut lengths = [0; 11];
+    let answer = |number: u32| if number == 0 { Ok(()) } else { Err(number) };
+    answer(sizes(route.code(), p, &mut lengths))?;
+    let mut out = cut_outputs(&lengths.map(|length| length as usize));
+    answer(cut(route.code(), p, &mut out)).map(|()| out)
+}
+
 pub fn join_outputs(rooms: &[usize; 4]) -> JoinOutputs {
     JoinOutputs { x: values(rooms[0]), s: values(rooms[1]), z: values(rooms[2]), scalars: values(rooms[3]) }
 }

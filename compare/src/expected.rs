@@ -285,8 +285,8 @@ fn checks6and7(patterns: &[Pattern]) -> Result<(), u32> {
     Ok(())
 }
 
-// checks 1 to 7 of a whole problem
-pub fn first_seven(p: &Problem) -> Result<Layout, u32> {
+/// Checks 1 to 4 of a whole problem.
+pub fn first_four(p: &Problem) -> Result<(), u32> {
     if !bounded(p.n, p.m, &p.cones) || p.a.values.len() > 262_144 || p.p.values.len() > 262_144 {
         return Err(1);
     }
@@ -305,6 +305,12 @@ pub fn first_seven(p: &Problem) -> Result<Layout, u32> {
     {
         return Err(4);
     }
+    Ok(())
+}
+
+/// Checks 1 to 7 of a whole problem.
+pub fn first_seven(p: &Problem) -> Result<Layout, u32> {
+    first_four(p)?;
     let patterns = check5(&p.cones, p.pattern_count, &p.pattern_words)?;
     checks6and7(&patterns)?;
     Ok(Layout::new(&p.cones, patterns))

@@ -10,12 +10,11 @@ mod door;
 mod exact;
 mod exhaustive;
 mod expected;
-#[cfg(feature = "mock")]
-mod mock;
 mod problem;
 mod random;
 mod report;
 mod rounding;
+mod sides;
 mod speed;
 mod store;
 mod vectors;
@@ -88,6 +87,10 @@ fn case(report: &mut Report, o: &Options, index: u64, scale: Scale) {
             }
         }
     }
+    if door::LINKED && o.routes.contains(&Route::Compact) {
+        let [low, high] = random::limits(&mut d, &p);
+        added::compare_between(report, &mut d, &p, &low, &high);
+    }
     // one pattern alone, and a permutation, each damaged now and then
     let vertices = 1 + d.below(scale.psd);
     let orig_index = d.next() as u32;
@@ -148,6 +151,12 @@ fn random_cases(report: &mut Report, o: &Options) {
             }
         }
     }
+    if door::LINKED && o.routes.contains(&Route::Compact) {
+        for (_, p) in random::at_limits() {
+            let mut d = case_draws(o.seed, u64::MAX);
+            added::compare_between(report, &mut d, &p, &p.b, &p.b);
+        }
+    }
     let started = Instant::now();
     for index in 0..o.cases {
         let scale = match index % 20 {
@@ -199,6 +208,9 @@ fn exhaustive_cases(report: &mut Report, o: &Options) {
                         door::compare_join(report, d, route, &p, &solution);
                         if route == Route::Standard {
                             added::compare_change_route(report, d, &p, &solution);
+                        } else {
+                            let [low, high] = random::limits(d, &p);
+                            added::compare_between(report, d, &p, &low, &high);
                         }
                     }
                 }

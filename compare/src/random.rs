@@ -289,6 +289,41 @@ pub fn nearly_same(d: &mut Draws, first: &mut Problem, second: &mut Problem) {
     }
 }
 
+/// Low and high limits around the values of b, now and then damaged: as a survey sheet gives them.
+pub fn limits(d: &mut Draws, p: &Problem) -> [Vec<f64>; 2] {
+    let spread_zeros = d.pick(&[0, 0, 5, 50]);
+    let [mut low, mut high] = [(); 2].map(|()| vec![]);
+    for &v in &p.b {
+        let v = if v.is_nan() && d.chance(95) { 2.0 } else { v };
+        let pair = match d.below(6) {
+            // zeros of either sign are one number
+            _ if v == 0.0 && !d.chance(spread_zeros) => (d.pick(&[0.0, -0.0]), d.pick(&[0.0, -0.0])),
+            0 => (v, v),
+            1 => (f64::NEG_INFINITY, v),
+            2 => (v, f64::INFINITY),
+            3 => (v, v.next_up()),
+            _ => (v - d.below(9) as f64 / 3.0, v + d.below(9) as f64 / 3.0),
+        };
+        low.push(pair.0);
+        high.push(pair.1);
+    }
+    if d.chance(10) && !low.is_empty() {
+        let at = d.below(low.len());
+        match d.below(5) {
+            0 => low[at] = f64::NAN,
+            1 => high[at] = f64::NAN,
+            2 => (low[at], high[at]) = (f64::NAN, f64::NAN),
+            3 => std::mem::swap(&mut low[at], &mut high[at]),
+            _ => low[at] = high[at].next_up(),
+        }
+    }
+    if d.chance(5) {
+        let side = if d.chance(50) { &mut low } else { &mut high };
+        resize(d, side, 0.0);
+    }
+    [low, high]
+}
+
 /// A solution of the lengths that the problem gives.
 pub fn solution(d: &mut Draws, shape: &(usize, usize, Vec<u32>)) -> Solution {
     Solution {

@@ -400,6 +400,26 @@ fn changed_route(name: &str, p: &Problem) {
     beside_line(name, "change of route", "its outputs copied (memcpy)", times);
 }
 
+// beside one cut
+fn limits(name: &str, p: &Problem) {
+    let Ok(lengths) = expected::sizes(Route::Compact, p, 11) else { return };
+    let high: Vec<f64> = p.b.iter().map(|&v| if v == 0.0 { v } else { v + 1.0 }).collect();
+    let [mut two, mut one] = [(); 2].map(|()| door::cut_outputs(&lengths));
+    let mut b_high = vec![0.0; lengths[7]];
+    let answers =
+        [added::cut_between(p, &p.b, &high, &mut two, &mut b_high), door::cut(Route::Compact.code(), p, &mut one)];
+    assert_eq!(answers, [0, 0], "the door refuses {name}");
+    let times = medians([
+        &mut || {
+            black_box(added::cut_between(p, &p.b, &high, &mut two, &mut b_high));
+        },
+        &mut || {
+            black_box(door::cut(Route::Compact.code(), p, &mut one));
+        },
+    ]);
+    beside_line(name, "cut between limits", "one compact cut", times);
+}
+
 fn requests() {
     println!("\n| input | call | door | beside | time | door / beside |");
     println!("|---|---|---|---|---|---|");
@@ -407,6 +427,7 @@ fn requests() {
         same_layout_tables(&name, &p);
         doubled_entries(&name, &p);
         changed_route(&name, &p);
+        limits(&name, &p);
     }
 }
 

@@ -7,6 +7,7 @@
 use crate::expected;
 use crate::problem::*;
 use crate::random::{self, Draws};
+use crate::sides;
 use std::fmt::Write as _;
 use std::{fs, io, path::Path};
 
@@ -190,14 +191,11 @@ fn sizes(d: &mut Draws, index: u64) -> Case {
     Case { words, values: problem_values(&p) }
 }
 
-fn cut(d: &mut Draws, index: u64) -> Case {
-    let (route, p) = (some_route(d), some_problem_on(d, index));
-    let needs = expected::sizes(route, &p, 11).unwrap_or([3; 11]);
-    let rooms = needs.map(|need| some_room(d, need));
-    let answer = expected::cut(route, &p, Some(&rooms));
+// a case of a call that takes these numbers and a problem and gives a cut
+fn cut_case(given: Vec<u32>, p: &Problem, rooms: &[usize; 11], answer: &Result<Cut, u32>) -> Case {
     let c = answer.as_ref().ok();
-    let mut words = vec![vec![route.code(), p.n, p.m, p.pattern_count], vec![number(&answer)]];
-    words.extend(problem_words(&p));
+    let mut words = vec![given, vec![number(answer)]];
+    words.extend(problem_words(p));
     words.extend([
         words_after(c.map(|c| &c.p.starts[..]), rooms[0]),
         words_after(c.map(|c| &c.p.rows[..]), rooms[1]),
@@ -206,7 +204,7 @@ fn cut(d: &mut Draws, index: u64) -> Case {
         words_after(c.map(|c| &c.cones[..]), rooms[8]),
         words_after(c.map(|c| &c.map[..]), rooms[10]),
     ]);
-    let mut values = problem_values(&p);
+    let mut values = problem_values(p);
     values.extend([
         values_after(c.map(|c| &c.p.values[..]), rooms[2]),
         values_after(c.map(|c| &c.q[..]), rooms[3]),
@@ -215,6 +213,29 @@ fn cut(d: &mut Draws, index: u64) -> Case {
         values_after(c.map(|c| &c.alphas[..]), rooms[9]),
     ]);
     Case { words, values }
+}
+
+fn cut(d: &mut Draws, index: u64) -> Case {
+    let (route, p) = (some_route(d), some_problem_on(d, index));
+    let needs = expected::sizes(route, &p, 11).unwrap_or([3; 11]);
+    let rooms = needs.map(|need| some_room(d, need));
+    let answer = expected::cut(route, &p, Some(&rooms));
+    cut_case(vec![route.code(), p.n, p.m, p.pattern_count], &p, &rooms, &answer)
+}
+
+// the low limits stand in b's place, the high ones and their output last
+fn cut_between(d: &mut Draws, index: u64) -> Case {
+    let p = some_problem_on(d, index);
+    let [low, high] = random::limits(d, &p);
+    let needs = sides::lengths_between(&p, &low, &high).unwrap_or([3; 11]);
+    let rooms = needs.map(|need| some_room(d, need));
+    let high_room = some_room(d, needs[7]);
+    let answer = sides::cut_between(&p, &low, &high, Some((&rooms, high_room)));
+    let high_after = values_after(answer.as_ref().ok().map(|(_, b_high)| &b_high[..]), high_room);
+    let answer = answer.map(|(cut, _)| cut);
+    let mut case = cut_case(vec![p.n, p.m, p.pattern_count], &sides::with_b(&p, &low), &rooms, &answer);
+    case.values.extend([high, high_after]);
+    case
 }
 
 fn join(d: &mut Draws, index: u64) -> Case {
@@ -258,13 +279,14 @@ fn join(d: &mut Draws, index: u64) -> Case {
 
 /// Writes a file of `cases` answers for each family into a folder.
 pub fn write(folder: &Path, cases: u64, seed: u64) -> io::Result<()> {
-    let families: [(&str, fn(&mut Draws, u64) -> Case); 6] = [
+    let families: [(&str, fn(&mut Draws, u64) -> Case); 7] = [
         ("renumber", renumber),
         ("check_problem", check_problem),
         ("same_layout", same_layout),
         ("sizes", sizes),
         ("cut", cut),
         ("join", join),
+        ("cut_between", cut_between),
     ];
     for (k, (name, family)) in families.iter().enumerate() {
         let made: Vec<Case> =

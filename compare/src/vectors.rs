@@ -10,6 +10,7 @@ use crate::expected;
 use crate::problem::*;
 use crate::random::Draws;
 use crate::report::*;
+use crate::sides;
 use std::collections::BTreeMap;
 use std::path::Path;
 
@@ -199,7 +200,8 @@ fn problem(j: &Json) -> Result<Problem, String> {
     })
 }
 
-fn stored_cut(j: &Json, ours: &Cut) -> Result<Cut, String> {
+// a stored cut, `b` naming its right side
+fn stored_cut(j: &Json, ours: &Cut, b: &str) -> Result<Cut, String> {
     let columns = |name: &str| -> Result<Columns, String> {
         Ok(Columns {
             starts: j.get(&format!("{name}_starts"))?.numbers()?,
@@ -211,7 +213,7 @@ fn stored_cut(j: &Json, ours: &Cut) -> Result<Cut, String> {
         p: columns("P")?,
         q: j.get("q")?.floats()?,
         a: columns("A")?,
-        b: j.get("b")?.floats()?,
+        b: j.get(b)?.floats()?,
         cones: j.get("cones")?.numbers()?,
         alphas: j.get("alpha")?.floats()?,
         map: j.get("cone_map")?.map(&ours.map)?,
@@ -298,7 +300,7 @@ impl Run<'_> {
         })?;
         let cut = expected::cut(route, p, None);
         self.answered(&format!("{r} cut"), p, &cut, stored.get("cut")?, |cut, stored| {
-            Ok(cut_difference(cut, &stored_cut(stored, cut)?).map(|w| format!("{w} differs")))
+            Ok(cut_difference(cut, &stored_cut(stored, cut, "b")?).map(|w| format!("{w} differs")))
         })?;
         against::compare(self.report, route, p, None, 0);
         if door::LINKED {
@@ -404,16 +406,35 @@ fn changes(run: &mut Run, case: &Json) -> Result<(), String> {
     Ok(())
 }
 
+// a problem, low and high limits, and the cut with both
+fn limits(run: &mut Run, case: &Json) -> Result<(), String> {
+    let p = problem(case.get("problem")?)?;
+    let (low, high) = (case.get("low")?.floats()?, case.get("high")?.floats()?);
+    let cut = sides::cut_between(&p, &low, &high, None);
+    run.answered("cut between", &p, &cut, case.get("answer")?, |(cut, b_high), stored| {
+        let wrong = cut_difference(cut, &stored_cut(stored, cut, "b_low")?);
+        let high_wrong = !all_bits(b_high, &stored.get("b_high")?.floats()?);
+        Ok(wrong.or(high_wrong.then_some("b_high")).map(|w| format!("{w} differs")))
+    })?;
+    if door::LINKED {
+        for _ in 0..TIMES {
+            added::compare_between(run.report, run.draws, &p, &low, &high);
+        }
+    }
+    Ok(())
+}
+
 // what reads and compares a case of a file
 type Form = fn(&mut Run, &Json) -> Result<(), String>;
 
-const FORMS: [(&str, Form); 6] = [
+const FORMS: [(&str, Form); 7] = [
     ("cases", base),
     ("q-7", |run, case| cuts(run, case, 3)),
     ("q-10", same_layout),
     ("q-3", |run, case| cuts(run, case, MAP_WORDS)),
     ("q-4", |run, case| cuts(run, case, MAP_WORDS)),
     ("q-12", changes),
+    ("q-8", limits),
 ];
 
 /// Compares each case of the file, whose name without its ending is one of `FORMS`.

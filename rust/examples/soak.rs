@@ -22,17 +22,33 @@ mod problem;
 #[allow(dead_code)]
 #[path = "../../compare/src/random.rs"]
 mod random;
+#[allow(dead_code)]
+#[path = "../../compare/src/sides.rs"]
+mod sides;
 
 use lend::{joining, number, tables};
 use problem::{Columns, Problem, Route, Solution};
 use random::Draws;
 use std::io::Write;
 use std::time::Instant;
-use tejiwakpa::flat::{self, CutOutputs, JoinOutputs};
+use tejiwakpa::flat::{self, BetweenOutputs, CutOutputs, JoinOutputs};
 
-const CALLS: [&str; 9] =
-    ["pair index", "pair back", "inverse", "renumbering", "sizes", "cut", "joining", "same layout", "change of route"];
+const CALLS: [&str; 10] = [
+    "pair index",
+    "pair back",
+    "inverse",
+    "renumbering",
+    "sizes",
+    "cut",
+    "joining",
+    "same layout",
+    "change of route",
+    "cut between",
+];
 const ROUTES: [Route; 2] = [Route::Standard, Route::Compact];
+
+// refusals are below this
+const NUMBERS: usize = 17;
 
 // how many inputs are damaged from one right one
 const FROM_ONE: u64 = 16;
@@ -182,7 +198,7 @@ impl Right {
 struct Soak {
     exact: bool,
     // counts by call and number
-    counts: [[u64; 13]; CALLS.len()],
+    counts: [[u64; NUMBERS]; CALLS.len()],
     failures: u64,
     // the damaged input
     problem: Problem,
@@ -191,7 +207,7 @@ struct Soak {
     words: Vec<u32>,
     // the outputs of u32 and of f64
     u: [Room<u32>; 6],
-    f: [Room<f64>; 5],
+    f: [Room<f64>; 6],
 }
 
 // how many places are damaged
@@ -218,9 +234,40 @@ fn room(d: &mut Draws, needed: usize, short: bool) -> usize {
     }
 }
 
+// the outputs of a cut, and of the high limits
+fn cut_rooms<'a>(
+    u: &'a mut [Room<u32>; 6],
+    f: &'a mut [Room<f64>; 6],
+    lengths: &[usize; 11],
+    high: usize,
+    exact: bool,
+) -> (CutOutputs<'a>, &'a mut [f64]) {
+    let [u0, u1, u2, u3, u4, u5] = u;
+    let [f0, f1, f2, f3, f4, f5] = f;
+    let out = CutOutputs {
+        p_starts: u0.lend(lengths[0], exact),
+        p_rows: u1.lend(lengths[1], exact),
+        p_values: f0.lend(lengths[2], exact),
+        q: f1.lend(lengths[3], exact),
+        a_starts: u2.lend(lengths[4], exact),
+        a_rows: u3.lend(lengths[5], exact),
+        a_values: f2.lend(lengths[6], exact),
+        b: f3.lend(lengths[7], exact),
+        cones: u4.lend(lengths[8], exact),
+        alphas: f4.lend(lengths[9], exact),
+        map: u5.lend(lengths[10], exact),
+    };
+    (out, f5.lend(high, exact))
+}
+
+// the lengths of the results in those outputs
+fn cut_results(needed: &[usize; 11]) -> ([usize; 6], [usize; 6]) {
+    ([0, 1, 4, 5, 8, 10].map(|k| needed[k]), [2, 3, 6, 7, 9, 7].map(|k| needed[k]))
+}
+
 // the four outputs of a solution
-fn join_rooms<'a>(f: &'a mut [Room<f64>; 5], lengths: &[usize; 4], exact: bool) -> JoinOutputs<'a> {
-    let [x, s, z, scalars, _] = f;
+fn join_rooms<'a>(f: &'a mut [Room<f64>; 6], lengths: &[usize; 4], exact: bool) -> JoinOutputs<'a> {
+    let [x, s, z, scalars, ..] = f;
     JoinOutputs {
         x: x.lend(lengths[0], exact),
         s: s.lend(lengths[1], exact),
@@ -344,22 +391,7 @@ impl Soak {
         let short = self.damage(d, right, 11);
         let mut lengths = right.rooms[route.code() as usize];
         lengths.iter_mut().enumerate().for_each(|(k, length)| *length = room(d, *length, k == short));
-        let exact = self.exact;
-        let [u0, u1, u2, u3, u4, u5] = &mut self.u;
-        let [f0, f1, f2, f3, f4] = &mut self.f;
-        let mut out = CutOutputs {
-            p_starts: u0.lend(lengths[0], exact),
-            p_rows: u1.lend(lengths[1], exact),
-            p_values: f0.lend(lengths[2], exact),
-            q: f1.lend(lengths[3], exact),
-            a_starts: u2.lend(lengths[4], exact),
-            a_rows: u3.lend(lengths[5], exact),
-            a_values: f2.lend(lengths[6], exact),
-            b: f3.lend(lengths[7], exact),
-            cones: u4.lend(lengths[8], exact),
-            alphas: f4.lend(lengths[9], exact),
-            map: u5.lend(lengths[10], exact),
-        };
+        let (mut out, _) = cut_rooms(&mut self.u, &mut self.f, &lengths, 0, self.exact);
         let got = number(flat::cut(code, &tables(&self.problem), &mut out));
         let sizes = expected::sizes(route, &self.problem, 11);
         let want = match &sizes {
@@ -368,9 +400,8 @@ impl Soak {
             Ok(needed) if lengths.iter().zip(needed).any(|(length, needed)| length < needed) => 11,
             Ok(_) => 0,
         };
-        let needed = sizes.unwrap_or_default();
-        let results = ([0, 1, 4, 5, 8, 10].map(|k| needed[k]), [2, 3, 6, 7, 9].map(|k| needed[k]));
-        self.judge(5, input, got, want, (&results.0, &results.1));
+        let (u, f) = cut_results(&sizes.unwrap_or_default());
+        self.judge(5, input, got, want, (&u, &f[..5]));
     }
 
     // what a joining takes, damaged, and the output that is short, if one is
@@ -423,6 +454,30 @@ impl Soak {
         self.judge(8, input, got, want, (&[], &needed));
     }
 
+    fn cut_between(&mut self, d: &mut Draws, input: u64, right: &Right) {
+        let short = self.damage(d, right, 11);
+        let [mut low, mut high] = random::limits(d, &self.problem);
+        if self.exact {
+            low.shrink_to_fit();
+            high.shrink_to_fit();
+        }
+        let mut lengths = right.rooms[1];
+        let short_high = d.chance(3);
+        let high_room = room(d, lengths[7], short_high);
+        lengths.iter_mut().enumerate().for_each(|(k, length)| *length = room(d, *length, k == short));
+        let (o, b_high) = cut_rooms(&mut self.u, &mut self.f, &lengths, high_room, self.exact);
+        let mut out = BetweenOutputs::of(o, b_high);
+        let got = number(flat::cut_between(&tables(&self.problem), &low, &high, &mut out));
+        let sizes = sides::lengths_between(&self.problem, &low, &high);
+        let want = match &sizes {
+            Err(number) => *number,
+            Ok(needed) if high_room < needed[7] || lengths.iter().zip(needed).any(|(length, n)| length < n) => 11,
+            Ok(_) => 0,
+        };
+        let (u, f) = cut_results(&sizes.unwrap_or_default());
+        self.judge(9, input, got, want, (&u, &f));
+    }
+
     fn same_layout(&mut self, d: &mut Draws, input: u64, right: &Right) {
         let short = self.damage(d, right, 1) == 0;
         copy(&mut self.second, if d.chance(20) { &self.problem } else { &right.problem });
@@ -440,7 +495,7 @@ impl Soak {
     }
 
     fn one(&mut self, d: &mut Draws, input: u64, right: &Right) {
-        match d.below(36) {
+        match d.below(40) {
             0 => self.pair_index(d, input),
             1 => self.pair_back(d, input),
             2..=3 => self.inverse(d, input, right),
@@ -449,7 +504,8 @@ impl Soak {
             13..=20 => self.cut(d, input, right),
             21..=28 => self.join(d, input, right),
             29..=31 => self.same_layout(d, input, right),
-            _ => self.change_route(d, input, right),
+            32..=35 => self.change_route(d, input, right),
+            _ => self.cut_between(d, input, right),
         }
     }
 }

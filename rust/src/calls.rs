@@ -81,7 +81,7 @@ pub fn renumber(pattern: &Pattern) -> Result<Pattern, Refusal> {
 /// assert_eq!((sizes.b, sizes.q), (12, 7));
 /// # Ok::<(), tejiwakpa::Refusal>(())
 /// ```
-#[derive(Clone, Copy, Debug, PartialEq, Eq)]
+#[derive(Clone, Copy, Debug, Default, PartialEq, Eq)]
 pub struct Sizes {
     /// P's column starts.
     pub p_starts: usize,
@@ -107,7 +107,7 @@ pub struct Sizes {
     pub map: usize,
 }
 
-fn sizes_of(route: Route, tables: &flat::Tables) -> Result<Sizes, Refusal> {
+pub(crate) fn sizes_of(route: Route, tables: &flat::Tables) -> Result<Sizes, Refusal> {
     let mut out = [0; 11];
     flat::sizes(route.number(), tables, &mut out)?;
     let [p_starts, p_rows, p_values, q, a_starts, a_rows, a_values, b, cones, alphas, map] = out.map(|x| x as usize);
@@ -127,6 +127,57 @@ fn sizes_of(route: Route, tables: &flat::Tables) -> Result<Sizes, Refusal> {
 /// ```
 pub fn sizes(route: Route, problem: &Problem) -> Result<Sizes, Refusal> {
     sizes_of(route, &problem.tables(&problem.words()))
+}
+
+/// The outputs of a cut.
+pub(crate) struct Buffers {
+    pub(crate) p: Columns,
+    pub(crate) q: Vec<f64>,
+    pub(crate) a: Columns,
+    pub(crate) b: Vec<f64>,
+    pub(crate) cones: Vec<u32>,
+    pub(crate) alphas: Vec<f64>,
+    pub(crate) map: Vec<u32>,
+}
+
+impl Buffers {
+    pub(crate) fn new(sizes: &Sizes) -> Buffers {
+        let columns =
+            |starts, rows, values| Columns { starts: vec![0; starts], rows: vec![0; rows], values: vec![0.0; values] };
+        Buffers {
+            p: columns(sizes.p_starts, sizes.p_rows, sizes.p_values),
+            q: vec![0.0; sizes.q],
+            a: columns(sizes.a_starts, sizes.a_rows, sizes.a_values),
+            b: vec![0.0; sizes.b],
+            cones: vec![0; sizes.cones],
+            alphas: vec![0.0; sizes.alphas],
+            map: vec![0; sizes.map],
+        }
+    }
+
+    pub(crate) fn outputs(&mut self) -> flat::CutOutputs<'_> {
+        flat::CutOutputs {
+            p_starts: &mut self.p.starts,
+            p_rows: &mut self.p.rows,
+            p_values: &mut self.p.values,
+            q: &mut self.q,
+            a_starts: &mut self.a.starts,
+            a_rows: &mut self.a.rows,
+            a_values: &mut self.a.values,
+            b: &mut self.b,
+            cones: &mut self.cones,
+            alphas: &mut self.alphas,
+            map: &mut self.map,
+        }
+    }
+
+    /// The augmented problem, of outputs that a call has written.
+    pub(crate) fn augmented(self) -> Augmented {
+        let cones = cone::read(&self.cones, &self.alphas);
+        let (n, m) = (count(self.q.len()), count(self.b.len()));
+        let problem = Problem { n, m, p: self.p, q: self.q, a: self.a, b: self.b, cones, patterns: vec![] };
+        Augmented { problem, map: map_entries(&self.map) }
+    }
 }
 
 /// Cuts the PSD cones that have a pattern into their cliques: the augmented problem, and where its cones come from.
@@ -152,33 +203,9 @@ pub fn sizes(route: Route, problem: &Problem) -> Result<Sizes, Refusal> {
 pub fn cut(route: Route, problem: &Problem) -> Result<Augmented, Refusal> {
     let words = problem.words();
     let tables = problem.tables(&words);
-    let sizes = sizes_of(route, &tables)?;
-    let columns =
-        |starts, rows, values| Columns { starts: vec![0; starts], rows: vec![0; rows], values: vec![0.0; values] };
-    let mut p = columns(sizes.p_starts, sizes.p_rows, sizes.p_values);
-    let mut q = vec![0.0; sizes.q];
-    let mut a = columns(sizes.a_starts, sizes.a_rows, sizes.a_values);
-    let mut b = vec![0.0; sizes.b];
-    let mut records = vec![0; sizes.cones];
-    let mut alphas = vec![0.0; sizes.alphas];
-    let mut map = vec![0; sizes.map];
-    let mut out = flat::CutOutputs {
-        p_starts: &mut p.starts,
-        p_rows: &mut p.rows,
-        p_values: &mut p.values,
-        q: &mut q,
-        a_starts: &mut a.starts,
-        a_rows: &mut a.rows,
-        a_values: &mut a.values,
-        b: &mut b,
-        cones: &mut records,
-        alphas: &mut alphas,
-        map: &mut map,
-    };
-    flat::cut(route.number(), &tables, &mut out)?;
-    let cones = cone::read(&records, &alphas);
-    let (n, m) = (count(q.len()), count(b.len()));
-    Ok(Augmented { problem: Problem { n, m, p, q, a, b, cones, patterns: vec![] }, map: map_entries(&map) })
+    let mut made = Buffers::new(&sizes_of(route, &tables)?);
+    flat::cut(route.number(), &tables, &mut made.outputs())?;
+    Ok(made.augmented())
 }
 
 /// Joins a solution of the augmented problem to one of the original problem, of which only n, m, the cones and the

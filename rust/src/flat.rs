@@ -111,6 +111,71 @@ pub struct CutOutputs<'a> {
     pub map: &'a mut [u32],
 }
 
+/// The outputs of the cut between limits: those of the cut, with two right hand sides.
+///
+/// ```
+/// use tejiwakpa::flat::BetweenOutputs;
+///
+/// let (mut b_low, mut b_high) = ([0.0; 6], [0.0; 6]);
+/// let outputs = BetweenOutputs { b_low: &mut b_low, b_high: &mut b_high, ..BetweenOutputs::default() };
+/// assert_eq!(outputs.b_low.len(), outputs.b_high.len());
+/// ```
+#[derive(Debug, Default)]
+pub struct BetweenOutputs<'a> {
+    /// P's column starts.
+    pub p_starts: &'a mut [u32],
+    /// P's rows.
+    pub p_rows: &'a mut [u32],
+    /// P's values.
+    pub p_values: &'a mut [f64],
+    /// The linear cost.
+    pub q: &'a mut [f64],
+    /// A's column starts.
+    pub a_starts: &'a mut [u32],
+    /// A's rows.
+    pub a_rows: &'a mut [u32],
+    /// A's values.
+    pub a_values: &'a mut [f64],
+    /// The low limits of the right hand side.
+    pub b_low: &'a mut [f64],
+    /// The high limits of the right hand side.
+    pub b_high: &'a mut [f64],
+    /// The cones' records.
+    pub cones: &'a mut [u32],
+    /// The exponents of the power cones.
+    pub alphas: &'a mut [f64],
+    /// The cone map, five words an entry.
+    pub map: &'a mut [u32],
+}
+
+impl<'a> BetweenOutputs<'a> {
+    /// The outputs of a cut, whose b takes the low limits, and another for the high ones.
+    ///
+    /// ```
+    /// use tejiwakpa::flat::{BetweenOutputs, CutOutputs};
+    ///
+    /// let (mut b, mut b_high) = ([1.0; 6], [2.0; 6]);
+    /// let outputs = BetweenOutputs::of(CutOutputs { b: &mut b, ..CutOutputs::default() }, &mut b_high);
+    /// assert_eq!((outputs.b_low[0], outputs.b_high[0]), (1.0, 2.0));
+    /// ```
+    pub fn of(cut: CutOutputs<'a>, b_high: &'a mut [f64]) -> BetweenOutputs<'a> {
+        BetweenOutputs {
+            p_starts: cut.p_starts,
+            p_rows: cut.p_rows,
+            p_values: cut.p_values,
+            q: cut.q,
+            a_starts: cut.a_starts,
+            a_rows: cut.a_rows,
+            a_values: cut.a_values,
+            b_low: cut.b,
+            b_high,
+            cones: cut.cones,
+            alphas: cut.alphas,
+            map: cut.map,
+        }
+    }
+}
+
 /// What a joining reads: the original problem's sizes, cones and patterns, the augmented problem's solution and, on the
 /// compact route, the cone map.
 ///
@@ -309,6 +374,61 @@ pub fn cut(route: u32, problem: &Tables, out: &mut CutOutputs) -> Result<(), Ref
     })
 }
 
+/// The augmented problem on the compact route, for a b that lies between two lists; the problem's own b is not read. Both
+/// lists' outputs are as long as the cut's b.
+///
+/// ```
+/// use tejiwakpa::flat::{cut_between, BetweenOutputs};
+/// use tejiwakpa::{Problem, Refusal};
+///
+/// let problem = Problem::three_projectors();
+/// let (mut p_starts, mut q, mut a_starts) = ([0; 3], [0.0; 2], [0; 3]);
+/// let (mut a_rows, mut a_values, mut b_low, mut b_high) = ([0; 7], [0.0; 7], [9.0; 6], [9.0; 6]);
+/// let (mut cones, mut map) = ([0; 6], [0; 10]);
+/// let mut out = BetweenOutputs {
+///     p_starts: &mut p_starts,
+///     q: &mut q,
+///     a_starts: &mut a_starts,
+///     a_rows: &mut a_rows,
+///     a_values: &mut a_values,
+///     b_low: &mut b_low,
+///     b_high: &mut b_high,
+///     cones: &mut cones,
+///     map: &mut map,
+///     ..BetweenOutputs::default()
+/// };
+/// let (words, low, high) = (problem.words(), [1.0, 2.0, 3.0, 0.0, 4.0, 5.0], [2.0, 3.0, 4.0, -0.0, 5.0, 6.0]);
+/// assert_eq!(cut_between(&problem.tables(&words), &high, &low, &mut out), Err(Refusal::Limits));
+/// assert_eq!(out.b_low, [9.0; 6]);
+/// cut_between(&problem.tables(&words), &low, &high, &mut out)?;
+/// assert_eq!(b_low, [3.0, 4.0, 5.0, 1.0, 2.0, 0.0]);
+/// assert_eq!(b_high, [4.0, 5.0, 6.0, 2.0, 3.0, 0.0]);
+/// # Ok::<(), Refusal>(())
+/// ```
+#[rustfmt::skip]
+pub fn cut_between(problem: &Tables, low: &[f64], high: &[f64], out: &mut BetweenOutputs) -> Result<(), Refusal> {
+    let (p, o) = (problem, out);
+    // SAFETY: as above.
+    answer(unsafe {
+        c::chordal_cut_between(
+            p.n, p.m,
+            p.p_starts.as_ptr(), p.p_starts.len(), p.p_rows.as_ptr(), p.p_rows.len(),
+            p.p_values.as_ptr(), p.p_values.len(), p.q.as_ptr(), p.q.len(),
+            p.a_starts.as_ptr(), p.a_starts.len(), p.a_rows.as_ptr(), p.a_rows.len(),
+            p.a_values.as_ptr(), p.a_values.len(), low.as_ptr(), low.len(), high.as_ptr(), high.len(),
+            p.cones.as_ptr(), p.cones.len(), p.alphas.as_ptr(), p.alphas.len(),
+            p.pattern_count, p.pattern_words.as_ptr(), p.pattern_words.len(),
+            o.p_starts.as_mut_ptr(), o.p_starts.len(), o.p_rows.as_mut_ptr(), o.p_rows.len(),
+            o.p_values.as_mut_ptr(), o.p_values.len(), o.q.as_mut_ptr(), o.q.len(),
+            o.a_starts.as_mut_ptr(), o.a_starts.len(), o.a_rows.as_mut_ptr(), o.a_rows.len(),
+            o.a_values.as_mut_ptr(), o.a_values.len(),
+            o.b_low.as_mut_ptr(), o.b_low.len(), o.b_high.as_mut_ptr(), o.b_high.len(),
+            o.cones.as_mut_ptr(), o.cones.len(), o.alphas.as_mut_ptr(), o.alphas.len(),
+            o.map.as_mut_ptr(), o.map.len(),
+        )
+    })
+}
+
 /// The original problem's solution.
 ///
 /// ```
@@ -491,6 +611,22 @@ mod c {
             tau: f64, kappa: f64,
             x_out: *mut f64, x_out_len: usize, s_out: *mut f64, s_out_len: usize, z_out: *mut f64, z_out_len: usize,
             scalars_out: *mut f64, scalars_out_len: usize,
+        ) -> u32;
+        pub fn chordal_cut_between(
+            n: u32, m: u32,
+            p_starts: *const u32, p_starts_len: usize, p_rows: *const u32, p_rows_len: usize,
+            p_values: *const f64, p_values_len: usize, q: *const f64, q_len: usize,
+            a_starts: *const u32, a_starts_len: usize, a_rows: *const u32, a_rows_len: usize,
+            a_values: *const f64, a_values_len: usize, low: *const f64, low_len: usize, high: *const f64, high_len: usize,
+            cones: *const u32, cones_len: usize, alphas: *const f64, alphas_len: usize,
+            pattern_count: u32, pattern_words: *const u32, pattern_words_len: usize,
+            p_starts_out: *mut u32, p_starts_out_len: usize, p_rows_out: *mut u32, p_rows_out_len: usize,
+            p_values_out: *mut f64, p_values_out_len: usize, q_out: *mut f64, q_out_len: usize,
+            a_starts_out: *mut u32, a_starts_out_len: usize, a_rows_out: *mut u32, a_rows_out_len: usize,
+            a_values_out: *mut f64, a_values_out_len: usize,
+            b_low_out: *mut f64, b_low_out_len: usize, b_high_out: *mut f64, b_high_out_len: usize,
+            cones_out: *mut u32, cones_out_len: usize, alphas_out: *mut f64, alphas_out_len: usize,
+            map_out: *mut u32, map_out_len: usize,
         ) -> u32;
         pub fn chordal_same_layout(
             n: u32, m: u32,

@@ -11,6 +11,7 @@
 //! | [`sizes`] | how large the augmented problem is |
 //! | [`cut`] | the augmented problem on a [`Route`] |
 //! | [`join`] | the original problem's solution from the augmented one's |
+//! | [`cut_between`] | the compact cut where b is known only within [`Limits`] |
 //! | [`change_route`] | a compact solution from a standard one |
 //! | [`same_layout`] | whether what was worked out from one problem's places serves another |
 //!
@@ -62,6 +63,7 @@ pub mod flat;
 mod pattern;
 mod problem;
 mod refusal;
+mod sides;
 mod solution;
 
 pub use calls::{cut, inverse, join, pair_back, pair_index, renumber, same_layout, sizes, Sizes};
@@ -70,6 +72,7 @@ pub use cone::Cone;
 pub use pattern::{Clique, Pattern};
 pub use problem::{Columns, Problem, Route, Words};
 pub use refusal::Refusal;
+pub use sides::{cut_between, Limits};
 pub use solution::{Augmented, ConeMapEntry, Solution};
 
 // A length as a u32. One that is too long becomes the largest, which is beyond every bound.

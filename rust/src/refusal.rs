@@ -1,6 +1,7 @@
 use std::fmt;
 
-/// Why a call is refused: the first check that fails, in the order of the numbers. A refused call has written nothing.
+/// Why a call is refused: the first check that fails, in the order of the numbers save where one says otherwise. A refused
+/// call has written nothing.
 ///
 /// ```
 /// use tejiwakpa::{pair_index, Refusal};
@@ -44,6 +45,8 @@ pub enum Refusal {
     Short = 11,
     /// 12: the lengths of a solution, or the cone map, are not those that the problem gives.
     Solution = 12,
+    /// 16: a low limit is above its high one, or one of them is a NaN. This check comes after 4.
+    Limits = 16,
 }
 
 impl Refusal {
@@ -52,11 +55,9 @@ impl Refusal {
     /// ```
     /// use tejiwakpa::Refusal;
     ///
-    /// for (place, refusal) in Refusal::ALL.iter().enumerate() {
-    ///     assert_eq!(refusal.number() as usize, place + 1);
-    /// }
+    /// assert!(Refusal::ALL.windows(2).all(|two| two[0].number() < two[1].number()));
     /// ```
-    pub const ALL: [Refusal; 12] = [
+    pub const ALL: [Refusal; 13] = [
         Refusal::Bound,
         Refusal::Starts,
         Refusal::Rows,
@@ -69,9 +70,10 @@ impl Refusal {
         Refusal::TooLarge,
         Refusal::Short,
         Refusal::Solution,
+        Refusal::Limits,
     ];
 
-    /// The number of the check, 1 to 12.
+    /// The number of the check.
     ///
     /// ```
     /// assert_eq!(tejiwakpa::Refusal::Uncovered.number(), 9);
@@ -89,8 +91,7 @@ impl Refusal {
     /// assert_eq!(Refusal::from_number(0), None);
     /// ```
     pub fn from_number(number: u32) -> Option<Refusal> {
-        let place = number.checked_sub(1)? as usize;
-        Refusal::ALL.get(place).copied()
+        Refusal::ALL.into_iter().find(|refusal| refusal.number() == number)
     }
 
     /// What the check found, in a few words.
@@ -114,6 +115,7 @@ impl Refusal {
             Refusal::TooLarge => "there are too many augmented rows or overlaps",
             Refusal::Short => "an output is too short",
             Refusal::Solution => "the solution's lengths or the cone map are not those of this problem",
+            Refusal::Limits => "a low limit is above its high one, or one of them is a NaN",
         }
     }
 }

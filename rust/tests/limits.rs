@@ -1,7 +1,7 @@
 //! Threads with 2 MB of stack, each calling at the limits at the same time as the others.
 //!
-//! Every problem is cut and joined on both routes by every thread, and what comes out is held to document 01's plain
-//! reading (compare/src/expected.rs).
+//! Every problem is cut and joined on both routes, and cut with its b as both limits, by every thread; what comes out is
+//! held to document 01's plain reading (compare/src/expected.rs).
 
 #[allow(dead_code)]
 #[path = "../../compare/src/expected.rs"]
@@ -19,7 +19,7 @@ use lend::{cut_outputs, join_outputs, joining, number, tables};
 use problem::{all_bits, all_same, Columns, Cut, Joined, Problem, Route, Solution, NONE};
 use random::{band_pattern, Draws};
 use std::sync::{Arc, Barrier};
-use tejiwakpa::flat;
+use tejiwakpa::flat::{self, BetweenOutputs};
 
 const THREADS: usize = 4;
 
@@ -114,20 +114,23 @@ impl Case {
     fn check(&self) {
         self.check_cut();
         self.check_join();
+        if self.route == Route::Compact {
+            self.check_between();
+        }
         let tables = tables(&self.problem);
         let answer = number(flat::same_layout(&tables, &tables, &mut [0]));
         let want = expected::first_seven(&self.problem).err().unwrap_or(0);
         assert_eq!(answer, want, "{}: same layout", self.name);
     }
 
-    fn check_cut(&self) {
-        let tables = tables(&self.problem);
+    // room for the cut, as long as the sizes call says
+    fn cut_room(&self) -> Cut {
         let mut sizes = [0; 11];
-        let answer = number(flat::sizes(self.route.code(), &tables, &mut sizes));
+        let answer = number(flat::sizes(self.route.code(), &tables(&self.problem), &mut sizes));
         assert_eq!(answer, refusal(&self.cut), "{}: sizes", self.name);
         let words = |k: usize| vec![0; sizes[k] as usize];
         let values = |k: usize| vec![0.0; sizes[k] as usize];
-        let mut got = Cut {
+        Cut {
             p: Columns { starts: words(0), rows: words(1), values: values(2) },
             q: values(3),
             a: Columns { starts: words(4), rows: words(5), values: values(6) },
@@ -136,17 +139,35 @@ impl Case {
             alphas: values(9),
             map: words(10),
             ..Cut::default()
-        };
-        let answer = number(flat::cut(self.route.code(), &tables, &mut cut_outputs(&mut got)));
-        assert_eq!(answer, refusal(&self.cut), "{}: cut", self.name);
+        }
+    }
+
+    // whether a call's answer and tables are those of the cut
+    fn check_tables(&self, call: &str, answer: u32, got: &Cut) {
+        assert_eq!(answer, refusal(&self.cut), "{}: {call}", self.name);
         if let Ok(want) = &self.cut {
             let words = |c: &Cut| [&c.p.starts, &c.p.rows, &c.a.starts, &c.a.rows, &c.cones, &c.map].map(Vec::clone);
-            assert!(words(&got) == words(want), "{}: the cut's tables", self.name);
+            assert!(words(got) == words(want), "{}: the tables of the {call}", self.name);
             // no problem here has a NaN, so sums too are compared bit by bit
             let values = |c: &Cut| [&c.p.values, &c.q, &c.a.values, &c.b, &c.alphas].map(Vec::clone);
-            let same = values(&got).iter().zip(&values(want)).all(|(got, want)| all_bits(got, want));
-            assert!(same, "{}: the cut's values", self.name);
+            let same = values(got).iter().zip(&values(want)).all(|(got, want)| all_bits(got, want));
+            assert!(same, "{}: the values of the {call}", self.name);
         }
+    }
+
+    fn check_cut(&self) {
+        let mut got = self.cut_room();
+        let answer = number(flat::cut(self.route.code(), &tables(&self.problem), &mut cut_outputs(&mut got)));
+        self.check_tables("cut", answer, &got);
+    }
+
+    fn check_between(&self) {
+        let (mut got, b) = (self.cut_room(), &self.problem.b);
+        let mut b_high = got.b.clone();
+        let mut out = BetweenOutputs::of(cut_outputs(&mut got), &mut b_high);
+        let answer = number(flat::cut_between(&tables(&self.problem), b, b, &mut out));
+        self.check_tables("cut between limits", answer, &got);
+        assert!(all_bits(&b_high, &got.b), "{}: the high limits", self.name);
     }
 
     fn check_join(&self) {

@@ -6,7 +6,7 @@
 //! list is what the whole of its room holds after the call.
 
 use std::path::Path;
-use tejiwakpa::flat::{self, CutOutputs, JoinOutputs, Joining, Tables};
+use tejiwakpa::flat::{self, BetweenOutputs, CutOutputs, JoinOutputs, Joining, Tables};
 use tejiwakpa::Refusal;
 
 struct Case {
@@ -79,8 +79,8 @@ impl Case {
         self.words[answer] == [number(call(&mut out))] && out == self.words[output]
     }
 
-    fn cut(&self) -> bool {
-        let given = &self.words[0];
+    // whether a call gives this answer and leaves what is stored in a cut's outputs
+    fn agrees_with_cut(&self, answer: &[u32], call: impl FnOnce(&mut CutOutputs) -> Result<(), Refusal>) -> bool {
         let [mut p_starts, mut p_rows, mut a_starts, mut a_rows, mut cones, mut map] =
             [8, 9, 10, 11, 12, 13].map(|k| words(&self.words[k]));
         let [mut p_values, mut q, mut a_values, mut b, mut alphas] = [5, 6, 7, 8, 9].map(|k| values(&self.values[k]));
@@ -97,10 +97,20 @@ impl Case {
             alphas: &mut alphas,
             map: &mut map,
         };
-        let answer = flat::cut(given[0], &self.tables(given[1], given[2], given[3], 2, 0), &mut out);
-        self.words[1] == [number(answer)]
+        answer == [number(call(&mut out))]
             && [p_starts, p_rows, a_starts, a_rows, cones, map] == self.words[8..14]
             && [p_values, q, a_values, b, alphas].iter().zip(&self.values[5..10]).all(|(got, want)| same(got, want))
+    }
+
+    // the low limits stand in b's place, the high ones and their output last
+    fn cut_between(&self) -> bool {
+        let (given, mut b_high) = (&self.words[0], values(&self.values[11]));
+        let tables = self.tables(given[0], given[1], given[2], 2, 0);
+        let agrees = self.agrees_with_cut(&self.words[1], |out| {
+            let mut out = BetweenOutputs::of(std::mem::take(out), &mut b_high);
+            flat::cut_between(&tables, tables.b, &self.values[10], &mut out)
+        });
+        agrees && same(&b_high, &self.values[11])
     }
 
     fn join(&self) -> bool {
@@ -128,6 +138,7 @@ impl Case {
 
 fn agrees(family: &str, case: &Case) -> bool {
     let given = &case.words[0];
+    let on_route = || case.tables(given[1], given[2], given[3], 2, 0);
     match family {
         "pair_index" => case.agrees(1, 2, |out| flat::pair_index(given[0], given[1], out)),
         "pair_back" => case.agrees(1, 2, |out| flat::pair_back(given[0], out)),
@@ -143,11 +154,10 @@ fn agrees(family: &str, case: &Case) -> bool {
             let second = case.tables(given[3], given[4], given[5], 8, 5);
             flat::same_layout(&first, &second, out)
         }),
-        "sizes" => {
-            case.agrees(1, 8, |out| flat::sizes(given[0], &case.tables(given[1], given[2], given[3], 2, 0), out))
-        }
-        "cut" => case.cut(),
+        "sizes" => case.agrees(1, 8, |out| flat::sizes(given[0], &on_route(), out)),
+        "cut" => case.agrees_with_cut(&case.words[1], |out| flat::cut(given[0], &on_route(), out)),
         "join" => case.join(),
+        "cut_between" => case.cut_between(),
         _ => panic!("no call is known for the stored answers of {family}"),
     }
 }
@@ -166,5 +176,5 @@ fn stored_answers() {
         println!("{family}: {} cases, all equal", cases.len());
         families += 1;
     }
-    assert_eq!(families, 9, "a family of stored answers for each call and for checks 1 to 7");
+    assert_eq!(families, 10, "a family of stored answers for each call and for checks 1 to 7");
 }

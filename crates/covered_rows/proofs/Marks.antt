@@ -71,7 +71,7 @@ cleared-at n os r h =
     marked-at os (replicate n false) r (omega (arith, length-replicate {A = Bool} n false))
     ∙ ap (λ (b : Bool). b || has r os) (getD-replicate n r false false h)
 
-all-same : (p q : ℕ → Bool) (xs : List ℕ) → ((x : ℕ) → T (has x xs) → p x ≡ q x) → all p xs ≡ all q xs
+pub all-same : (p q : ℕ → Bool) (xs : List ℕ) → ((x : ℕ) → T (has x xs) → p x ≡ q x) → all p xs ≡ all q xs
 all-same p q [] h = refl
 all-same p q (x ∷ xs) h =
     rw (h x (has-cons x x xs .1 (inl refl)), all-same p q xs (λ y k. h y (has-cons y x xs .1 (inr k))))

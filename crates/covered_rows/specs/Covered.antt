@@ -1,11 +1,11 @@
 -- Check 9 over a table by original row: a mark for each row that stands on an augmented row.
-use Prim.Native.Nat.{ℕ, _+_, _≤_}
+use Prim.Native.Nat.{ℕ, _+_, _-_, _*_, _≤_}
 use mathlib.Core.Bool.{Bool, true, false, _&&_, _||_}
 use mathlib.Core.Path.{_≡_}
 use mathlib.Core.List.{List, map}
 use lib.ListN.{length, getD}
 use lib.Ieee.{Float, nan, eq}
-use Rattle.layout.specs.Lists.{has, all, below}
+use Rattle.layout.specs.Lists.{has, all, below, upFrom, part}
 use Rattle.layout.specs.Problem.{zero64}
 use Rattle.layout.specs.Triangle.{triangle}
 use Rattle.layout.specs.Patterns.{Pattern}
@@ -27,6 +27,13 @@ rowsMarked marks rows = all (λ r. getD marks r false) rows
 
 abbrev pub valuesMarked : List Bool → List Float → Bool
 valuesMarked marks b = all (λ r. eq (getD b r nan) zero64 || getD marks r false) (below (length b))
+
+-- sides of m values, one after another: from the first of them to before the last
+abbrev pub sidesMarked : List Bool → ℕ → ℕ → ℕ → List Float → Bool
+sidesMarked marks m first last sides = all (λ k. valuesMarked marks (part (k * m) (k * m + m) sides)) (upFrom first (last - first))
+
+abbrev pub sidesOn : List ℕ → ℕ → ℕ → ℕ → List Float → Bool
+sidesOn os m first last sides = all (λ k. valuesOn os m (part (k * m) (k * m + m) sides)) (upFrom first (last - first))
 
 -- check 9 on the compact route, from the rows of A's entries, b and the parts
 abbrev pub entriesRight : ℕ → List ℕ → List Float → List Part → Bool

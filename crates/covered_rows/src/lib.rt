@@ -1,7 +1,7 @@
 // Check 9: on the compact route, the stored entries of A and the values of b unequal to zero stand on rows that a clique covers.
 ghost use mathlib.Core.Path.{_≡_};
-ghost use Prim.Native.Nat.{suc, _+_, _≤_, _<_};
-ghost use mathlib.Core.Bool.{true, false};
+ghost use Prim.Native.Nat.{suc, _+_, _*_, _≤_, _<_};
+ghost use mathlib.Core.Bool.{true, false, _&&_};
 ghost use lib.ListN.{length, getD, replicate};
 ghost use lib.Dec.{T, ltb};
 ghost use mathlib.Core.List.{map, reverse};
@@ -14,7 +14,7 @@ ghost use Rattle.supernode_tree.specs.Reads.{patternAt};
 ghost use Rattle.blocks.specs.Vertices.{marked};
 ghost use Rattle.blocks.specs.Columns.{columnPairs, ColumnsFit};
 ghost use Rattle.blocks.specs.Cliques.{Stands as CliqueStands, Standing, rowsHere};
-ghost use Rattle.covered_rows.specs.Covered.{BlockFits, MarksPattern, rowsMarked, valuesMarked, entriesRight};
+ghost use Rattle.covered_rows.specs.Covered.{BlockFits, MarksPattern, rowsMarked, valuesMarked, sidesMarked, entriesRight, sidesOn};
 use blocks::clique_vertices;
 use parts::Met;
 use parts::Place;
@@ -160,29 +160,117 @@ fn values_covered(covered: &[bool], b: &[f64]) -> bool
     true
 }
 
-// Check 9 on the compact route, over a cleared table.
-fn entries_right_by(
-    m: u32,
-    cones: &[u32],
-    count: u32,
-    words: &[u32],
-    a_rows: &[u32],
-    b: &[f64],
-    covered: &mut [bool],
-) -> bool
-    requires { ⌜ Sound m (now cones) count (now words) ⌝ }
-    requires { ⌜ T (all (λ r. ltb r m) (now «a_rows»)) × (length (now b) ≡ m) ⌝ }
-    requires { ⌜ (m ≤ length (now covered)) × (now covered ≡ replicate (length (now covered)) false) ⌝ }
-    ensures { λ r. ⌜ r ≡ entriesRight m (now («a_rows» .entry)) (now (b .entry)) (parts (records (now (cones .entry))) (patterns count (now (words .entry)))) ⌝ }
+// The same of the sides of m values, one after another, from side `first` to before side `last`.
+fn sides_covered(covered: &[bool], m: u32, sides: &[f64], first: u32, last: u32) -> bool
+    requires { ⌜ (m ≤ length (now covered)) × (last * m ≤ length (now sides)) ⌝ }
+    ensures { λ r. ⌜ r ≡ sidesMarked (now (covered .entry)) m first last (now (sides .entry)) ⌝ }
 {
-    mark_covered(m, cones, count, words, &mut *covered);
+    let size = m as usize;
+    let mut k = first;
+    while k < last {
+        let start = k as usize * size;
+        if !values_covered(covered, &sides[start..start + size]) {
+            return false;
+        }
+        k += 1;
+    }
+    true
+}
+
+// What check 9 asks of the entries of A and of b.
+fn first_covered(covered: &[bool], a_rows: &[u32], b: &[f64]) -> bool
+    requires { ⌜ Below (length (now covered)) (now «a_rows») × (length (now b) ≤ length (now covered)) ⌝ }
+    ensures { λ r. ⌜ r ≡ (rowsMarked (now (covered .entry)) (now («a_rows» .entry)) && valuesMarked (now (covered .entry)) (now (b .entry))) ⌝ }
+{
     if !entries_covered(covered, a_rows) {
         return false;
     }
     values_covered(covered, b)
 }
 
-// Check 9 on the compact route: a small problem has a small table.
+// Check 9 of A and b, and of the values of further sides.
+pub struct Covered {
+    pub first: bool,
+    pub further: bool,
+}
+
+// Makes check 9 on the compact route over a cleared table.
+fn sides_right_by(
+    m: u32,
+    cones: &[u32],
+    count: u32,
+    words: &[u32],
+    a_rows: &[u32],
+    b: &[f64],
+    sides: &[f64],
+    first: u32,
+    last: u32,
+    covered: &mut [bool],
+) -> Covered
+    requires { ⌜ Sound m (now cones) count (now words) ⌝ }
+    requires { ⌜ T (all (λ r. ltb r m) (now «a_rows»)) × (length (now b) ≡ m) × (last * m ≤ length (now sides)) ⌝ }
+    requires { ⌜ (m ≤ length (now covered)) × (now covered ≡ replicate (length (now covered)) false) ⌝ }
+    ensures { λ r. ⌜ r .first ≡ entriesRight m (now («a_rows» .entry)) (now (b .entry)) (parts (records (now (cones .entry))) (patterns count (now (words .entry)))) ⌝ }
+    ensures { λ r. ⌜ r .further ≡ sidesOn (coveredRows (parts (records (now (cones .entry))) (patterns count (now (words .entry))))) m first last (now (sides .entry)) ⌝ }
+{
+    mark_covered(m, cones, count, words, &mut *covered);
+    let right = first_covered(covered, a_rows, b);
+    let further = sides_covered(covered, m, sides, first, last);
+    Covered {
+        first: right,
+        further,
+    }
+}
+
+// Check 9 on the compact route, and its test of b's values on the further sides from `first` to before `last`: the covered rows are found
+// once. A small problem has a small table.
+pub fn sides_right(
+    m: u32,
+    cones: &[u32],
+    count: u32,
+    words: &[u32],
+    a_rows: &[u32],
+    b: &[f64],
+    sides: &[f64],
+    first: u32,
+    last: u32,
+) -> Covered
+    requires { ⌜ Sound m (now cones) count (now words) ⌝ }
+    requires { ⌜ T (all (λ r. ltb r m) (now «a_rows»)) × (length (now b) ≡ m) × (last * m ≤ length (now sides)) ⌝ }
+    ensures { λ r. ⌜ r .first ≡ entriesRight m (now («a_rows» .entry)) (now (b .entry)) (parts (records (now (cones .entry))) (patterns count (now (words .entry)))) ⌝ }
+    ensures { λ r. ⌜ r .further ≡ sidesOn (coveredRows (parts (records (now (cones .entry))) (patterns count (now (words .entry))))) m first last (now (sides .entry)) ⌝ }
+{
+    if m <= 4096 {
+        let mut covered = [false; 4096];
+        return sides_right_by(
+            m,
+            cones,
+            count,
+            words,
+            a_rows,
+            b,
+            sides,
+            first,
+            last,
+            &mut covered,
+        );
+    }
+    let mut covered = [false; 65536];
+    sides_right_by(
+        m,
+        cones,
+        count,
+        words,
+        a_rows,
+        b,
+        sides,
+        first,
+        last,
+        &mut covered,
+    )
+}
+
+// Check 9 of a single right side.
 pub fn entries_right(
     m: u32,
     cones: &[u32],
@@ -195,10 +283,5 @@ pub fn entries_right(
     requires { ⌜ T (all (λ r. ltb r m) (now «a_rows»)) × (length (now b) ≡ m) ⌝ }
     ensures { λ r. ⌜ r ≡ entriesRight m (now («a_rows» .entry)) (now (b .entry)) (parts (records (now (cones .entry))) (patterns count (now (words .entry)))) ⌝ }
 {
-    if m <= 4096 {
-        let mut covered = [false; 4096];
-        return entries_right_by(m, cones, count, words, a_rows, b, &mut covered);
-    }
-    let mut covered = [false; 65536];
-    entries_right_by(m, cones, count, words, a_rows, b, &mut covered)
+    sides_right(m, cones, count, words, a_rows, b, b, 0, 0).first
 }

@@ -1,33 +1,13 @@
--- Check 11 of the cut: its test place by place, and the number that it gives after checks 1 to 10.
-use Prim.Native.Nat.{ℕ, zero, suc, _+_, _≤_, _<_}
-use native.Mathlib.Numerals.{add-one}
+-- Check 11 of the cut: the number that it gives after checks 1 to 10.
+use Prim.Native.Nat.{ℕ, zero, suc}
 use native.Mathlib.Omega.{arith}
 use mathlib.Core.Path.{_≡_, refl, sym, ap, _∙_}
-use mathlib.Core.Bool.{Bool, true, false, cond}
+use mathlib.Core.Bool.{Bool, cond}
 use mathlib.Core.List.{List}
-use lib.ListN.{length, getD, drop, replicate, drop-of-length-le}
-use lib.Seq.{drop-cons}
-use borrow.Author.Tests.{le-leb, lt-leb}
+use lib.ListN.{replicate}
 use Rattle.layout.specs.Problem.{Problem, standard, compact}
 use Rattle.layout.specs.Checks.{refusal}
 use Rattle.layout.specs.Answers.{orElse, output, onRoute, routeOf, roomy, sizes, sizesRefusal, cutRefusal}
-
--- ---- the test, from place i on
-
-module _ (ks rs : List ℕ) (i : ℕ) (l : i < length ks) where
-  pub room-step : i < length rs → getD ks i 0 ≤ getD rs i 0 → roomy (drop i ks) (drop i rs) ≡ roomy (drop (i + 1) ks) (drop (i + 1) rs)
-  room-step h e = rw (add-one, drop-cons ks i 0 l, drop-cons rs i 0 h, le-leb (getD ks i 0) (getD rs i 0) e)
-
-  pub room-less : i < length rs → getD rs i 0 < getD ks i 0 → roomy (drop i ks) (drop i rs) ≡ false
-  room-less h e = rw (drop-cons ks i 0 l, drop-cons rs i 0 h, lt-leb (getD ks i 0) (getD rs i 0) e)
-
-  pub room-missing : length rs ≤ i → roomy (drop i ks) (drop i rs) ≡ false
-  room-missing h = rw (drop-cons ks i 0 l, drop-of-length-le rs h)
-
-pub room-done : (ks rs : List ℕ) (i : ℕ) → length ks ≤ i → roomy (drop i ks) (drop i rs) ≡ true
-room-done ks rs i h = rw (drop-of-length-le ks h)
-
--- ---- the number
 
 -- a problem that the sizes refuse is refused by the same number
 after-sizes : (a : ℕ) (t : Bool) → (orElse a 0 ≡ 0 → ⊥) → orElse a (cond t 0 11) ≡ orElse a 0

@@ -1,8 +1,7 @@
 // The sizes on either route, and the refusals of the cut: 0 standard, 1 compact.
 ghost use mathlib.Core.Path.{_≡_};
-ghost use mathlib.Core.Bool.{cond};
 ghost use Rattle.layout.specs.Problem.{problem};
-ghost use Rattle.layout.specs.Answers.{onRoute, roomy, cutRefusal};
+ghost use Rattle.layout.specs.Answers.{onRoute, cutRefusal};
 ghost use Rattle.layout.specs.Calls.Sizes.{Sizes};
 
 // The length of each output of the cut, after checks 1 to 11. The blocks are counted once for check 10 and the lengths.
@@ -76,23 +75,6 @@ pub fn sizes(
     0
 }
 
-// Check 11 of several outputs, 11 or 0: what each needs, and the room that it has.
-fn check_rooms(needs: &[u32], rooms: &[usize]) -> u32
-    ensures { λ r. ⌜ r ≡ cond (roomy (now (needs .entry)) (now (rooms .entry))) 0 11 ⌝ }
-{
-    let mut i = 0;
-    while i < needs.len() {
-        if rooms.len() <= i {
-            return 11;
-        }
-        if rooms[i] < needs[i] as usize {
-            return 11;
-        }
-        i += 1;
-    }
-    0
-}
-
 // Checks 1 to 11 of the cut in order: the number of the first that fails, or 0.
 pub fn refuse_cut(
     route: u32,
@@ -138,5 +120,5 @@ pub fn refuse_cut(
     if r != 0 {
         return r;
     }
-    check_rooms(&needs, rooms)
+    utils::check_rooms(&needs, rooms)
 }

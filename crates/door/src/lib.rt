@@ -2,6 +2,7 @@
 // numbers mean.
 mod change_routes;
 mod cut;
+mod cut_between;
 mod inverse;
 mod join;
 mod pair_back;
@@ -12,6 +13,7 @@ mod sizes;
 
 pub use change_routes::chordal_change_route;
 pub use cut::chordal_cut;
+pub use cut_between::chordal_cut_between;
 pub use inverse::chordal_inverse;
 pub use join::chordal_join;
 pub use pair_back::chordal_pair_back;

@@ -1,7 +1,7 @@
 -- The order of checks: where nothing is refused every check passes, and checks made in groups.
 use Prim.Native.Nat.{ℕ, zero, suc}
 use native.Mathlib.Omega.{arith}
-use mathlib.Core.Path.{_≡_, refl, subst}
+use mathlib.Core.Path.{_≡_, refl, subst, ap}
 use mathlib.Core.Logic.{_↔_}
 use mathlib.Core.Bool.{Bool, true, false, not, cond, _&&_}
 use mathlib.Core.List.{List, [], _∷_, _++_}
@@ -49,6 +49,13 @@ pub none-fails : (cs : List Check) → Passing cs → firstFailing cs ≡ 0
 none-fails [] h = refl
 none-fails (check k true ∷ cs) h = none-fails cs (h .1)
 none-fails (check k false ∷ cs) h = absurd (h .0)
+
+-- and where only one check may fail, it decides
+pub one-fails : (cs : List Check) (k : ℕ) (b : Bool) (ds : List Check) → Passing cs → Passing ds
+    → firstFailing (cs ++ (check k b ∷ ds)) ≡ cond b 0 k
+one-fails [] k b ds h g = ap (λ (r : ℕ). cond b r k) (none-fails ds g)
+one-fails (check j true ∷ cs) k b ds h g = one-fails cs k b ds (h .1) g
+one-fails (check j false ∷ cs) k b ds h g = absurd (h .0)
 
 -- no check has the number k
 abbrev pub lacks : ℕ → List Check → Bool

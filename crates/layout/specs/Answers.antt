@@ -106,6 +106,10 @@ augmented compact p = record {
   map = mapWords (coneMap (layout p));
 }
 
+-- the results with another b
+abbrev pub augmentedWithB : Augmented → List Float → Augmented
+augmentedWithB a b = record { P = a .P; q = a .q; A = a .A; b = b; cones = a .cones; alphas = a .alphas; map = a .map }
+
 -- the length of each output, in the order of the outputs
 abbrev pub lengths : Augmented → List ℕ
 lengths a =

@@ -5,6 +5,7 @@ pub mod Renumber
 pub mod Sizes
 pub mod Cut
 pub mod CutEntries
+pub mod CutBetween
 pub mod Join
 pub mod JoinEntries
 pub mod SameLayout

@@ -54,6 +54,21 @@ problem n m pStarts pRows pValues q aStarts aRows aValues b cones alphas count w
   patternWords = words;
 }
 
+-- a problem with another right side
+abbrev pub withB : Problem → List Float → Problem
+withB p b = record {
+  n = p .n;
+  m = p .m;
+  P = p .P;
+  q = p .q;
+  A = p .A;
+  b = b;
+  cones = p .cones;
+  alphas = p .alphas;
+  patternCount = p .patternCount;
+  patternWords = p .patternWords;
+}
+
 pub record Solution : Type 0 where
   pub x : List Float
   pub s : List Float

@@ -86,6 +86,8 @@ const SIZES: u8 = 6;
 
 const CUT: u8 = 7;
 
+const CUT_BETWEEN: u8 = 9;
+
 // The second problem's lists follow the first one's.
 fn same_layout<'a>(
     given: &'a [u32],
@@ -280,6 +282,83 @@ fn cut<'a>(
     )
 }
 
+// The low limits stand in b's place; the high ones are list 26, and their output is list 27.
+fn cut_between<'a>(
+    given: &'a [u32],
+    p_starts: &'a [u32],
+    p_rows: &'a [u32],
+    p_values: &'a [f64],
+    q: &'a [f64],
+    a_starts: &'a [u32],
+    a_rows: &'a [u32],
+    a_values: &'a [f64],
+    b: &'a [f64],
+    cones: &'a [u32],
+    alphas: &'a [f64],
+    pattern: &'a [u32],
+    words: &'a [u32],
+    values: &'a [f64],
+) -> u32 {
+    let mut p_starts_out = [0u32; 4096];
+    let mut p_rows_out = [0u32; 4096];
+    let mut p_values_out = [0f64; 4096];
+    let mut q_out = [0f64; 4096];
+    let mut a_starts_out = [0u32; 4096];
+    let mut a_rows_out = [0u32; 4096];
+    let mut a_values_out = [0f64; 4096];
+    let mut b_low_out = [0f64; 4096];
+    let mut b_high_out = [0f64; 4096];
+    let mut cones_out = [0u32; 4096];
+    let mut alphas_out = [0f64; 4096];
+    let mut map_out = [0u32; 4096];
+    let r = door::chordal_cut_between(
+        item(given, 0),
+        item(given, 1),
+        p_starts,
+        p_rows,
+        p_values,
+        q,
+        a_starts,
+        a_rows,
+        a_values,
+        b,
+        values_at(words, values, 26),
+        cones,
+        alphas,
+        item(given, 2),
+        pattern,
+        words_room(&mut p_starts_out, words, 8),
+        words_room(&mut p_rows_out, words, 9),
+        values_room(&mut p_values_out, words, values, 21),
+        values_room(&mut q_out, words, values, 22),
+        words_room(&mut a_starts_out, words, 10),
+        words_room(&mut a_rows_out, words, 11),
+        values_room(&mut a_values_out, words, values, 23),
+        values_room(&mut b_low_out, words, values, 24),
+        values_room(&mut b_high_out, words, values, 27),
+        words_room(&mut cones_out, words, 12),
+        values_room(&mut alphas_out, words, values, 25),
+        words_room(&mut map_out, words, 13),
+    );
+    let held = cut_answer(
+        r,
+        words,
+        values,
+        p_starts_out,
+        p_rows_out,
+        p_values_out,
+        q_out,
+        a_starts_out,
+        a_rows_out,
+        a_values_out,
+        b_low_out,
+        cones_out,
+        alphas_out,
+        map_out,
+    );
+    values_hold(held, words, values, 27, b_high_out)
+}
+
 fn call_on_problem<'a>(
     family: u8,
     given: &'a [u32],
@@ -344,6 +423,22 @@ fn call_on_problem<'a>(
             alphas,
             pattern,
             words,
+        ),
+        CUT_BETWEEN => cut_between(
+            given,
+            p_starts,
+            p_rows,
+            p_values,
+            q,
+            a_starts,
+            a_rows,
+            a_values,
+            b,
+            cones,
+            alphas,
+            pattern,
+            words,
+            values,
         ),
         _ => cut(
             given,
@@ -431,10 +526,10 @@ fn join<'a>(words: &'a [u32], values: &'a [f64]) -> u32 {
 fn agrees<'a>(family: u8, answer: u8, words: &'a [u32], values: &'a [f64]) -> bool {
     let r = if family <= RENUMBER {
         on_pattern(family, words)
-    } else if family <= CUT {
-        on_problem(family, words, values)
-    } else {
+    } else if family == JOIN {
         join(words, values)
+    } else {
+        on_problem(family, words, values)
     };
     r == item(words_at(words, answer), 0)
 }
@@ -490,4 +585,5 @@ fn main() {
     replay(b"sizes", SIZES, 1);
     replay(b"cut", CUT, 1);
     replay(b"join", JOIN, 1);
+    replay(b"cut_between", CUT_BETWEEN, 1);
 }

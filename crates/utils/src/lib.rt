@@ -1,11 +1,12 @@
-// clarabel's algebra/utils.rs: the test for a permutation, and the inverse permutation, `invperm`.
+// clarabel's algebra/utils.rs: the test for a permutation, and the inverse permutation, `invperm`; check 11 of several outputs.
 ghost use mathlib.Core.Path.{_≡_};
 ghost use Prim.Native.Nat.{_≤_, _<_};
-ghost use mathlib.Core.Bool.{true, false};
+ghost use mathlib.Core.Bool.{true, false, cond};
 ghost use lib.ListN.{length, replicate};
 ghost use lib.Dec.{ltb};
 ghost use Rattle.layout.specs.Lists.{all, Below};
 ghost use Rattle.layout.specs.Checks.{isPermutation};
+ghost use Rattle.layout.specs.Answers.{roomy};
 ghost use Rattle.layout.specs.Calls.Inverse.{Inverse};
 ghost use Rattle.utils.specs.Windows.{MarksMore};
 ghost use Rattle.utils.specs.Scattered.{scattered};
@@ -135,5 +136,24 @@ pub fn inverse(p: &[u32], out: &mut [u32]) -> u32
         return 11;
     }
     scatter(p, out);
+    0
+}
+
+// ---- check 11
+
+// Check 11 of several outputs, 11 or 0: what each needs, and the room that it has.
+pub fn check_rooms(needs: &[u32], rooms: &[usize]) -> u32
+    ensures { λ r. ⌜ r ≡ cond (roomy (now (needs .entry)) (now (rooms .entry))) 0 11 ⌝ }
+{
+    let mut i = 0;
+    while i < needs.len() {
+        if rooms.len() <= i {
+            return 11;
+        }
+        if rooms[i] < needs[i] as usize {
+            return 11;
+        }
+        i += 1;
+    }
     0
 }

@@ -3,11 +3,11 @@ use mathlib.Core.Path.{_≡_, sym, ap, _∙_}
 use mathlib.Core.Bool.{Bool, cond}
 use lib.ListN.{length, drop}
 use Rattle.layout.specs.Answers.{roomy}
-use Rattle.decomp.proofs.Rooms.{room-step, room-less, room-missing, room-done}
+use Rattle.layout.proofs.Rooms.{room-step, room-less, room-missing, room-done}
 use native.Mathlib.Omega.{arith}
 use borrow.Author.Needs.{needs}
-use Rattle.decomp.proofs.check_rooms.Statement.{statement}
-use Rattle.decomp.proofs.check_rooms.Tie as tie
+use Rattle.utils.proofs.check_rooms.Statement.{statement}
+use Rattle.utils.proofs.check_rooms.Tie as tie
 
 abbrev Inv-loop : tie.InvT-loop
 Inv-loop ks rs i₀ i = (i ≤ length ks) × (roomy ks rs ≡ roomy (drop i ks) (drop i rs))

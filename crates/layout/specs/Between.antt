@@ -1,0 +1,71 @@
+-- A right side known only within limits: a low and a high list of m values for b, and one compact cut of both. Definitions only.
+use Prim.Native.Nat.{ℕ}
+use mathlib.Core.Bool.{Bool, cond, _&&_}
+use mathlib.Core.List.{List, [], _∷_, _++_}
+use mathlib.Core.Path.{_≡_}
+use lib.ListN.{length, take, drop}
+use lib.Dec.{T}
+use lib.Ieee.{Float, le, eq}
+use Rattle.layout.specs.Lists.{sameBy}
+use Rattle.layout.specs.Problem.{Problem, withB, compact}
+use Rattle.layout.specs.Checks.{Check, check, firstFailing, layout, tableChecks, check4, patternChecks, check9, check10, refusal}
+use Rattle.layout.specs.Compact.{compactB}
+use Rattle.layout.specs.Equations.{Doubles}
+use Rattle.layout.specs.Answers.{orElse, roomy, augmented, augmentedWithB, sizes}
+
+-- as long, and place by place at most the other's value; a NaN is neither at most nor at least any value
+abbrev pub atMost : List Float → List Float → Bool
+atMost xs ys = sameBy le xs ys
+
+-- each value of b is between its low and its high
+abbrev pub between : List Float → List Float → List Float → Bool
+between low b high = atMost low b && atMost b high
+
+-- as long, and place by place the same number: the two zeros are one number, and a NaN is none
+abbrev pub asNumbers : List Float → List Float → Bool
+asNumbers xs ys = sameBy eq xs ys
+
+-- ---- the refusals
+
+-- checks 1 to 10, 4 and 9 with low and with high, and 16 after 4: a low is above its high, or one of them is NaN
+abbrev pub limitsChecks : Problem → List Float → List Float → List Check
+limitsChecks p low high =
+    tableChecks p
+    ++ (check 4 (check4 (withB p low) && check4 (withB p high)) ∷ check 16 (atMost low high)
+    ∷ (patternChecks p
+    ++ (check 9 (check9 compact (withB p low) && check9 compact (withB p high)) ∷ check 10 (check10 compact (p .m) (layout p)) ∷ [])))
+
+abbrev pub limitsFailing : Problem → List Float → List Float → ℕ
+limitsFailing p low high = firstFailing (limitsChecks p low high)
+
+-- ---- the results: those of the cut with low, and the augmented high after the augmented low
+
+abbrev pub limitsSizes : Problem → List Float → List Float → List ℕ
+limitsSizes p low high =
+    let ks = sizes compact (withB p low) in
+    take 8 ks ++ (length (compactB (withB p high)) ∷ drop 8 ks)
+
+-- the whole call, with the room of each of the twelve outputs
+abbrev pub limitsRefusal : Problem → List Float → List Float → List ℕ → ℕ
+limitsRefusal p low high rooms = orElse (limitsFailing p low high) (cond (roomy (limitsSizes p low high) rooms) 0 11)
+
+-- ---- what the call promises, where limitsFailing is 0
+
+-- b is between the limits, and its augmentation is v as numbers
+abbrev pub AugmentsTo : Problem → List Float → List Float → List Float → List Float → Type 0
+AugmentsTo p low high v b = T (between low b high) × T (asNumbers (compactB (withB p b)) v)
+
+pub record CarriesLimits (p : Problem) (low high : List Float) : Type 0 where
+  -- low and high are between themselves
+  pub ends : T (between low low high) × T (between low high high)
+  -- every b between them is accepted by the compact route
+  pub accepted : (b : List Float) → T (between low b high) → refusal compact (withB p b) ≡ 0
+  -- and augmented into something between the results
+  pub carried : (b : List Float) → T (between low b high)
+      → T (between (compactB (withB p low)) (compactB (withB p b)) (compactB (withB p high)))
+  -- and everything but b is the same
+  pub others : (b : List Float) → T (between low b high)
+      → augmented compact (withB p b) ≡ augmentedWithB (augmented compact (withB p low)) (compactB (withB p b))
+  -- every vector between the results is, as numbers, the augmentation of exactly one b between them, of doubles where it is of doubles
+  pub reached : (v : List Float) → T (between (compactB (withB p low)) v (compactB (withB p high)))
+      → (b : List Float) × AugmentsTo p low high v b × ((c : List Float) → AugmentsTo p low high v c → T (asNumbers c b)) × (Doubles v → Doubles b)

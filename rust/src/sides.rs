@@ -1,0 +1,74 @@
+use crate::calls::{sizes_of, Buffers};
+use crate::{flat, Augmented, Problem, Refusal, Route};
+
+/// A low and a high limit for each value of b, as a survey sheet gives them.
+///
+/// ```
+/// use tejiwakpa::Limits;
+///
+/// // known to a hundredth
+/// let b = [1.0, 2.0];
+/// let limits = Limits { low: b.map(|v| v - 0.01).into(), high: b.map(|v| v + 0.01).into() };
+/// assert!(limits.hold(&b));
+/// assert!(!limits.hold(&[1.0, 2.1]));
+/// ```
+#[derive(Clone, Debug, Default, PartialEq)]
+pub struct Limits {
+    /// The lowest value of each row.
+    pub low: Vec<f64>,
+    /// The highest value of each row.
+    pub high: Vec<f64>,
+}
+
+impl Limits {
+    /// Whether a right hand side has as many values as there are limits, each between its own.
+    ///
+    /// ```
+    /// use tejiwakpa::Limits;
+    ///
+    /// let limits = Limits { low: vec![0.0], high: vec![f64::INFINITY] };
+    /// assert!(limits.hold(&[-0.0]) && limits.hold(&[1e300]));
+    /// assert!(!limits.hold(&[f64::NAN]) && !limits.hold(&[]));
+    /// ```
+    pub fn hold(&self, b: &[f64]) -> bool {
+        let within = |((low, v), high): ((&f64, &f64), &f64)| low <= v && v <= high;
+        let lengths = [self.low.len(), self.high.len()];
+        lengths == [b.len(); 2] && self.low.iter().zip(b).zip(&self.high).all(within)
+    }
+}
+
+/// The compact cut of a problem whose b is known only within limits, its own b being passed over: the augmented problem,
+/// whose b is the low limits', and the augmented limits.
+///
+/// Every b between the limits is augmented into something between the results, and every vector between the results is,
+/// as numbers, the augmentation of exactly one such b. Zeros of either sign are one number, infinities are allowed. A
+/// row that no clique covers needs both its limits zero.
+///
+/// ```
+/// use tejiwakpa::{cut_between, Limits, Problem, Refusal};
+///
+/// let problem = Problem::three_projectors();
+/// let mut limits =
+///     Limits { low: vec![0.5, 1.5, 2.5, 0.0, 3.5, 4.5], high: vec![1.5, 2.5, 3.5, 0.0, 4.5, f64::INFINITY] };
+/// let (augmented, between) = cut_between(&problem, &limits)?;
+/// assert_eq!(between.low, [2.5, 3.5, 4.5, 0.5, 1.5, 0.0]);
+/// assert_eq!(between.high, [3.5, 4.5, f64::INFINITY, 1.5, 2.5, 0.0]);
+/// assert_eq!(augmented.problem.b, between.low);
+///
+/// limits.low[0] = 2.0;
+/// assert_eq!(cut_between(&problem, &limits), Err(Refusal::Limits));
+/// # Ok::<(), Refusal>(())
+/// ```
+pub fn cut_between(problem: &Problem, limits: &Limits) -> Result<(Augmented, Limits), Refusal> {
+    let words = problem.words();
+    let tables = problem.tables(&words);
+    // where sizes refuses the low limits, the call refuses both, in its own order
+    let sizes = sizes_of(Route::Compact, &flat::Tables { b: &limits.low, ..tables }).unwrap_or_default();
+    let mut made = Buffers::new(&sizes);
+    let mut high = vec![0.0; sizes.b];
+    let mut out = flat::BetweenOutputs::of(made.outputs(), &mut high);
+    flat::cut_between(&tables, &limits.low, &limits.high, &mut out)?;
+    let augmented = made.augmented();
+    let low = augmented.problem.b.clone();
+    Ok((augmented, Limits { low, high }))
+}
