@@ -49,9 +49,26 @@ static int cut_between(void) {
     return right & (refusal == CHORDAL_LIMITS);
 }
 
+/* one marker set under two exposures: everything but b once, and each b in turn */
+static int cut_many(void) {
+    static const double sides[2 * M] = {1, 2, 3, 0, 4, 5, 10, 20, 30, 0, 40, 50};
+    static const double want[] = {3, 4, 5, 1, 2, 0, 30, 40, 50, 10, 20, 0};
+    double b_out[2 * AUGMENTED_ROWS];
+    uint32_t refusal = chordal_cut_many(2, BEFORE_B, ALL(sides), AFTER_B, CUT_P_Q, CUT_A, ALL(b_out), CUT_CONES);
+    if (!done("cut of two sides", refusal)) return 0;
+    print_values("first b", b_out, AUGMENTED_ROWS);
+    print_values("second b", b_out + AUGMENTED_ROWS, AUGMENTED_ROWS);
+    int right = equal("b", b_out, want, 2 * AUGMENTED_ROWS);
+
+    refusal = chordal_cut_many(3, BEFORE_B, ALL(sides), AFTER_B, CUT_P_Q, CUT_A, ALL(b_out), CUT_CONES);
+    done("three sides in a list of two", refusal);
+    return right & (refusal == CHORDAL_CONES);
+}
+
 int main(void) {
     int right = change_route();
     right &= cut_between();
+    right &= cut_many();
     printf(right ? "all as it must be\n" : "something is wrong\n");
     return right ? EXIT_SUCCESS : EXIT_FAILURE;
 }

@@ -27,7 +27,8 @@ extern "C" {
 enum chordal_refusal {
     CHORDAL_DONE = 0,
     CHORDAL_BOUND = 1,       /* a bound is exceeded: n or m 65,536, entries of A or P 262,144, cones 1,024, a size in a
-                                record 65,536, a PSD size 256, an index 255 (32,895 back); or the route is no route */
+                                record 65,536, a PSD size 256, an index 255 (32,895 back); or the route is no route, or the
+                                count of right sides is 0 or above 64 */
     CHORDAL_STARTS = 2,      /* starts of A or P that are not n + 1 numbers from 0 to the number of values, never falling,
                                 or rows that are not as many as values */
     CHORDAL_ROWS = 3,        /* rows in a column of A fall or in one of P do not strictly rise, or lie outside */
@@ -128,6 +129,25 @@ uint32_t chordal_cut_between(
     uint32_t *a_starts_out, size_t a_starts_out_len, uint32_t *a_rows_out, size_t a_rows_out_len,
     double *a_values_out, size_t a_values_out_len,
     double *b_low_out, size_t b_low_out_len, double *b_high_out, size_t b_high_out_len,
+    uint32_t *cones_out, size_t cones_out_len, double *alphas_out, size_t alphas_out_len,
+    uint32_t *map_out, size_t map_out_len);
+
+/* The augmented problem on the compact route for 1 to 64 right sides, which b holds one after another, m values each:
+ * everything but b once, and each side's augmented b in turn, so that b_out is count times as long as the cut's. A list
+ * that is not count times m long is refused as 4. Checks up to 10 are made on each side wholly before the next. Refusals
+ * 1 to 7, 9 to 11. */
+uint32_t chordal_cut_many(
+    uint32_t count, uint32_t n, uint32_t m,
+    const uint32_t *p_starts, size_t p_starts_len, const uint32_t *p_rows, size_t p_rows_len,
+    const double *p_values, size_t p_values_len, const double *q, size_t q_len,
+    const uint32_t *a_starts, size_t a_starts_len, const uint32_t *a_rows, size_t a_rows_len,
+    const double *a_values, size_t a_values_len, const double *b, size_t b_len,
+    const uint32_t *cones, size_t cones_len, const double *alphas, size_t alphas_len,
+    uint32_t pattern_count, const uint32_t *pattern_words, size_t pattern_words_len,
+    uint32_t *p_starts_out, size_t p_starts_out_len, uint32_t *p_rows_out, size_t p_rows_out_len,
+    double *p_values_out, size_t p_values_out_len, double *q_out, size_t q_out_len,
+    uint32_t *a_starts_out, size_t a_starts_out_len, uint32_t *a_rows_out, size_t a_rows_out_len,
+    double *a_values_out, size_t a_values_out_len, double *b_out, size_t b_out_len,
     uint32_t *cones_out, size_t cones_out_len, double *alphas_out, size_t alphas_out_len,
     uint32_t *map_out, size_t map_out_len);
 

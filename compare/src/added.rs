@@ -94,6 +94,56 @@ mod c {
             map_out: *mut u32,
             map_out_len: usize,
         ) -> u32;
+        pub fn chordal_cut_many(
+            count: u32,
+            n: u32,
+            m: u32,
+            p_starts: *const u32,
+            p_starts_len: usize,
+            p_rows: *const u32,
+            p_rows_len: usize,
+            p_values: *const f64,
+            p_values_len: usize,
+            q: *const f64,
+            q_len: usize,
+            a_starts: *const u32,
+            a_starts_len: usize,
+            a_rows: *const u32,
+            a_rows_len: usize,
+            a_values: *const f64,
+            a_values_len: usize,
+            b: *const f64,
+            b_len: usize,
+            cones: *const u32,
+            cones_len: usize,
+            alphas: *const f64,
+            alphas_len: usize,
+            pattern_count: u32,
+            pattern_words: *const u32,
+            pattern_words_len: usize,
+            p_starts_out: *mut u32,
+            p_starts_out_len: usize,
+            p_rows_out: *mut u32,
+            p_rows_out_len: usize,
+            p_values_out: *mut f64,
+            p_values_out_len: usize,
+            q_out: *mut f64,
+            q_out_len: usize,
+            a_starts_out: *mut u32,
+            a_starts_out_len: usize,
+            a_rows_out: *mut u32,
+            a_rows_out_len: usize,
+            a_values_out: *mut f64,
+            a_values_out_len: usize,
+            b_out: *mut f64,
+            b_out_len: usize,
+            cones_out: *mut u32,
+            cones_out_len: usize,
+            alphas_out: *mut f64,
+            alphas_out_len: usize,
+            map_out: *mut u32,
+            map_out_len: usize,
+        ) -> u32;
     }
 }
 
@@ -414,4 +464,114 @@ pub fn compare_between(report: &mut Report, d: &mut Draws, p: &Problem, low: &[f
     }
     let either = if d.chance(50) { low } else { high };
     against::compare(report, Route::Compact, &sides::with_b(p, either), None, 0);
+}
+
+// ---- many right sides
+
+/// The door's call, `p`'s b holding all right sides.
+pub fn cut_many(count: u32, p: &Problem, o: &mut CutOutputs) -> u32 {
+    #[cfg(not(door))]
+    {
+        let _ = (count, p, o);
+        unreachable!("the door is not linked")
+    }
+    #[cfg(door)]
+    unsafe {
+        c::chordal_cut_many(
+            count,
+            p.n,
+            p.m,
+            p.p.starts.as_ptr(),
+            p.p.starts.len(),
+            p.p.rows.as_ptr(),
+            p.p.rows.len(),
+            p.p.values.as_ptr(),
+            p.p.values.len(),
+            p.q.as_ptr(),
+            p.q.len(),
+            p.a.starts.as_ptr(),
+            p.a.starts.len(),
+            p.a.rows.as_ptr(),
+            p.a.rows.len(),
+            p.a.values.as_ptr(),
+            p.a.values.len(),
+            p.b.as_ptr(),
+            p.b.len(),
+            p.cones.as_ptr(),
+            p.cones.len(),
+            p.alphas.as_ptr(),
+            p.alphas.len(),
+            p.pattern_count,
+            p.pattern_words.as_ptr(),
+            p.pattern_words.len(),
+            o.p_starts.as_mut_ptr(),
+            o.p_starts.len(),
+            o.p_rows.as_mut_ptr(),
+            o.p_rows.len(),
+            o.p_values.as_mut_ptr(),
+            o.p_values.len(),
+            o.q.as_mut_ptr(),
+            o.q.len(),
+            o.a_starts.as_mut_ptr(),
+            o.a_starts.len(),
+            o.a_rows.as_mut_ptr(),
+            o.a_rows.len(),
+            o.a_values.as_mut_ptr(),
+            o.a_values.len(),
+            o.b.as_mut_ptr(),
+            o.b.len(),
+            o.cones.as_mut_ptr(),
+            o.cones.len(),
+            o.alphas.as_mut_ptr(),
+            o.alphas.len(),
+            o.map.as_mut_ptr(),
+            o.map.len(),
+        )
+    }
+}
+
+/// The compact cut of a problem whose b holds `count` right sides.
+pub fn compare_many(report: &mut Report, d: &mut Draws, count: u32, p: &Problem) {
+    let needed = sides::lengths_many(count, p).unwrap_or([3; 11]);
+    let rooms = some_rooms(d, needed);
+    let mut out = cut_outputs(&rooms);
+    let number = cut_many(count, p, &mut out);
+    let expected = sides::cut_many(count, p, Some(&rooms));
+    let refusal = expected.as_ref().err().copied().unwrap_or(0);
+    let wrong = cut_wrong(&out, &expected.unwrap_or_default(), &rooms);
+    let text = || format!("{}\n sides {count} rooms {rooms:?} needed {needed:?}", problem_text(p));
+    judge(report, "cut of many sides", refusal, number, wrong, p.weight(), text);
+
+    // what the single cuts give, one by one
+    let m = p.m as usize;
+    if p.b.len() as u64 != count as u64 * p.m as u64 || !(1..=64).contains(&count) {
+        return;
+    }
+    let made = (number == 0).then(|| cut_off(&out, &needed));
+    for k in 0..count as usize {
+        let single = cut_made(Route::Compact, &sides::with_b(p, &p.b[k * m..(k + 1) * m]));
+        let wrong = match (&single, &made) {
+            (Err(first), _) => (*first != number).then(|| format!("the first refused is {first}, not {number}")),
+            (Ok(single), Some(made)) => {
+                let rows = single.b.len();
+                let same_b = all_bits(&made.b[k * rows..(k + 1) * rows], &single.b);
+                beside_b(made, single).or((!same_b).then_some("b")).map(|what| format!("{what} differs"))
+            }
+            (Ok(_), None) if k + 1 < count as usize || number == 11 => None,
+            (Ok(_), None) => Some(format!("no side alone is refused, answers {number}")),
+        };
+        if let Some(what) = wrong {
+            report.fail(format!("cut of many sides, beside the single cuts: {what}"), p.weight(), text);
+            return;
+        }
+        if single.is_err() {
+            report.count("cut of many sides: the number of the first side that is refused");
+            return;
+        }
+    }
+    if number == 0 {
+        report.count("cut of many sides: what the single cuts give");
+        let k = d.below(count as usize);
+        against::compare(report, Route::Compact, &sides::with_b(p, &p.b[k * m..(k + 1) * m]), None, 0);
+    }
 }

@@ -90,6 +90,8 @@ fn case(report: &mut Report, o: &Options, index: u64, scale: Scale) {
     if door::LINKED && o.routes.contains(&Route::Compact) {
         let [low, high] = random::limits(&mut d, &p);
         added::compare_between(report, &mut d, &p, &low, &high);
+        let (count, b) = random::sides(&mut d, &p);
+        added::compare_many(report, &mut d, count, &sides::with_b(&p, &b));
     }
     // one pattern alone, and a permutation, each damaged now and then
     let vertices = 1 + d.below(scale.psd);
@@ -155,6 +157,8 @@ fn random_cases(report: &mut Report, o: &Options) {
         for (_, p) in random::at_limits() {
             let mut d = case_draws(o.seed, u64::MAX);
             added::compare_between(report, &mut d, &p, &p.b, &p.b);
+            added::compare_many(report, &mut d, 1, &p);
+            added::compare_many(report, &mut d, 2, &sides::with_b(&p, &[&p.b[..], &p.b].concat()));
         }
     }
     let started = Instant::now();
@@ -211,6 +215,8 @@ fn exhaustive_cases(report: &mut Report, o: &Options) {
                         } else {
                             let [low, high] = random::limits(d, &p);
                             added::compare_between(report, d, &p, &low, &high);
+                            let (count, b) = random::sides(d, &p);
+                            added::compare_many(report, d, count, &sides::with_b(&p, &b));
                         }
                     }
                 }

@@ -324,6 +324,27 @@ pub fn limits(d: &mut Draws, p: &Problem) -> [Vec<f64>; 2] {
     [low, high]
 }
 
+/// How many right sides there are, and all of them: b, and others with values where b has some; now and then damaged.
+pub fn sides(d: &mut Draws, p: &Problem) -> (u32, Vec<f64>) {
+    let count = match d.below(20) {
+        0 => d.pick(&[0, 64, 65, 66, NONE]),
+        1 => 1 + d.below(64) as u32,
+        _ => 1 + d.below(5) as u32,
+    };
+    let spread_zeros = d.pick(&[0, 0, 0, 1, 20]);
+    let mut b = p.b.clone();
+    for _ in 1..count.clamp(1, 66) {
+        for &v in &p.b {
+            let zero = v == 0.0 && !d.chance(spread_zeros);
+            b.push(if zero { d.pick(&[0.0, -0.0]) } else { d.float() });
+        }
+    }
+    if d.chance(5) {
+        resize(d, &mut b, 0.0);
+    }
+    (count, b)
+}
+
 /// A solution of the lengths that the problem gives.
 pub fn solution(d: &mut Draws, shape: &(usize, usize, Vec<u32>)) -> Solution {
     Solution {

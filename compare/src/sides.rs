@@ -1,4 +1,4 @@
-//! Document 02's compact cut with low and high limits for b read plainly.
+//! Document 02's compact cuts with several right sides read plainly: low and high limits, and many sides.
 
 use crate::expected;
 use crate::problem::*;
@@ -52,6 +52,51 @@ pub fn cut_between(
     Ok((cut, high))
 }
 
+/// The most right sides that a cut takes.
+const SIDES: u32 = 64;
+
+// The problem with each right side, if checks 1 to 10 let all pass, each wholly before the next. The count is a part of
+// check 1, the length of the list one of check 4 of the first side.
+fn accepted_many(count: u32, p: &Problem) -> Result<Vec<Problem>, u32> {
+    if count == 0 || count > SIDES {
+        return Err(1);
+    }
+    if p.b.len() as u64 != count as u64 * p.m as u64 {
+        // a side that is not m values long either
+        let no_side: &[f64] = if p.m == 0 { &[0.0] } else { &[] };
+        return Err(expected::first_four(&with_b(p, no_side)).unwrap_err());
+    }
+    let m = p.m as usize;
+    let sides: Vec<Problem> = (0..count as usize).map(|k| with_b(p, &p.b[k * m..(k + 1) * m])).collect();
+    for side in &sides {
+        expected::accepted(Route::Compact, side)?;
+    }
+    Ok(sides)
+}
+
+/// The lengths of the outputs: those of the cut, b's being that of all sides.
+pub fn lengths_many(count: u32, p: &Problem) -> Result<[usize; 11], u32> {
+    let sides = accepted_many(count, p)?;
+    let mut lengths = expected::sizes(Route::Compact, &sides[0], 11)?;
+    lengths[7] *= sides.len();
+    Ok(lengths)
+}
+
+/// The compact cut of a problem whose b holds so many right sides, one after another: everything but b once, and each
+/// augmented b in turn.
+pub fn cut_many(count: u32, p: &Problem, rooms: Option<&[usize; 11]>) -> Result<Cut, u32> {
+    let sides = accepted_many(count, p)?;
+    let needed = lengths_many(count, p)?;
+    if rooms.is_some_and(|rooms| rooms.iter().zip(&needed).any(|(room, needed)| room < needed)) {
+        return Err(11);
+    }
+    let mut cut = expected::cut(Route::Compact, &sides[0], None)?;
+    for side in &sides[1..] {
+        cut.b.extend(expected::cut(Route::Compact, side, None)?.b);
+    }
+    Ok(cut)
+}
+
 #[cfg(test)]
 mod tests {
     use super::*;
@@ -91,5 +136,34 @@ mod tests {
         let rooms = [1, 0, 0, 0, 1, 0, 0, 2, 6, 0, 10];
         assert_eq!(cut_between(&p, &[0.0; 3], &[0.0; 3], Some((&rooms, 1))).err(), Some(11));
         assert!(cut_between(&p, &[0.0; 3], &[0.0; 3], Some((&rooms, 2))).is_ok());
+    }
+
+    #[test]
+    fn exposures() {
+        let with = |b: &[f64]| with_b(&apart(), b);
+        let two = with(&[1.0, 0.0, 2.0, 3.0, -0.0, 4.0]);
+        let cut = cut_many(2, &two, None).unwrap();
+        assert!(all_bits(&cut.b, &[2.0, 1.0, 4.0, 3.0]));
+        assert_eq!(cut.map.len(), 2 * MAP_WORDS);
+        let number = |count: u32, p: &Problem| cut_many(count, p, None).err();
+        assert_eq!(number(0, &with(&[])), Some(1));
+        assert_eq!(number(64, &with(&[0.0; 192])), None);
+        assert_eq!(number(65, &with(&[0.0; 195])), Some(1));
+        assert_eq!(number(1, &two), Some(4));
+        assert_eq!(number(3, &two), Some(4));
+        // the further side's 9 comes before 11
+        let uncovered = with(&[0.0, 0.0, 0.0, 0.0, 5.0, 0.0]);
+        assert_eq!(cut_many(2, &uncovered, Some(&[0; 11])).err(), Some(9));
+        assert_eq!(cut_many(2, &two, Some(&[1, 0, 0, 0, 1, 0, 0, 3, 6, 0, 10])).err(), Some(11));
+        // a list of the wrong length comes after 3 and before 5
+        let mut wrong = two.clone();
+        wrong.pattern_words.pop();
+        assert_eq!(number(3, &wrong), Some(4));
+        assert_eq!(number(2, &wrong), Some(5));
+        wrong.a.starts.push(0);
+        assert_eq!(number(3, &wrong), Some(2));
+        // no rows: any count of empty sides
+        let none = Problem { m: 0, cones: vec![], pattern_count: 0, pattern_words: vec![], ..apart() };
+        assert_eq!((number(64, &none), number(1, &with_b(&none, &[0.0]))), (None, Some(4)));
     }
 }

@@ -10,6 +10,7 @@ use crate::door;
 use crate::expected::{self, Clique, Pattern};
 use crate::problem::*;
 use crate::random::{self, band_pattern, Draws};
+use crate::sides;
 use reference::door::{Prepared, Vars};
 use std::hint::black_box;
 use std::time::Instant;
@@ -420,6 +421,29 @@ fn limits(name: &str, p: &Problem) {
     beside_line(name, "cut between limits", "one compact cut", times);
 }
 
+// as many sides as there may be, beside as many cuts
+fn many_sides(name: &str, p: &Problem) {
+    const SIDES: usize = 64;
+    let Ok(mut lengths) = expected::sizes(Route::Compact, p, 11) else { return };
+    let mut one = door::cut_outputs(&lengths);
+    lengths[7] *= SIDES;
+    let mut all = door::cut_outputs(&lengths);
+    let sides = sides::with_b(p, &p.b.repeat(SIDES));
+    let answers = [added::cut_many(SIDES as u32, &sides, &mut all), door::cut(Route::Compact.code(), p, &mut one)];
+    assert_eq!(answers, [0, 0], "the door refuses {name}");
+    let times = medians([
+        &mut || {
+            black_box(added::cut_many(SIDES as u32, &sides, &mut all));
+        },
+        &mut || {
+            for _ in 0..SIDES {
+                black_box(door::cut(Route::Compact.code(), p, &mut one));
+            }
+        },
+    ]);
+    beside_line(name, "cut of 64 sides", "64 compact cuts", times);
+}
+
 fn requests() {
     println!("\n| input | call | door | beside | time | door / beside |");
     println!("|---|---|---|---|---|---|");
@@ -428,6 +452,9 @@ fn requests() {
         doubled_entries(&name, &p);
         changed_route(&name, &p);
         limits(&name, &p);
+        if name.contains("dense") || p.m < 10 {
+            many_sides(&name, &p);
+        }
     }
 }
 

@@ -238,6 +238,16 @@ fn cut_between(d: &mut Draws, index: u64) -> Case {
     case
 }
 
+fn cut_many(d: &mut Draws, index: u64) -> Case {
+    let p = some_problem_on(d, index);
+    let (count, b) = random::sides(d, &p);
+    let p = sides::with_b(&p, &b);
+    let needs = sides::lengths_many(count, &p).unwrap_or([3; 11]);
+    let rooms = needs.map(|need| some_room(d, need));
+    let answer = sides::cut_many(count, &p, Some(&rooms));
+    cut_case(vec![count, p.n, p.m, p.pattern_count], &p, &rooms, &answer)
+}
+
 fn join(d: &mut Draws, index: u64) -> Case {
     let (route, mut p) = (some_route(d), random::problem(d, random::SMALL));
     if index % 10 == 8 {
@@ -279,7 +289,7 @@ fn join(d: &mut Draws, index: u64) -> Case {
 
 /// Writes a file of `cases` answers for each family into a folder.
 pub fn write(folder: &Path, cases: u64, seed: u64) -> io::Result<()> {
-    let families: [(&str, fn(&mut Draws, u64) -> Case); 7] = [
+    let families: [(&str, fn(&mut Draws, u64) -> Case); 8] = [
         ("renumber", renumber),
         ("check_problem", check_problem),
         ("same_layout", same_layout),
@@ -287,6 +297,7 @@ pub fn write(folder: &Path, cases: u64, seed: u64) -> io::Result<()> {
         ("cut", cut),
         ("join", join),
         ("cut_between", cut_between),
+        ("cut_many", cut_many),
     ];
     for (k, (name, family)) in families.iter().enumerate() {
         let made: Vec<Case> =

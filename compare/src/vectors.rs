@@ -424,10 +424,25 @@ fn limits(run: &mut Run, case: &Json) -> Result<(), String> {
     Ok(())
 }
 
+// a problem whose b holds several right sides, and the cut with all of them
+fn exposures(run: &mut Run, case: &Json) -> Result<(), String> {
+    let (count, p) = (case.get("count")?.number()?, problem(case.get("problem")?)?);
+    let cut = sides::cut_many(count, &p, None);
+    run.answered("cut of many sides", &p, &cut, case.get("answer")?, |cut, stored| {
+        Ok(cut_difference(cut, &stored_cut(stored, cut, "b")?).map(|w| format!("{w} differs")))
+    })?;
+    if door::LINKED {
+        for _ in 0..TIMES {
+            added::compare_many(run.report, run.draws, count, &p);
+        }
+    }
+    Ok(())
+}
+
 // what reads and compares a case of a file
 type Form = fn(&mut Run, &Json) -> Result<(), String>;
 
-const FORMS: [(&str, Form); 7] = [
+const FORMS: [(&str, Form); 8] = [
     ("cases", base),
     ("q-7", |run, case| cuts(run, case, 3)),
     ("q-10", same_layout),
@@ -435,6 +450,7 @@ const FORMS: [(&str, Form); 7] = [
     ("q-4", |run, case| cuts(run, case, MAP_WORDS)),
     ("q-12", changes),
     ("q-8", limits),
+    ("q-1", exposures),
 ];
 
 /// Compares each case of the file, whose name without its ending is one of `FORMS`.

@@ -33,7 +33,7 @@ use std::io::Write;
 use std::time::Instant;
 use tejiwakpa::flat::{self, BetweenOutputs, CutOutputs, JoinOutputs};
 
-const CALLS: [&str; 10] = [
+const CALLS: [&str; 11] = [
     "pair index",
     "pair back",
     "inverse",
@@ -44,6 +44,7 @@ const CALLS: [&str; 10] = [
     "same layout",
     "change of route",
     "cut between",
+    "cut of many",
 ];
 const ROUTES: [Route; 2] = [Route::Standard, Route::Compact];
 
@@ -478,6 +479,28 @@ impl Soak {
         self.judge(9, input, got, want, (&u, &f));
     }
 
+    fn cut_many(&mut self, d: &mut Draws, input: u64, right: &Right) {
+        let short = self.damage(d, right, 11);
+        let (count, sides) = random::sides(d, &self.problem);
+        self.problem.b = sides;
+        if self.exact {
+            fit(&mut self.problem);
+        }
+        let mut lengths = right.rooms[1];
+        lengths[7] *= count.min(66) as usize;
+        lengths.iter_mut().enumerate().for_each(|(k, length)| *length = room(d, *length, k == short));
+        let (mut out, _) = cut_rooms(&mut self.u, &mut self.f, &lengths, 0, self.exact);
+        let got = number(flat::cut_many(count, &tables(&self.problem), &mut out));
+        let sizes = sides::lengths_many(count, &self.problem);
+        let want = match &sizes {
+            Err(number) => *number,
+            Ok(needed) if lengths.iter().zip(needed).any(|(length, needed)| length < needed) => 11,
+            Ok(_) => 0,
+        };
+        let (u, f) = cut_results(&sizes.unwrap_or_default());
+        self.judge(10, input, got, want, (&u, &f[..5]));
+    }
+
     fn same_layout(&mut self, d: &mut Draws, input: u64, right: &Right) {
         let short = self.damage(d, right, 1) == 0;
         copy(&mut self.second, if d.chance(20) { &self.problem } else { &right.problem });
@@ -495,7 +518,7 @@ impl Soak {
     }
 
     fn one(&mut self, d: &mut Draws, input: u64, right: &Right) {
-        match d.below(40) {
+        match d.below(44) {
             0 => self.pair_index(d, input),
             1 => self.pair_back(d, input),
             2..=3 => self.inverse(d, input, right),
@@ -505,7 +528,8 @@ impl Soak {
             21..=28 => self.join(d, input, right),
             29..=31 => self.same_layout(d, input, right),
             32..=35 => self.change_route(d, input, right),
-            _ => self.cut_between(d, input, right),
+            36..=39 => self.cut_between(d, input, right),
+            _ => self.cut_many(d, input, right),
         }
     }
 }

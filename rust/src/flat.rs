@@ -429,6 +429,57 @@ pub fn cut_between(problem: &Tables, low: &[f64], high: &[f64], out: &mut Betwee
     })
 }
 
+/// The augmented problem on the compact route, for `count` right hand sides of m values each, which the problem's b holds
+/// one after another. The output b is as many times as long as the cut's, and holds each side's in turn.
+///
+/// ```
+/// use tejiwakpa::flat::{cut_many, CutOutputs, Tables};
+/// use tejiwakpa::Problem;
+///
+/// let problem = Problem::three_projectors();
+/// let words = problem.words();
+/// let sides = [1.0, 2.0, 3.0, 0.0, 4.0, 5.0, 1.5, 2.5, 3.5, 0.0, 4.5, 5.5];
+/// let (mut p_starts, mut q, mut a_starts) = ([0; 3], [0.0; 2], [0; 3]);
+/// let (mut a_rows, mut a_values, mut b) = ([0; 7], [0.0; 7], [0.0; 12]);
+/// let (mut cones, mut map) = ([0; 6], [0; 10]);
+/// let mut out = CutOutputs {
+///     p_starts: &mut p_starts,
+///     q: &mut q,
+///     a_starts: &mut a_starts,
+///     a_rows: &mut a_rows,
+///     a_values: &mut a_values,
+///     b: &mut b,
+///     cones: &mut cones,
+///     map: &mut map,
+///     ..CutOutputs::default()
+/// };
+/// cut_many(2, &Tables { b: &sides, ..problem.tables(&words) }, &mut out)?;
+/// assert_eq!(b, [3.0, 4.0, 5.0, 1.0, 2.0, 0.0, 3.5, 4.5, 5.5, 1.5, 2.5, 0.0]);
+/// # Ok::<(), tejiwakpa::Refusal>(())
+/// ```
+#[rustfmt::skip]
+pub fn cut_many(count: u32, problem: &Tables, out: &mut CutOutputs) -> Result<(), Refusal> {
+    let (p, o) = (problem, out);
+    // SAFETY: as above.
+    answer(unsafe {
+        c::chordal_cut_many(
+            count, p.n, p.m,
+            p.p_starts.as_ptr(), p.p_starts.len(), p.p_rows.as_ptr(), p.p_rows.len(),
+            p.p_values.as_ptr(), p.p_values.len(), p.q.as_ptr(), p.q.len(),
+            p.a_starts.as_ptr(), p.a_starts.len(), p.a_rows.as_ptr(), p.a_rows.len(),
+            p.a_values.as_ptr(), p.a_values.len(), p.b.as_ptr(), p.b.len(),
+            p.cones.as_ptr(), p.cones.len(), p.alphas.as_ptr(), p.alphas.len(),
+            p.pattern_count, p.pattern_words.as_ptr(), p.pattern_words.len(),
+            o.p_starts.as_mut_ptr(), o.p_starts.len(), o.p_rows.as_mut_ptr(), o.p_rows.len(),
+            o.p_values.as_mut_ptr(), o.p_values.len(), o.q.as_mut_ptr(), o.q.len(),
+            o.a_starts.as_mut_ptr(), o.a_starts.len(), o.a_rows.as_mut_ptr(), o.a_rows.len(),
+            o.a_values.as_mut_ptr(), o.a_values.len(), o.b.as_mut_ptr(), o.b.len(),
+            o.cones.as_mut_ptr(), o.cones.len(), o.alphas.as_mut_ptr(), o.alphas.len(),
+            o.map.as_mut_ptr(), o.map.len(),
+        )
+    })
+}
+
 /// The original problem's solution.
 ///
 /// ```
@@ -625,6 +676,21 @@ mod c {
             a_starts_out: *mut u32, a_starts_out_len: usize, a_rows_out: *mut u32, a_rows_out_len: usize,
             a_values_out: *mut f64, a_values_out_len: usize,
             b_low_out: *mut f64, b_low_out_len: usize, b_high_out: *mut f64, b_high_out_len: usize,
+            cones_out: *mut u32, cones_out_len: usize, alphas_out: *mut f64, alphas_out_len: usize,
+            map_out: *mut u32, map_out_len: usize,
+        ) -> u32;
+        pub fn chordal_cut_many(
+            count: u32, n: u32, m: u32,
+            p_starts: *const u32, p_starts_len: usize, p_rows: *const u32, p_rows_len: usize,
+            p_values: *const f64, p_values_len: usize, q: *const f64, q_len: usize,
+            a_starts: *const u32, a_starts_len: usize, a_rows: *const u32, a_rows_len: usize,
+            a_values: *const f64, a_values_len: usize, b: *const f64, b_len: usize,
+            cones: *const u32, cones_len: usize, alphas: *const f64, alphas_len: usize,
+            pattern_count: u32, pattern_words: *const u32, pattern_words_len: usize,
+            p_starts_out: *mut u32, p_starts_out_len: usize, p_rows_out: *mut u32, p_rows_out_len: usize,
+            p_values_out: *mut f64, p_values_out_len: usize, q_out: *mut f64, q_out_len: usize,
+            a_starts_out: *mut u32, a_starts_out_len: usize, a_rows_out: *mut u32, a_rows_out_len: usize,
+            a_values_out: *mut f64, a_values_out_len: usize, b_out: *mut f64, b_out_len: usize,
             cones_out: *mut u32, cones_out_len: usize, alphas_out: *mut f64, alphas_out_len: usize,
             map_out: *mut u32, map_out_len: usize,
         ) -> u32;

@@ -12,6 +12,7 @@
 //! | [`cut`] | the augmented problem on a [`Route`] |
 //! | [`join`] | the original problem's solution from the augmented one's |
 //! | [`cut_between`] | the compact cut where b is known only within [`Limits`] |
+//! | [`cut_many`] | the compact cut for many right hand sides at once |
 //! | [`change_route`] | a compact solution from a standard one |
 //! | [`same_layout`] | whether what was worked out from one problem's places serves another |
 //!
@@ -72,7 +73,7 @@ pub use cone::Cone;
 pub use pattern::{Clique, Pattern};
 pub use problem::{Columns, Problem, Route, Words};
 pub use refusal::Refusal;
-pub use sides::{cut_between, Limits};
+pub use sides::{cut_between, cut_many, Limits};
 pub use solution::{Augmented, ConeMapEntry, Solution};
 
 // A length as a u32. One that is too long becomes the largest, which is beyond every bound.

@@ -14,7 +14,8 @@ use std::fmt;
 #[repr(u32)]
 pub enum Refusal {
     /// 1: a bound is exceeded: n or m 65,536, entries of A or of P 262,144, cones 1,024, a size in a cone record 65,536,
-    /// a PSD size 256, an index argument 255 (32,895 for the way back); or the route is neither 0 nor 1.
+    /// a PSD size 256, an index argument 255 (32,895 for the way back); or the route is neither 0 nor 1,
+    /// or there are no right hand sides or more than 64.
     Bound = 1,
     /// 2: the starts of A or P are not n + 1 numbers, do not begin at 0, fall, or do not end at the number of values;
     /// or the rows are not as many as the values.

@@ -1,5 +1,5 @@
 use crate::calls::{sizes_of, Buffers};
-use crate::{flat, Augmented, Problem, Refusal, Route};
+use crate::{count, flat, Augmented, Problem, Refusal, Route};
 
 /// A low and a high limit for each value of b, as a survey sheet gives them.
 ///
@@ -71,4 +71,48 @@ pub fn cut_between(problem: &Problem, limits: &Limits) -> Result<(Augmented, Lim
     let augmented = made.augmented();
     let low = augmented.problem.b.clone();
     Ok((augmented, Limits { low, high }))
+}
+
+/// The most right hand sides that [`cut_many`] takes.
+const SIDES: usize = 64;
+
+/// The compact cut of one problem with 1 to 64 right hand sides, its own b being passed over: the augmented problem, whose
+/// b is the first side's, and each side's augmented b in turn. Each is what [`cut`](crate::cut) gives for that side alone,
+/// and where several sides would be refused, so is the call, by the first of them.
+///
+/// ```
+/// use tejiwakpa::{cut_many, Problem, Refusal};
+///
+/// // one marker set under two exposures
+/// let problem = Problem::three_projectors();
+/// let mut exposures = [vec![1.0, 2.0, 3.0, 0.0, 4.0, 5.0], vec![1.5, 2.5, 3.5, 0.0, 4.5, 5.5]];
+/// let (augmented, sides) = cut_many(&problem, &exposures)?;
+/// assert_eq!(sides, [[3.0, 4.0, 5.0, 1.0, 2.0, 0.0], [3.5, 4.5, 5.5, 1.5, 2.5, 0.0]]);
+/// assert_eq!(augmented.problem.b, sides[0]);
+///
+/// exposures[1][3] = 1.0;
+/// assert_eq!(cut_many(&problem, &exposures), Err(Refusal::Uncovered));
+/// assert_eq!(cut_many(&problem, &[]), Err(Refusal::Bound));
+/// # Ok::<(), Refusal>(())
+/// ```
+pub fn cut_many(problem: &Problem, sides: &[Vec<f64>]) -> Result<(Augmented, Vec<Vec<f64>>), Refusal> {
+    let words = problem.words();
+    let tables = problem.tables(&words);
+    let first = sides.first().map_or(&[][..], Vec::as_slice);
+    // where sizes refuses the first side, the call refuses all, in its own order
+    let mut sizes = sizes_of(Route::Compact, &flat::Tables { b: first, ..tables }).unwrap_or_default();
+    let rows = sizes.b;
+    sizes.b *= sides.len().min(SIDES);
+    let mut list: Vec<f64> = sides.iter().take(SIDES).flatten().copied().collect();
+    if sides.iter().any(|side| side.len() != problem.m as usize) && list.len() == sides.len() * problem.m as usize {
+        // lengths that only even out are wrong all the same
+        list.push(0.0);
+    }
+    let mut made = Buffers::new(&sizes);
+    flat::cut_many(count(sides.len()), &flat::Tables { b: &list, ..tables }, &mut made.outputs())?;
+    let all = made.b.clone();
+    made.b.truncate(rows);
+    // without rows each side is empty
+    let each = (0..sides.len()).map(|k| all[k * rows..(k + 1) * rows].to_vec());
+    Ok((made.augmented(), each.collect()))
 }

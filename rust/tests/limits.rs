@@ -1,7 +1,7 @@
 //! Threads with 2 MB of stack, each calling at the limits at the same time as the others.
 //!
-//! Every problem is cut and joined on both routes, and cut with its b as both limits, by every thread; what comes out is
-//! held to document 01's plain reading (compare/src/expected.rs).
+//! Every problem is cut and joined on both routes, cut with its b as both limits, and with its b as each of two sides, by
+//! every thread; what comes out is held to document 01's plain reading (compare/src/expected.rs).
 
 #[allow(dead_code)]
 #[path = "../../compare/src/expected.rs"]
@@ -19,7 +19,7 @@ use lend::{cut_outputs, join_outputs, joining, number, tables};
 use problem::{all_bits, all_same, Columns, Cut, Joined, Problem, Route, Solution, NONE};
 use random::{band_pattern, Draws};
 use std::sync::{Arc, Barrier};
-use tejiwakpa::flat::{self, BetweenOutputs};
+use tejiwakpa::flat::{self, BetweenOutputs, Tables};
 
 const THREADS: usize = 4;
 
@@ -116,6 +116,7 @@ impl Case {
         self.check_join();
         if self.route == Route::Compact {
             self.check_between();
+            self.check_many();
         }
         let tables = tables(&self.problem);
         let answer = number(flat::same_layout(&tables, &tables, &mut [0]));
@@ -168,6 +169,16 @@ impl Case {
         let answer = number(flat::cut_between(&tables(&self.problem), b, b, &mut out));
         self.check_tables("cut between limits", answer, &got);
         assert!(all_bits(&b_high, &got.b), "{}: the high limits", self.name);
+    }
+
+    fn check_many(&self) {
+        let (mut got, b) = (self.cut_room(), self.problem.b.repeat(2));
+        got.b = got.b.repeat(2);
+        let sides = Tables { b: &b, ..tables(&self.problem) };
+        let answer = number(flat::cut_many(2, &sides, &mut cut_outputs(&mut got)));
+        let second = got.b.split_off(got.b.len() / 2);
+        self.check_tables("cut of two sides", answer, &got);
+        assert!(all_bits(&second, &got.b), "{}: the second side", self.name);
     }
 
     fn check_join(&self) {

@@ -3,6 +3,7 @@
 mod change_routes;
 mod cut;
 mod cut_between;
+mod cut_many;
 mod inverse;
 mod join;
 mod pair_back;
@@ -14,6 +15,7 @@ mod sizes;
 pub use change_routes::chordal_change_route;
 pub use cut::chordal_cut;
 pub use cut_between::chordal_cut_between;
+pub use cut_many::chordal_cut_many;
 pub use inverse::chordal_inverse;
 pub use join::chordal_join;
 pub use pair_back::chordal_pair_back;

@@ -1,20 +1,28 @@
 -- The order of checks: where nothing is refused every check passes, and checks made in groups.
-use Prim.Native.Nat.{ℕ, zero, suc}
+use Prim.Native.Nat.{ℕ, zero, suc, _+_, _<_, zero-le, suc-le-suc}
+use native.Mathlib.Nat.{le-of-suc-le-suc, not-suc-le-zero}
 use native.Mathlib.Omega.{arith}
-use mathlib.Core.Path.{_≡_, refl, subst, ap}
-use mathlib.Core.Logic.{_↔_}
+use mathlib.Core.Path.{_≡_, refl, subst, sym, ap, _∙_}
+use mathlib.Core.Logic.{_↔_, inl, inr}
 use mathlib.Core.Bool.{Bool, true, false, not, cond, _&&_}
 use mathlib.Core.List.{List, [], _∷_, _++_}
 use lib.Dec.{T, eqb}
+use Rattle.layout.specs.Lists.{has, all, upFrom, join}
 use Rattle.layout.specs.Checks.{Check, check, firstFailing}
 use Rattle.layout.specs.Answers.{orElse}
 use Rattle.layout.proofs.Tests.{and-iff, eqb-iff}
+use Rattle.layout.proofs.Members.{has-cons}
 
 -- ---- one number or another
 
 pub orElse-zero : (a b : ℕ) → (orElse a b ≡ 0) ↔ ((a ≡ 0) × (b ≡ 0))
 orElse-zero zero b = (λ e. (refl, e), λ h. h .1)
 orElse-zero (suc a) b = (λ e. absurd (omega arith), λ h. absurd (omega arith))
+
+-- only a first number that is 0 lets the second count
+pub orElse-same : (a b c : ℕ) → (a ≡ 0 → b ≡ c) → orElse a b ≡ orElse a c
+orElse-same zero b c h = h refl
+orElse-same (suc a) b c h = refl
 
 -- ---- checks in order
 
@@ -79,3 +87,73 @@ failing-append [] ds h = refl
 failing-append (check zero b ∷ cs) ds h = absurd h
 failing-append (check (suc k) true ∷ cs) ds h = failing-append cs ds h
 failing-append (check (suc k) false ∷ cs) ds h = refl
+
+-- ---- a group for each number
+
+module _ (f : ℕ → List Check) (right : (k : ℕ) → T (numbered (f k))) where
+  group : (k : ℕ) (ks : List ℕ) → firstFailing (join f (k ∷ ks)) ≡ orElse (firstFailing (f k)) (firstFailing (join f ks))
+  group k ks = failing-append (f k) (join f ks) (right k)
+
+  -- nothing is refused where no group refuses
+  pub failing-each : (ks : List ℕ) → (firstFailing (join f ks) ≡ 0) ↔ ((k : ℕ) → T (has k ks) → firstFailing (f k) ≡ 0)
+  failing-each [] = (λ e k h. absurd h, λ h. refl)
+  failing-each (k ∷ ks) = (
+    λ e j h.
+        let both = orElse-zero (firstFailing (f k)) (firstFailing (join f ks)) .0 (sym (group k ks) ∙ e) in
+        elim (has-cons j k ks .0 h) [
+          | inl q ↦ ap (λ (i : ℕ). firstFailing (f i)) q ∙ both .0
+          | inr l ↦ failing-each ks .0 (both .1) j l
+        ],
+    λ h.
+        group k ks ∙ orElse-zero (firstFailing (f k)) (firstFailing (join f ks)) .1
+        (h k (has-cons k k ks .1 (inl refl)), failing-each ks .1 (λ j l. h j (has-cons j k ks .1 (inr l)))),
+  )
+
+  -- and otherwise the number is that of a group before which none refuses
+  pub failing-first : (a c : ℕ) → ¬ (firstFailing (join f (upFrom a c)) ≡ 0)
+      → (k : ℕ) × (k < c) × (firstFailing (f (a + k)) ≡ firstFailing (join f (upFrom a c)))
+      × ((j : ℕ) → j < k → firstFailing (f (a + j)) ≡ 0)
+  failing-first a zero n = absurd (n refl)
+  failing-first a (suc c) n = go (firstFailing (f a)) refl (λ m. failing-first (suc a) c m)
+    where
+      front : (i : ℕ) → i ≡ 0 → a + i ≡ a
+      front i e = omega arith
+
+      back : (i : ℕ) → a + suc i ≡ suc a + i
+      back i = omega arith
+
+      at : (i j : ℕ) → i ≡ j → firstFailing (f i) ≡ firstFailing (f j)
+      at i j e = ap (λ (k : ℕ). firstFailing (f k)) e
+
+      whole : (r : ℕ) → firstFailing (f a) ≡ r → firstFailing (join f (upFrom a (suc c))) ≡ orElse r (firstFailing (join f (upFrom (suc a) c)))
+      whole r e = group a (upFrom (suc a) c) ∙ ap (λ (k : ℕ). orElse k (firstFailing (join f (upFrom (suc a) c)))) e
+
+      earlier : (k : ℕ) → firstFailing (f a) ≡ 0 → ((j : ℕ) → j < k → firstFailing (f (suc a + j)) ≡ 0)
+          → (j : ℕ) → j < suc k → firstFailing (f (a + j)) ≡ 0
+      earlier k e h zero l = at (a + 0) a (front 0 refl) ∙ e
+      earlier k e h (suc j) l = at (a + suc j) (suc a + j) (back j) ∙ h j (le-of-suc-le-suc l)
+
+      go : (r : ℕ) → firstFailing (f a) ≡ r
+          → (¬ (firstFailing (join f (upFrom (suc a) c)) ≡ 0)
+          → (k : ℕ) × (k < c) × (firstFailing (f (suc a + k)) ≡ firstFailing (join f (upFrom (suc a) c)))
+          × ((j : ℕ) → j < k → firstFailing (f (suc a + j)) ≡ 0))
+          → (k : ℕ) × (k < suc c) × (firstFailing (f (a + k)) ≡ firstFailing (join f (upFrom a (suc c))))
+          × ((j : ℕ) → j < k → firstFailing (f (a + j)) ≡ 0)
+      go zero e later =
+          let (k, l, g, h) = later (λ z. n (whole 0 e ∙ z)) in
+          (suc k, suc-le-suc l, at (a + suc k) (suc a + k) (back k) ∙ g ∙ sym (whole 0 e), earlier k e h)
+      go (suc r) e later =
+          (0, suc-le-suc zero-le, at (a + 0) a (front 0 refl) ∙ e ∙ sym (whole (suc r) e), λ j l. absurd (not-suc-le-zero l))
+
+  -- where each group refuses nothing or n by a test, all tests together
+  pub failing-tests : (n : ℕ) (test : ℕ → Bool) (ks : List ℕ) → ((k : ℕ) → T (has k ks) → firstFailing (f k) ≡ cond (test k) 0 (suc n))
+      → firstFailing (join f ks) ≡ cond (all test ks) 0 (suc n)
+  failing-tests n test [] h = refl
+  failing-tests n test (k ∷ ks) h =
+      group k ks ∙ ap (λ (r : ℕ). orElse r (firstFailing (join f ks))) (h k (has-cons k k ks .1 (inl refl)))
+      ∙ go (test k) (failing-tests n test ks (λ j l. h j (has-cons j k ks .1 (inr l))))
+    where
+      go : (b : Bool) → firstFailing (join f ks) ≡ cond (all test ks) 0 (suc n)
+          → orElse (cond b 0 (suc n)) (firstFailing (join f ks)) ≡ cond (b && all test ks) 0 (suc n)
+      go true e = e
+      go false e = refl

@@ -6,6 +6,7 @@ pub mod Sizes
 pub mod Cut
 pub mod CutEntries
 pub mod CutBetween
+pub mod CutMany
 pub mod Join
 pub mod JoinEntries
 pub mod SameLayout

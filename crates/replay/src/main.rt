@@ -88,6 +88,8 @@ const CUT: u8 = 7;
 
 const CUT_BETWEEN: u8 = 9;
 
+const CUT_MANY: u8 = 10;
+
 // The second problem's lists follow the first one's.
 fn same_layout<'a>(
     given: &'a [u32],
@@ -209,7 +211,95 @@ fn cut_answer<'a>(
     r
 }
 
+// The cut on a route, or of many sides.
+fn call_cut<'a>(
+    family: u8,
+    given: &'a [u32],
+    p_starts: &'a [u32],
+    p_rows: &'a [u32],
+    p_values: &'a [f64],
+    q: &'a [f64],
+    a_starts: &'a [u32],
+    a_rows: &'a [u32],
+    a_values: &'a [f64],
+    b: &'a [f64],
+    cones: &'a [u32],
+    alphas: &'a [f64],
+    pattern: &'a [u32],
+    p_starts_out: &mut [u32],
+    p_rows_out: &mut [u32],
+    p_values_out: &mut [f64],
+    q_out: &mut [f64],
+    a_starts_out: &mut [u32],
+    a_rows_out: &mut [u32],
+    a_values_out: &mut [f64],
+    b_out: &mut [f64],
+    cones_out: &mut [u32],
+    alphas_out: &mut [f64],
+    map_out: &mut [u32],
+) -> u32 {
+    match family {
+        CUT => door::chordal_cut(
+            item(given, 0),
+            item(given, 1),
+            item(given, 2),
+            p_starts,
+            p_rows,
+            p_values,
+            q,
+            a_starts,
+            a_rows,
+            a_values,
+            b,
+            cones,
+            alphas,
+            item(given, 3),
+            pattern,
+            p_starts_out,
+            p_rows_out,
+            p_values_out,
+            q_out,
+            a_starts_out,
+            a_rows_out,
+            a_values_out,
+            b_out,
+            cones_out,
+            alphas_out,
+            map_out,
+        ),
+        _ => door::chordal_cut_many(
+            item(given, 0),
+            item(given, 1),
+            item(given, 2),
+            p_starts,
+            p_rows,
+            p_values,
+            q,
+            a_starts,
+            a_rows,
+            a_values,
+            b,
+            cones,
+            alphas,
+            item(given, 3),
+            pattern,
+            p_starts_out,
+            p_rows_out,
+            p_values_out,
+            q_out,
+            a_starts_out,
+            a_rows_out,
+            a_values_out,
+            b_out,
+            cones_out,
+            alphas_out,
+            map_out,
+        ),
+    }
+}
+
 fn cut<'a>(
+    family: u8,
     given: &'a [u32],
     p_starts: &'a [u32],
     p_rows: &'a [u32],
@@ -236,10 +326,9 @@ fn cut<'a>(
     let mut cones_out = [0u32; 4096];
     let mut alphas_out = [0f64; 4096];
     let mut map_out = [0u32; 4096];
-    let r = door::chordal_cut(
-        item(given, 0),
-        item(given, 1),
-        item(given, 2),
+    let r = call_cut(
+        family,
+        given,
         p_starts,
         p_rows,
         p_values,
@@ -250,7 +339,6 @@ fn cut<'a>(
         b,
         cones,
         alphas,
-        item(given, 3),
         pattern,
         words_room(&mut p_starts_out, words, 8),
         words_room(&mut p_rows_out, words, 9),
@@ -441,6 +529,7 @@ fn call_on_problem<'a>(
             values,
         ),
         _ => cut(
+            family,
             given,
             p_starts,
             p_rows,
@@ -586,4 +675,5 @@ fn main() {
     replay(b"cut", CUT, 1);
     replay(b"join", JOIN, 1);
     replay(b"cut_between", CUT_BETWEEN, 1);
+    replay(b"cut_many", CUT_MANY, 1);
 }

@@ -1,3 +1,4 @@
 pub mod Laws
 pub mod Limits
+pub mod Many
 pub mod Written

@@ -18,12 +18,16 @@ use Rattle.layout.specs.Answers.{Augmented, lengths, orElse, output, roomy, siz
 use Rattle.layout.proofs.Tests.{and-iff, leb-iff}
 use Rattle.layout.proofs.Accepted.{accepted-sound, accepted-checked}
 use Rattle.layout.proofs.Buffers.{output-kept}
+use Rattle.layout.proofs.Joins.{join-same}
 use Rattle.layout.proofs.Members.{has-below}
 use Rattle.layout.proofs.Promises.{objective-kept, constrained-kept, Taken}
 use Rattle.layout.specs.Between.{limitsFailing, limitsSizes, limitsRefusal}
 use Rattle.layout.specs.Calls.CutBetween.{Limits, limitsRooms, CutBetween}
+use Rattle.layout.specs.Sides.{side, withSide, sidesFailing, sidesB, augmentedSides, sidesRefusal}
+use Rattle.layout.specs.Calls.CutMany.{CutMany}
 use Rattle.layout.proofs.Order.{passed, orElse-zero}
 use Rattle.layout.proofs.Between.{limits-iff, limits-sizes}
+use Rattle.layout.proofs.Sides.{SidesFit, side-part, sides-iff, sides-sizes, length-sidesB}
 use Rattle.codes.specs.Codes.{cutCode, RowsInside}
 use Rattle.codes.proofs.Rows.{accepted-inside}
 use Rattle.sparsevector.specs.Values.{codeValue}
@@ -102,3 +106,103 @@ module _ (p : Problem) (low high : List Float) (out : Limits) (done : limitsRefu
       (append-nil (map (codeValue (part (0 * p .m) (0 * p .m + p .m) high)) codes)
       ∙ ap (λ (b : List Float). map (codeValue b) codes) (only-side (p .m) high (accepted-checked compact (withB p high) high-accepted .lengthB))
       ∙ compact-values (withB p high) high-accepted)
+
+-- ---- many sides
+
+pub many-refused : (r : ℕ) → (r ≡ 0 → ⊥) → (count : ℕ) (p : Problem) (before : Augmented)
+    → r ≡ sidesRefusal p count (p .b) (lengths before) → CutMany count p before before r
+many-refused r n count p before e = record {
+  number = e;
+  tables = record { objective = objective-kept r n _ _; constrained = constrained-kept r n _ _; map = output-kept r _ _ n };
+}
+
+-- the room of each output, and of those of which one needs less
+room-at : (i : ℕ) (ks rs : List ℕ) → T (roomy ks rs) → i < length ks → getD ks i 0 ≤ getD rs i 0
+room-at i [] rs h l = absurd (omega (arith, l))
+room-at i (k ∷ ks) [] h l = absurd h
+room-at zero (k ∷ ks) (r ∷ rs) h l = leb-iff k r .0 (and-iff (leb k r) (roomy ks rs) .0 h .0)
+room-at (suc i) (k ∷ ks) (r ∷ rs) h l = room-at i ks rs (and-iff (leb k r) (roomy ks rs) .0 h .1) (omega (arith, l))
+
+less-room : (i more : ℕ) (ks rs : List ℕ) → getD ks i 0 ≤ more → T (roomy (set ks i more) rs) → T (roomy ks rs)
+less-room i more [] rs h t = tt
+less-room zero more (k ∷ ks) [] h t = t
+less-room zero more (k ∷ ks) (r ∷ rs) h t =
+    let (here, rest) = and-iff (leb more r) (roomy ks rs) .0 t in
+    and-iff (leb k r) (roomy ks rs) .1 (leb-iff k r .1 (omega (arith, h, leb-iff more r .0 here)), rest)
+less-room (suc i) more (k ∷ ks) [] h t = t
+less-room (suc i) more (k ∷ ks) (r ∷ rs) h t =
+    let (here, rest) = and-iff (leb k r) (roomy (set ks i more) rs) .0 t in
+    and-iff (leb k r) (roomy ks rs) .1 (here, less-room i more ks rs h rest)
+
+-- a longer list written over a shorter one
+written-over : {A : Type 0} (xs ys old : List A) → length ys ≤ length xs → written xs (written ys old) ≡ written xs old
+written-over {A = A} xs ys old l =
+    let e : length xs ≡ length ys + (length xs - length ys) = omega (arith, l) in
+    ap (λ (r : List A). xs ++ r)
+    (ap (λ (k : ℕ). drop k (ys ++ drop (length ys) old)) e
+    ∙ drop-append-add ys (drop (length ys) old) (length xs - length ys)
+    ∙ drop-drop (length xs - length ys) (length ys) old
+    ∙ ap (λ (k : ℕ). drop k old) (sym e))
+
+module _ (count : ℕ) (p : Problem) (out : Augmented) (done : sidesRefusal p count (p .b) (lengths out) ≡ 0) where
+  abbrev first : Problem
+  first = withSide p (p .b) 0
+
+  abbrev sidesRoom : ℕ
+  sidesRoom = cond (roomy (lengths (augmentedSides p count (p .b))) (lengths out)) 0 11
+
+  both : (sidesFailing p count (p .b) ≡ 0) × (sidesRoom ≡ 0)
+  both = orElse-zero (sidesFailing p count (p .b)) sidesRoom .0 done
+
+  pub fit : SidesFit (p .m) count (p .b)
+  fit = sides-iff p count (p .b) .0 (both .0) .0
+
+  each : (k : ℕ) → k < count → refusal compact (withSide p (p .b) k) ≡ 0
+  each = sides-iff p count (p .b) .0 (both .0) .1
+
+  pub first-accepted : refusal compact (withSide p (p .b) 0) ≡ 0
+  first-accepted = each 0 (fit .some)
+
+  sides-room : T (roomy (set (sizes compact first) 7 (count * length (compactB first))) (lengths out))
+  sides-room =
+      subst (λ (ks : List ℕ). T (roomy ks (lengths out))) (sides-sizes p count (p .b))
+      (told (roomy (lengths (augmentedSides p count (p .b))) (lengths out)) 10 (both .1))
+
+  pub first-taken : Taken compact (withSide p (p .b) 0) (lengths out)
+  first-taken =
+      let x = length (compactB first) in
+      let more : 1 * x ≤ count * x = mul-le-mul-right x (fit .some) in
+      (first-accepted, less-room 7 (count * x) (sizes compact first) (lengths out) (omega (arith, more)) sides-room)
+
+  -- the first side is inside the list
+  pub first-inside : p .m ≤ length (p .b)
+  first-inside = let more : 1 * p .m ≤ count * p .m = mul-le-mul-right (p .m) (fit .some) in omega (arith, more, fit .filled)
+
+  -- what the writer of the sides asks
+  pub sides-asked : (k : ℕ) → k ≡ blockRowCount (layout p)
+      → (k ≤ 262144) × ((count * k ≤ length (out .b)) × (count * p .m ≤ length (p .b)) × RowsInside (p .m) (map cutCode (compactRows (layout p))))
+  sides-asked k e =
+      let x = length (compactB first) in
+      let room : count * x ≤ length (out .b) = room-at 7 (set (sizes compact first) 7 (count * x)) (lengths out) sides-room (lit< tt) in
+      let same : k ≡ x = e ∙ sym (rows-of-b first first-accepted) in (
+        omega (arith, e, few-rows first first-accepted),
+        (subst (λ (j : ℕ). count * j ≤ length (out .b)) (sym same) room, le-of-eq (sym (fit .filled)), inside first first-accepted),
+      )
+
+  -- and writes, over the first side's b
+  moved-sides : movedSides (p .m) (map cutCode (compactRows (layout p))) (p .b) count ≡ sidesB p count (p .b)
+  moved-sides =
+      let codes = map cutCode (compactRows (layout p)) in
+      join-same (λ k. map (codeValue (part (k * p .m) (k * p .m + p .m) (p .b))) codes) (λ k. compactB (withSide p (p .b) k)) (below count) (λ k h.
+      ap (λ (b : List Float). map (codeValue b) codes) (sym (side-part (p .m) k (p .b))) ∙ compact-values (withSide p (p .b) k) (each k (has-below k count .0 h)))
+
+  pub sides-written : (old : List Float) {mid new : List Float} → mid ≡ written (compactB (withSide p (p .b) 0)) old
+      → new ≡ written (movedSides (p .m) (map cutCode (compactRows (layout p))) (p .b) count) mid → new ≡ written (sidesB p count (p .b)) old
+  sides-written old v w =
+      let x = length (compactB first) in
+      let more : 1 * x ≤ count * x = mul-le-mul-right x (fit .some) in
+      let size : length (sidesB p count (p .b)) ≡ count * length (compactRows (layout p)) = length-sidesB p count (p .b) in
+      let one : x ≡ length (compactRows (layout p)) = length-map (compactRows (layout p)) (rowValue (side (p .m) 0 (p .b))) in
+      let times : count * x ≡ count * length (compactRows (layout p)) = ap (λ (j : ℕ). count * j) one in
+      w ∙ ap₂ (λ (vs us : List Float). written vs us) moved-sides v
+      ∙ written-over (sidesB p count (p .b)) (compactB first) old (omega (arith, more, size, times))

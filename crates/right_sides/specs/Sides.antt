@@ -27,3 +27,7 @@ TablesFew n p alphas starts rows = (p ≤ 262144) × (alphas ≤ 65536) × Colum
 abbrev pub limitsOrder : ℕ → ℕ → List Float → List Float → ℕ
 limitsOrder r m low high =
     orElse (cond (leb r 4) r 0) (orElse (cond (eqb (length high) m) 0 4) (orElse (cond (atMost low high) 0 16) r))
+
+-- checks 1 to 7 of count sides in a list of this size, where those of the first side alone gave r
+abbrev pub sidesOrder : ℕ → ℕ → ℕ → ℕ → ℕ
+sidesOrder r m count size = orElse (cond (leb r 3) r 0) (orElse (cond (eqb size (count * m)) 0 4) r)

@@ -2,8 +2,8 @@
 ghost use mathlib.Core.Path.{_≡_};
 ghost use mathlib.Core.Bool.{cond};
 ghost use mathlib.Core.List.{map};
-ghost use Prim.Native.Nat.{_*_, _≤_};
-ghost use lib.ListN.{length, getD};
+ghost use Prim.Native.Nat.{_*_, _≤_, _<_};
+ghost use lib.ListN.{length, getD, set};
 ghost use lib.Dec.{leb, eqb};
 ghost use Rattle.layout.specs.Lists.{written};
 ghost use Rattle.layout.specs.Problem.{problem, compact};
@@ -13,7 +13,8 @@ ghost use Rattle.layout.specs.Answers.{orElse, joinedParts, roomy};
 ghost use Rattle.layout.specs.Between.{atMost, limitsRefusal};
 ghost use Rattle.codes.specs.Codes.{cutCode, RowsInside};
 ghost use Rattle.chordal_info.specs.Sizes.{entriesKept, routeSizes, Fitting};
-ghost use Rattle.right_sides.specs.Sides.{movedSides, withAnother, TablesFew, limitsOrder};
+ghost use Rattle.layout.specs.Sides.{side, sidesRefusal};
+ghost use Rattle.right_sides.specs.Sides.{movedSides, withAnother, TablesFew, limitsOrder, sidesOrder};
 use tables::Table;
 
 // The compact route.
@@ -21,6 +22,9 @@ const COMPACT: u32 = 1;
 
 // Where b stands among the outputs of a cut.
 const RIGHT_SIDE: usize = 7;
+
+// How many right sides one call takes.
+const MOST_SIDES: u32 = 64;
 
 // ---- b of each side
 
@@ -350,4 +354,170 @@ pub fn refuse_between(
         &mut needs,
     );
     check_limits_rooms(&needs, rooms, high_room)
+}
+
+// ---- many right sides
+
+// Checks 1 to 7 of many sides, where those of the first side alone gave the number r: the length of the whole list belongs to 4.
+fn refuse_lengths(r: u32, m: u32, count: u32, size: usize) -> u32
+    requires { ⌜ count ≤ 64 ⌝ }
+    ensures { λ t. ⌜ t ≡ sidesOrder r m count size ⌝ }
+{
+    let early = up_to(r, 3);
+    if early != 0 {
+        return early;
+    }
+    if size != count as usize * m as usize {
+        return 4;
+    }
+    r
+}
+
+// Check 11 of many sides: b needs its length in a single cut once for each side.
+fn check_sides_rooms(needs: &mut [u32], count: u32, rooms: &[usize]) -> u32
+    requires { ⌜ (8 ≤ length (now needs)) × (count * getD (now needs) 7 0 < 4294967296) ⌝ }
+    ensures { λ r. ⌜ r ≡ cond (roomy (set (now (needs .entry)) 7 (count * getD (now (needs .entry)) 7 0)) (now (rooms .entry))) 0 11 ⌝ }
+{
+    needs[RIGHT_SIDE] = count * needs[RIGHT_SIDE];
+    utils::check_rooms(needs, rooms)
+}
+
+// Checks 1 to 11 of 1 to 64 sides in order, the first of which is lent by itself too: of a further side only check 9 looks at the values.
+fn refuse_sides(
+    count: u32,
+    n: u32,
+    m: u32,
+    p_starts: &[u32],
+    p_rows: &[u32],
+    p_values: &[f64],
+    q: &[f64],
+    a_starts: &[u32],
+    a_rows: &[u32],
+    a_values: &[f64],
+    first: &[f64],
+    sides: &[f64],
+    cones: &[u32],
+    alphas: &[f64],
+    pattern_count: u32,
+    words: &[u32],
+    rooms: &[usize],
+) -> u32
+    requires { ⌜ (1 ≤ count) × (count ≤ 64) × (now first ≡ side m 0 (now sides)) ⌝ }
+    ensures { λ r.
+        let p = problem n m (now («p_starts» .entry)) (now («p_rows» .entry)) (now («p_values» .entry)) (now (q .entry)) (now («a_starts» .entry)) (now («a_rows» .entry)) (now («a_values» .entry)) (now (sides .entry)) (now (cones .entry)) (now (alphas .entry)) «pattern_count» (now (words .entry)) in
+        ⌜ r ≡ sidesRefusal p count (now (sides .entry)) (now (rooms .entry)) ⌝ }
+{
+    let r = checks::check_problem(
+        n,
+        m,
+        p_starts,
+        p_rows,
+        p_values,
+        q,
+        a_starts,
+        a_rows,
+        a_values,
+        first,
+        cones,
+        alphas,
+        pattern_count,
+        words,
+    );
+    let t = refuse_lengths(r, m, count, sides.len());
+    if t != 0 {
+        return t;
+    }
+    let d = parts::get_decomposed_dim_and_overlaps(m, cones, pattern_count, words);
+    let c = covered_rows::sides_right(
+        m,
+        cones,
+        pattern_count,
+        words,
+        a_rows,
+        first,
+        sides,
+        1,
+        count,
+    );
+    let rows_refused = chordal_info::rows_refusal(COMPACT, m, d.rows, d.overlaps);
+    let u = first_of(nine(c.first), rows_refused);
+    if u != 0 {
+        return u;
+    }
+    let mut needs = [0u32; 11];
+    cut_needs(
+        n,
+        m,
+        p_values,
+        a_starts,
+        a_rows,
+        alphas,
+        d.rows,
+        d.overlaps,
+        d.cones,
+        &mut needs,
+    );
+    let room = check_sides_rooms(&mut needs, count, rooms);
+    first_of(nine(c.further), room)
+}
+
+// How long the first side is in a list of this size: m, or less where the list is shorter.
+fn first_size(m: u32, size: usize) -> usize
+    ensures { λ r. ⌜ r ≡ cond (leb m size) m size ⌝ }
+{
+    if m as usize <= size {
+        return m as usize;
+    }
+    size
+}
+
+// Checks 1 to 11 of the cut with many sides in order: the number of the first that fails, or 0.
+pub fn refuse_many(
+    count: u32,
+    n: u32,
+    m: u32,
+    p_starts: &[u32],
+    p_rows: &[u32],
+    p_values: &[f64],
+    q: &[f64],
+    a_starts: &[u32],
+    a_rows: &[u32],
+    a_values: &[f64],
+    sides: &[f64],
+    cones: &[u32],
+    alphas: &[f64],
+    pattern_count: u32,
+    words: &[u32],
+    rooms: &[usize],
+) -> u32
+    ensures { λ r.
+        let p = problem n m (now («p_starts» .entry)) (now («p_rows» .entry)) (now («p_values» .entry)) (now (q .entry)) (now («a_starts» .entry)) (now («a_rows» .entry)) (now («a_values» .entry)) (now (sides .entry)) (now (cones .entry)) (now (alphas .entry)) «pattern_count» (now (words .entry)) in
+        ⌜ r ≡ sidesRefusal p count (now (sides .entry)) (now (rooms .entry)) ⌝ }
+{
+    if count < 1 {
+        return 1;
+    }
+    if MOST_SIDES < count {
+        return 1;
+    }
+    let size = first_size(m, sides.len());
+    refuse_sides(
+        count,
+        n,
+        m,
+        p_starts,
+        p_rows,
+        p_values,
+        q,
+        a_starts,
+        a_rows,
+        a_values,
+        &sides[..size],
+        sides,
+        cones,
+        alphas,
+        pattern_count,
+        words,
+        rooms,
+    )
 }
