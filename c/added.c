@@ -65,10 +65,27 @@ static int cut_many(void) {
     return right & (refusal == CHORDAL_CONES);
 }
 
+/* two passes over one dome: the second's rows follow the first's, and its pattern names cone 1 */
+static int pool(void) {
+    static const double second_b[M] = {2, 3, 4, 0, 5, 6};
+    static const uint32_t want_rows[] = {0, 1, 2, 4, 5, 6, 7, 8, 10, 11};
+    uint32_t starts[2], rows[10], p_starts_pooled[2], cones_pooled[6], words[2 * sizeof pattern_words / sizeof(uint32_t)];
+    double a_pooled[10], q_pooled[N], b_pooled[2 * M];
+    uint32_t refusal = chordal_pool(PROBLEM, BEFORE_B, ALL(second_b), AFTER_B, ALL(p_starts_pooled), p_rows_out, 0,
+                                    p_values_out, 0, ALL(q_pooled), ALL(starts), ALL(rows), ALL(a_pooled), ALL(b_pooled),
+                                    ALL(cones_pooled), alphas_out, 0, ALL(words));
+    if (!done("pooling", refusal)) return 0;
+    print_values("b", b_pooled, 2 * M);
+    return (starts[1] == 10) & (memcmp(rows, want_rows, sizeof rows) == 0) & equal("first b", b_pooled, b, M) &
+           equal("second b", b_pooled + M, second_b, M) & (words[0] == 0) &
+           (words[sizeof pattern_words / sizeof(uint32_t)] == 1);
+}
+
 int main(void) {
     int right = change_route();
     right &= cut_between();
     right &= cut_many();
+    right &= pool();
     printf(right ? "all as it must be\n" : "something is wrong\n");
     return right ? EXIT_SUCCESS : EXIT_FAILURE;
 }

@@ -2,7 +2,7 @@
 use std::path::PathBuf;
 use std::{env, fs};
 
-const CALLS: [&str; 11] = [
+const CALLS: [&str; 12] = [
     "chordal_pair_index",
     "chordal_pair_back",
     "chordal_inverse",
@@ -14,6 +14,7 @@ const CALLS: [&str; 11] = [
     "chordal_change_route",
     "chordal_cut_between",
     "chordal_cut_many",
+    "chordal_pool",
 ];
 
 fn main() {

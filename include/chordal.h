@@ -42,7 +42,8 @@ enum chordal_refusal {
     CHORDAL_TOO_LARGE = 10,  /* more than 262,144 augmented rows or, compact, 131,072 overlaps */
     CHORDAL_SHORT = 11,      /* an output is too short */
     CHORDAL_SOLUTION = 12,   /* a solution's lengths, or the cone map, are not those that the problem gives */
-    CHORDAL_LIMITS = 16      /* a low limit above its high one, or a NaN in either; comes after 4 */
+    CHORDAL_LIMITS = 16,     /* a low limit above its high one, or a NaN in either; comes after 4 */
+    CHORDAL_UNKNOWNS = 17    /* two problems to be pooled have different n; comes after both have passed 1 to 7 */
 };
 
 /* out[0]: the index of the pair (i, j) in the packed upper triangle. Refusals 1, 11. */
@@ -150,6 +151,33 @@ uint32_t chordal_cut_many(
     double *a_values_out, size_t a_values_out_len, double *b_out, size_t b_out_len,
     uint32_t *cones_out, size_t cones_out_len, double *alphas_out, size_t alphas_out_len,
     uint32_t *map_out, size_t map_out_len);
+
+/* The tables of the pooled problem of two passes that share their unknowns: A over A, b over b, cones, alphas and patterns
+ * in turn, with the second's orig_index raised by the first's cone count; P and q are the first's. Its n is theirs; its m,
+ * cone count and pattern count are the sums. The outputs are as long as both problems' tables together, save that P's, q
+ * and A's starts are as long as the first's. Refusals 1 to 7 of the first, of the second, 17, 1 (the pool exceeds a
+ * bound), 11. */
+uint32_t chordal_pool(
+    uint32_t n, uint32_t m,
+    const uint32_t *p_starts, size_t p_starts_len, const uint32_t *p_rows, size_t p_rows_len,
+    const double *p_values, size_t p_values_len, const double *q, size_t q_len,
+    const uint32_t *a_starts, size_t a_starts_len, const uint32_t *a_rows, size_t a_rows_len,
+    const double *a_values, size_t a_values_len, const double *b, size_t b_len,
+    const uint32_t *cones, size_t cones_len, const double *alphas, size_t alphas_len,
+    uint32_t pattern_count, const uint32_t *pattern_words, size_t pattern_words_len,
+    uint32_t n2, uint32_t m2,
+    const uint32_t *p_starts2, size_t p_starts2_len, const uint32_t *p_rows2, size_t p_rows2_len,
+    const double *p_values2, size_t p_values2_len, const double *q2, size_t q2_len,
+    const uint32_t *a_starts2, size_t a_starts2_len, const uint32_t *a_rows2, size_t a_rows2_len,
+    const double *a_values2, size_t a_values2_len, const double *b2, size_t b2_len,
+    const uint32_t *cones2, size_t cones2_len, const double *alphas2, size_t alphas2_len,
+    uint32_t pattern_count2, const uint32_t *pattern_words2, size_t pattern_words2_len,
+    uint32_t *p_starts_out, size_t p_starts_out_len, uint32_t *p_rows_out, size_t p_rows_out_len,
+    double *p_values_out, size_t p_values_out_len, double *q_out, size_t q_out_len,
+    uint32_t *a_starts_out, size_t a_starts_out_len, uint32_t *a_rows_out, size_t a_rows_out_len,
+    double *a_values_out, size_t a_values_out_len, double *b_out, size_t b_out_len,
+    uint32_t *cones_out, size_t cones_out_len, double *alphas_out, size_t alphas_out_len,
+    uint32_t *pattern_words_out, size_t pattern_words_out_len);
 
 /* out[0]: 1 where two problems agree in n, m, cone records, pattern words, alphas, and the starts and rows of A and of P, else 0.
  * Alphas are compared bit by bit: +0.0 and -0.0 differ; one NaN is not told from another. Where it is 1 and a route accepts both

@@ -4,7 +4,7 @@ use std::path::{Path, PathBuf};
 use std::process::Command;
 use std::{env, fs};
 
-const CALLS: [&str; 11] = [
+const CALLS: [&str; 12] = [
     "chordal_pair_index",
     "chordal_pair_back",
     "chordal_inverse",
@@ -16,6 +16,7 @@ const CALLS: [&str; 11] = [
     "chordal_change_route",
     "chordal_cut_between",
     "chordal_cut_many",
+    "chordal_pool",
 ];
 
 fn main() {

@@ -7,6 +7,7 @@ use crate::change_route;
 use crate::door::*;
 use crate::exact::Exact;
 use crate::expected::{self, join_input, JoinInput};
+use crate::pool;
 use crate::problem::*;
 use crate::random::Draws;
 use crate::report::*;
@@ -143,6 +144,80 @@ mod c {
             alphas_out_len: usize,
             map_out: *mut u32,
             map_out_len: usize,
+        ) -> u32;
+        pub fn chordal_pool(
+            n: u32,
+            m: u32,
+            p_starts: *const u32,
+            p_starts_len: usize,
+            p_rows: *const u32,
+            p_rows_len: usize,
+            p_values: *const f64,
+            p_values_len: usize,
+            q: *const f64,
+            q_len: usize,
+            a_starts: *const u32,
+            a_starts_len: usize,
+            a_rows: *const u32,
+            a_rows_len: usize,
+            a_values: *const f64,
+            a_values_len: usize,
+            b: *const f64,
+            b_len: usize,
+            cones: *const u32,
+            cones_len: usize,
+            alphas: *const f64,
+            alphas_len: usize,
+            pattern_count: u32,
+            pattern_words: *const u32,
+            pattern_words_len: usize,
+            n2: u32,
+            m2: u32,
+            p_starts2: *const u32,
+            p_starts2_len: usize,
+            p_rows2: *const u32,
+            p_rows2_len: usize,
+            p_values2: *const f64,
+            p_values2_len: usize,
+            q2: *const f64,
+            q2_len: usize,
+            a_starts2: *const u32,
+            a_starts2_len: usize,
+            a_rows2: *const u32,
+            a_rows2_len: usize,
+            a_values2: *const f64,
+            a_values2_len: usize,
+            b2: *const f64,
+            b2_len: usize,
+            cones2: *const u32,
+            cones2_len: usize,
+            alphas2: *const f64,
+            alphas2_len: usize,
+            pattern_count2: u32,
+            pattern_words2: *const u32,
+            pattern_words2_len: usize,
+            p_starts_out: *mut u32,
+            p_starts_out_len: usize,
+            p_rows_out: *mut u32,
+            p_rows_out_len: usize,
+            p_values_out: *mut f64,
+            p_values_out_len: usize,
+            q_out: *mut f64,
+            q_out_len: usize,
+            a_starts_out: *mut u32,
+            a_starts_out_len: usize,
+            a_rows_out: *mut u32,
+            a_rows_out_len: usize,
+            a_values_out: *mut f64,
+            a_values_out_len: usize,
+            b_out: *mut f64,
+            b_out_len: usize,
+            cones_out: *mut u32,
+            cones_out_len: usize,
+            alphas_out: *mut f64,
+            alphas_out_len: usize,
+            pattern_words_out: *mut u32,
+            pattern_words_out_len: usize,
         ) -> u32;
     }
 }
@@ -573,5 +648,198 @@ pub fn compare_many(report: &mut Report, d: &mut Draws, count: u32, p: &Problem)
         report.count("cut of many sides: what the single cuts give");
         let k = d.below(count as usize);
         against::compare(report, Route::Compact, &sides::with_b(p, &p.b[k * m..(k + 1) * m]), None, 0);
+    }
+}
+
+// ---- pooling
+
+/// The door's call; the pattern words have the place of the cut's map.
+pub fn pool(first: &Problem, second: &Problem, o: &mut CutOutputs) -> u32 {
+    #[cfg(not(door))]
+    {
+        let _ = (first, second, o);
+        unreachable!("the door is not linked")
+    }
+    #[cfg(door)]
+    unsafe {
+        c::chordal_pool(
+            first.n,
+            first.m,
+            first.p.starts.as_ptr(),
+            first.p.starts.len(),
+            first.p.rows.as_ptr(),
+            first.p.rows.len(),
+            first.p.values.as_ptr(),
+            first.p.values.len(),
+            first.q.as_ptr(),
+            first.q.len(),
+            first.a.starts.as_ptr(),
+            first.a.starts.len(),
+            first.a.rows.as_ptr(),
+            first.a.rows.len(),
+            first.a.values.as_ptr(),
+            first.a.values.len(),
+            first.b.as_ptr(),
+            first.b.len(),
+            first.cones.as_ptr(),
+            first.cones.len(),
+            first.alphas.as_ptr(),
+            first.alphas.len(),
+            first.pattern_count,
+            first.pattern_words.as_ptr(),
+            first.pattern_words.len(),
+            second.n,
+            second.m,
+            second.p.starts.as_ptr(),
+            second.p.starts.len(),
+            second.p.rows.as_ptr(),
+            second.p.rows.len(),
+            second.p.values.as_ptr(),
+            second.p.values.len(),
+            second.q.as_ptr(),
+            second.q.len(),
+            second.a.starts.as_ptr(),
+            second.a.starts.len(),
+            second.a.rows.as_ptr(),
+            second.a.rows.len(),
+            second.a.values.as_ptr(),
+            second.a.values.len(),
+            second.b.as_ptr(),
+            second.b.len(),
+            second.cones.as_ptr(),
+            second.cones.len(),
+            second.alphas.as_ptr(),
+            second.alphas.len(),
+            second.pattern_count,
+            second.pattern_words.as_ptr(),
+            second.pattern_words.len(),
+            o.p_starts.as_mut_ptr(),
+            o.p_starts.len(),
+            o.p_rows.as_mut_ptr(),
+            o.p_rows.len(),
+            o.p_values.as_mut_ptr(),
+            o.p_values.len(),
+            o.q.as_mut_ptr(),
+            o.q.len(),
+            o.a_starts.as_mut_ptr(),
+            o.a_starts.len(),
+            o.a_rows.as_mut_ptr(),
+            o.a_rows.len(),
+            o.a_values.as_mut_ptr(),
+            o.a_values.len(),
+            o.b.as_mut_ptr(),
+            o.b.len(),
+            o.cones.as_mut_ptr(),
+            o.cones.len(),
+            o.alphas.as_mut_ptr(),
+            o.alphas.len(),
+            o.map.as_mut_ptr(),
+            o.map.len(),
+        )
+    }
+}
+
+/// A problem's tables in the places of a cut's, the pattern words in that of the map.
+pub fn as_tables(p: Problem) -> Cut {
+    Cut { p: p.p, q: p.q, a: p.a, b: p.b, cones: p.cones, alphas: p.alphas, map: p.pattern_words, sums: vec![] }
+}
+
+// the entries of a column, their rows raised
+fn raised(cut: &CutOutputs, column: usize, by: u32) -> Vec<(u32, u64)> {
+    let entries = cut.a_starts[column] as usize..cut.a_starts[column + 1] as usize;
+    entries.map(|k| (cut.a_rows[k] + by, canonical(cut.a_values[k]))).collect()
+}
+
+// a value's bits, all NaNs being one
+fn canonical(v: f64) -> u64 {
+    if v.is_nan() {
+        f64::NAN.to_bits()
+    } else {
+        v.to_bits()
+    }
+}
+
+// what the pool's compact cut has to be, from those of its passes: the first table in which it is not
+fn compact_wrong(passes: [&Problem; 2], cuts: [&CutOutputs; 2], pool: &CutOutputs) -> Option<&'static str> {
+    let [first, second] = cuts;
+    let (n, rows) = (passes[0].n as usize, first.b.len() as u32);
+    let [overlaps, more] = cuts.map(|cut| cut.q.len() - n);
+    // the passes' columns one over the other, then the first's overlap columns, then the second's
+    let mut columns: Vec<Vec<(u32, u64)>> =
+        (0..n).map(|c| [raised(first, c, 0), raised(second, c, rows)].concat()).collect();
+    columns.extend((n..n + overlaps).map(|c| raised(first, c, 0)));
+    columns.extend((n..n + more).map(|c| raised(second, c, rows)));
+    let raise = [passes[0].cones.len() as u32 / 3, passes[0].pattern_count, rows];
+    let mut map = first.map.clone();
+    for entry in second.map.chunks(MAP_WORDS) {
+        let pattern = if entry[1] == NONE { NONE } else { entry[1] + raise[1] };
+        map.extend([entry[0] + raise[0], pattern, entry[2], entry[3] + raise[2], entry[4]]);
+    }
+    let mut q = first.q.clone();
+    q.resize(n + overlaps + more, 0.0);
+    let mut p_starts = first.p_starts.clone();
+    p_starts.resize(q.len() + 1, first.p_rows.len() as u32);
+    let made: Vec<Vec<(u32, u64)>> = (0..pool.a_starts.len() - 1).map(|c| raised(pool, c, 0)).collect();
+    let tests = [
+        ("P", pool.p_starts == p_starts && pool.p_rows == first.p_rows && all_bits(&pool.p_values, &first.p_values)),
+        ("q", all_bits(&pool.q, &q)),
+        ("A", made == columns),
+        ("b", all_bits(&pool.b, &[&first.b[..], &second.b].concat())),
+        ("cones", pool.cones == [&first.cones[..], &second.cones].concat()),
+        ("alphas", all_bits(&pool.alphas, &[&first.alphas[..], &second.alphas].concat())),
+        ("map", pool.map == map),
+    ];
+    tests.iter().find(|t| !t.1).map(|t| t.0)
+}
+
+// one Zero cone over all original rows, then what follows the added Zero cone of the first, then of the second
+fn standard_cones(passes: [&Problem; 2], cuts: [&CutOutputs; 2]) -> Vec<u32> {
+    let mut cones = vec![0, passes[0].m + passes[1].m, 0];
+    cuts.iter().for_each(|cut| cones.extend(&cut.cones[3..]));
+    cones
+}
+
+/// The pooled problem of two passes, and its cuts beside those of the passes.
+pub fn compare_pool(report: &mut Report, d: &mut Draws, first: &Problem, second: &Problem) {
+    let weight = first.weight() + second.weight();
+    let needed = pool::pool(first, second, None).map_or([3; 11], |pool| pool::lengths(&pool));
+    let rooms = some_rooms(d, needed);
+    let mut out = cut_outputs(&rooms);
+    let number = pool(first, second, &mut out);
+    let expected = pool::pool(first, second, Some(&rooms));
+    let refusal = expected.as_ref().err().copied().unwrap_or(0);
+    let wrong = cut_wrong(&out, &expected.clone().map(as_tables).unwrap_or_default(), &rooms);
+    let wrong = wrong.map(|what| if what == "map" { "pattern words" } else { what });
+    let text = || format!("{}\n{}\n rooms {rooms:?} needed {needed:?}", problem_text(first), problem_text(second));
+    judge(report, "pooling", refusal, number, wrong, weight, text);
+
+    // from the tables that were written
+    let (Ok(pooled), 0) = (expected, number) else { return };
+    let made = cut_off(&out, &needed);
+    let pooled = Problem {
+        p: Columns { starts: made.p_starts, rows: made.p_rows, values: made.p_values },
+        q: made.q,
+        a: Columns { starts: made.a_starts, rows: made.a_rows, values: made.a_values },
+        b: made.b,
+        cones: made.cones,
+        alphas: made.alphas,
+        pattern_words: made.map,
+        ..pooled
+    };
+    for route in [Route::Compact, Route::Standard] {
+        let cuts = [first, second, &pooled].map(|p| cut_made(route, p));
+        let [Ok(a), Ok(b), Ok(of_pool)] = &cuts else { continue };
+        let wrong = match route {
+            Route::Compact => compact_wrong([first, second], [a, b], of_pool),
+            Route::Standard => (of_pool.cones != standard_cones([first, second], [a, b])).then_some("cones"),
+        };
+        let what = match route {
+            Route::Compact => "pooling: the compact cut is that of the passes in turn",
+            Route::Standard => "pooling: the standard cones are those of the passes in turn",
+        };
+        match wrong {
+            None => report.count(what),
+            Some(table) => report.fail(format!("{what}, but {table}"), weight, text),
+        }
     }
 }

@@ -10,6 +10,7 @@ mod door;
 mod exact;
 mod exhaustive;
 mod expected;
+mod pool;
 mod problem;
 mod random;
 mod report;
@@ -114,6 +115,10 @@ fn case(report: &mut Report, o: &Options, index: u64, scale: Scale) {
     if door::LINKED {
         door::compare_small(report, &mut d, &words, &permutation);
     }
+    if door::LINKED {
+        let second = random::second_pass(&mut d, &p, scale);
+        added::compare_pool(report, &mut d, &p, &second);
+    }
     // two problems, mostly the same but for one table
     let (mut first, mut second) = (p.clone(), p);
     match d.below(8) {
@@ -159,6 +164,15 @@ fn random_cases(report: &mut Report, o: &Options) {
             added::compare_between(report, &mut d, &p, &p.b, &p.b);
             added::compare_many(report, &mut d, 1, &p);
             added::compare_many(report, &mut d, 2, &sides::with_b(&p, &[&p.b[..], &p.b].concat()));
+        }
+    }
+    if door::LINKED {
+        let mut d = case_draws(o.seed, u64::MAX);
+        for (_, p) in random::at_limits() {
+            added::compare_pool(report, &mut d, &p, &p);
+        }
+        for (_, [first, second], _) in random::pools_at_limits() {
+            added::compare_pool(report, &mut d, &first, &second);
         }
     }
     let started = Instant::now();

@@ -345,6 +345,58 @@ pub fn sides(d: &mut Draws, p: &Problem) -> (u32, Vec<f64>) {
     (count, b)
 }
 
+/// A second pass over the dome that `first` is a pass of: another problem, mostly with as many columns; now and then
+/// damaged.
+pub fn second_pass(d: &mut Draws, first: &Problem, scale: Scale) -> Problem {
+    let mut p = problem(d, scale);
+    if d.chance(30) {
+        repeat_entries(d, &mut p);
+    }
+    let n = first.n as usize;
+    if n < 100 && p.n as usize != n && d.chance(90) {
+        // further columns are empty
+        p.a.starts.resize(n + 1, p.a.rows.len() as u32);
+        let entries = p.a.starts[n] as usize;
+        p.a.rows.truncate(entries);
+        p.a.values.truncate(entries);
+        p.p = Columns { starts: vec![0; n + 1], ..Columns::default() };
+        (p.n, p.q) = (first.n, vec![0.5; n]);
+    }
+    if d.chance(15) {
+        let check = 1 + d.below(9);
+        damage(d, &mut p, check);
+    }
+    p
+}
+
+/// Two passes each whose pool is at a bound of check 1, or one above it: whether it is refused.
+pub fn pools_at_limits() -> Vec<(String, [Problem; 2], bool)> {
+    let pass = |rows: u32, cones: Vec<u32>, entries: u32| Problem {
+        n: 1,
+        m: rows,
+        p: Columns { starts: vec![0, 0], ..Columns::default() },
+        q: vec![0.0],
+        a: Columns {
+            starts: vec![0, entries],
+            rows: vec![0; entries as usize],
+            values: (0..entries).map(f64::from).collect(),
+        },
+        b: vec![0.0; rows as usize],
+        cones,
+        ..Problem::default()
+    };
+    let mut out = vec![];
+    for over in [0, 1] {
+        let tall = [32_768, 32_768 + over].map(|rows| pass(rows, vec![1, rows, 0], 0));
+        out.push((format!("rows 65536, {over} over"), tall, over > 0));
+        let many = [512, 512 + over as usize].map(|count| pass(0, vec![0; 3 * count], 0));
+        out.push((format!("cones 1024, {over} over"), many, over > 0));
+        let full = [131_072, 131_072 + over].map(|entries| pass(1, vec![1, 1, 0], entries));
+        out.push((format!("entries 262144, {over} over"), full, over > 0));
+    }
+    out
+}
+
 /// A solution of the lengths that the problem gives.
 pub fn solution(d: &mut Draws, shape: &(usize, usize, Vec<u32>)) -> Solution {
     Solution {

@@ -8,6 +8,7 @@ use crate::against::{join_input, tables};
 use crate::change_route;
 use crate::door;
 use crate::expected::{self, Clique, Pattern};
+use crate::pool;
 use crate::problem::*;
 use crate::random::{self, band_pattern, Draws};
 use crate::sides;
@@ -444,6 +445,36 @@ fn many_sides(name: &str, p: &Problem) {
     beside_line(name, "cut of 64 sides", "64 compact cuts", times);
 }
 
+// the problem pooled with itself, where both fit, beside copying what comes out
+fn pooled(name: &str, p: &Problem) {
+    let Ok(pool) = pool::pool(p, p, None) else { return };
+    let lengths = pool::lengths(&pool);
+    let (mut out, mut copy) = (door::cut_outputs(&lengths), door::cut_outputs(&lengths));
+    assert_eq!(added::pool(p, p, &mut out), 0, "the door refuses {name}");
+    let given = out.clone();
+    let times = medians([
+        &mut || {
+            black_box(added::pool(p, p, &mut out));
+        },
+        &mut || {
+            let given = black_box(&given);
+            copy.p_starts.copy_from_slice(&given.p_starts);
+            copy.p_rows.copy_from_slice(&given.p_rows);
+            copy.p_values.copy_from_slice(&given.p_values);
+            copy.q.copy_from_slice(&given.q);
+            copy.a_starts.copy_from_slice(&given.a_starts);
+            copy.a_rows.copy_from_slice(&given.a_rows);
+            copy.a_values.copy_from_slice(&given.a_values);
+            copy.b.copy_from_slice(&given.b);
+            copy.cones.copy_from_slice(&given.cones);
+            copy.alphas.copy_from_slice(&given.alphas);
+            copy.map.copy_from_slice(&given.map);
+            black_box(&mut copy);
+        },
+    ]);
+    beside_line(name, "pooling with itself", "its outputs copied (memcpy)", times);
+}
+
 fn requests() {
     println!("\n| input | call | door | beside | time | door / beside |");
     println!("|---|---|---|---|---|---|");
@@ -452,6 +483,7 @@ fn requests() {
         doubled_entries(&name, &p);
         changed_route(&name, &p);
         limits(&name, &p);
+        pooled(&name, &p);
         if name.contains("dense") || p.m < 10 {
             many_sides(&name, &p);
         }

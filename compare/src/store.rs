@@ -3,8 +3,11 @@
 //! A file is text of hexadecimal numbers: how many cases; for each case how many lists of u32 and those lists, then how
 //! many lists of f64 and those lists, as bits; each list is its length and its numbers. An output's list is what the
 //! whole of its room holds after the call, and before it place k of the room holds 0xF0000000 + k % 65536, or -0.5 - k % 65536.
+//! A case of pooling stands as two: the first problem, then the second and the outputs, at the places that a cut has.
 
+use crate::added::as_tables;
 use crate::expected;
+use crate::pool;
 use crate::problem::*;
 use crate::random::{self, Draws};
 use crate::sides;
@@ -34,9 +37,9 @@ impl Case {
     }
 }
 
-fn text(cases: &[Case]) -> String {
+fn text(cases: &[Vec<Case>]) -> String {
     let mut out = format!("{:08x}\n", cases.len());
-    for case in cases {
+    for case in cases.iter().flatten() {
         let _ = writeln!(out, "{:08x}", case.words.len());
         for list in &case.words {
             let _ = write!(out, "{:08x}", list.len());
@@ -191,27 +194,34 @@ fn sizes(d: &mut Draws, index: u64) -> Case {
     Case { words, values: problem_values(&p) }
 }
 
-// a case of a call that takes these numbers and a problem and gives a cut
-fn cut_case(given: Vec<u32>, p: &Problem, rooms: &[usize; 11], answer: &Result<Cut, u32>) -> Case {
-    let c = answer.as_ref().ok();
-    let mut words = vec![given, vec![number(answer)]];
-    words.extend(problem_words(p));
-    words.extend([
+// what the outputs of a cut hold after the call: those of u32, and those of f64
+fn cut_after(c: Option<&Cut>, rooms: &[usize; 11]) -> ([Vec<u32>; 6], [Vec<f64>; 5]) {
+    let words = [
         words_after(c.map(|c| &c.p.starts[..]), rooms[0]),
         words_after(c.map(|c| &c.p.rows[..]), rooms[1]),
         words_after(c.map(|c| &c.a.starts[..]), rooms[4]),
         words_after(c.map(|c| &c.a.rows[..]), rooms[5]),
         words_after(c.map(|c| &c.cones[..]), rooms[8]),
         words_after(c.map(|c| &c.map[..]), rooms[10]),
-    ]);
-    let mut values = problem_values(p);
-    values.extend([
+    ];
+    let values = [
         values_after(c.map(|c| &c.p.values[..]), rooms[2]),
         values_after(c.map(|c| &c.q[..]), rooms[3]),
         values_after(c.map(|c| &c.a.values[..]), rooms[6]),
         values_after(c.map(|c| &c.b[..]), rooms[7]),
         values_after(c.map(|c| &c.alphas[..]), rooms[9]),
-    ]);
+    ];
+    (words, values)
+}
+
+// a case of a call that takes these numbers and a problem and gives a cut
+fn cut_case(given: Vec<u32>, p: &Problem, rooms: &[usize; 11], answer: &Result<Cut, u32>) -> Case {
+    let after = cut_after(answer.as_ref().ok(), rooms);
+    let mut words = vec![given, vec![number(answer)]];
+    words.extend(problem_words(p));
+    words.extend(after.0);
+    let mut values = problem_values(p);
+    values.extend(after.1);
     Case { words, values }
 }
 
@@ -246,6 +256,26 @@ fn cut_many(d: &mut Draws, index: u64) -> Case {
     let rooms = needs.map(|need| some_room(d, need));
     let answer = sides::cut_many(count, &p, Some(&rooms));
     cut_case(vec![count, p.n, p.m, p.pattern_count], &p, &rooms, &answer)
+}
+
+// the second problem and the outputs have the places of a cut's, the pattern words that of its map
+fn pooled(d: &mut Draws, index: u64) -> Vec<Case> {
+    let first = some_problem(d, (index % 4) / 3);
+    let second = random::second_pass(d, &first, random::SMALL);
+    let needs = pool::pool(&first, &second, None).map_or([3; 11], |pool| pool::lengths(&pool));
+    let rooms = needs.map(|need| some_room(d, need));
+    let answer = pool::pool(&first, &second, Some(&rooms));
+    let given = vec![first.n, first.m, first.pattern_count, second.n, second.m, second.pattern_count];
+    let mut words = vec![given, vec![number(&answer)]];
+    words.extend(problem_words(&first));
+    let one = Case { words, values: problem_values(&first) };
+    let after = cut_after(answer.ok().map(as_tables).as_ref(), &rooms);
+    let mut words = vec![vec![]; 2];
+    words.extend(problem_words(&second));
+    words.extend(after.0);
+    let mut values = problem_values(&second);
+    values.extend(after.1);
+    vec![one, Case { words, values }]
 }
 
 fn join(d: &mut Draws, index: u64) -> Case {
@@ -289,20 +319,22 @@ fn join(d: &mut Draws, index: u64) -> Case {
 
 /// Writes a file of `cases` answers for each family into a folder.
 pub fn write(folder: &Path, cases: u64, seed: u64) -> io::Result<()> {
-    let families: [(&str, fn(&mut Draws, u64) -> Case); 8] = [
-        ("renumber", renumber),
-        ("check_problem", check_problem),
-        ("same_layout", same_layout),
-        ("sizes", sizes),
-        ("cut", cut),
-        ("join", join),
-        ("cut_between", cut_between),
-        ("cut_many", cut_many),
+    type Family = fn(&mut Draws, u64) -> Vec<Case>;
+    let families: [(&str, Family); 9] = [
+        ("renumber", |d, index| vec![renumber(d, index)]),
+        ("check_problem", |d, index| vec![check_problem(d, index)]),
+        ("same_layout", |d, index| vec![same_layout(d, index)]),
+        ("sizes", |d, index| vec![sizes(d, index)]),
+        ("cut", |d, index| vec![cut(d, index)]),
+        ("join", |d, index| vec![join(d, index)]),
+        ("cut_between", |d, index| vec![cut_between(d, index)]),
+        ("cut_many", |d, index| vec![cut_many(d, index)]),
+        ("pool", pooled),
     ];
     for (k, (name, family)) in families.iter().enumerate() {
-        let made: Vec<Case> =
+        let made: Vec<Vec<Case>> =
             (0..cases).map(|index| family(&mut crate::case_draws(seed + k as u64, index), index)).collect();
-        assert!(made.iter().all(Case::fits), "a case of {name} has more than crate replay has room for");
+        assert!(made.iter().flatten().all(Case::fits), "a case of {name} has more than crate replay has room for");
         fs::write(folder.join(name), text(&made))?;
     }
     Ok(())

@@ -7,6 +7,7 @@ use crate::against::{self, cut_difference, join_difference, join_input};
 use crate::change_route;
 use crate::door;
 use crate::expected;
+use crate::pool;
 use crate::problem::*;
 use crate::random::Draws;
 use crate::report::*;
@@ -439,10 +440,29 @@ fn exposures(run: &mut Run, case: &Json) -> Result<(), String> {
     Ok(())
 }
 
+// two problems, and the pooled one
+fn passes(run: &mut Run, case: &Json) -> Result<(), String> {
+    let (first, second) = (problem(case.get("first")?)?, problem(case.get("second")?)?);
+    let pooled = pool::pool(&first, &second, None);
+    run.answered("pooling", &first, &pooled, case.get("answer")?, |ours, stored| {
+        let stored = problem(stored)?;
+        let counts = |p: &Problem| [p.n, p.m, p.pattern_count];
+        let wrong = cut_difference(&added::as_tables(ours.clone()), &added::as_tables(stored.clone()));
+        let wrong = wrong.or((counts(ours) != counts(&stored)).then_some("n, m or pattern count"));
+        Ok(wrong.map(|w| format!("{w} differs")))
+    })?;
+    if door::LINKED {
+        for _ in 0..TIMES {
+            added::compare_pool(run.report, run.draws, &first, &second);
+        }
+    }
+    Ok(())
+}
+
 // what reads and compares a case of a file
 type Form = fn(&mut Run, &Json) -> Result<(), String>;
 
-const FORMS: [(&str, Form); 8] = [
+const FORMS: [(&str, Form); 9] = [
     ("cases", base),
     ("q-7", |run, case| cuts(run, case, 3)),
     ("q-10", same_layout),
@@ -451,6 +471,7 @@ const FORMS: [(&str, Form); 8] = [
     ("q-12", changes),
     ("q-8", limits),
     ("q-1", exposures),
+    ("q-11", passes),
 ];
 
 /// Compares each case of the file, whose name without its ending is one of `FORMS`.

@@ -17,6 +17,9 @@ mod expected;
 #[path = "../tests/lend/mod.rs"]
 mod lend;
 #[allow(dead_code)]
+#[path = "../../compare/src/pool.rs"]
+mod pool;
+#[allow(dead_code)]
 #[path = "../../compare/src/problem.rs"]
 mod problem;
 #[allow(dead_code)]
@@ -31,9 +34,9 @@ use problem::{Columns, Problem, Route, Solution};
 use random::Draws;
 use std::io::Write;
 use std::time::Instant;
-use tejiwakpa::flat::{self, BetweenOutputs, CutOutputs, JoinOutputs};
+use tejiwakpa::flat::{self, BetweenOutputs, CutOutputs, JoinOutputs, TableOutputs};
 
-const CALLS: [&str; 11] = [
+const CALLS: [&str; 12] = [
     "pair index",
     "pair back",
     "inverse",
@@ -45,11 +48,12 @@ const CALLS: [&str; 11] = [
     "change of route",
     "cut between",
     "cut of many",
+    "pooling",
 ];
 const ROUTES: [Route; 2] = [Route::Standard, Route::Compact];
 
 // refusals are below this
-const NUMBERS: usize = 17;
+const NUMBERS: usize = 18;
 
 // how many inputs are damaged from one right one
 const FROM_ONE: u64 = 16;
@@ -517,8 +521,47 @@ impl Soak {
         self.judge(7, input, got, want, (&[1], &[]));
     }
 
+    fn pool(&mut self, d: &mut Draws, input: u64, right: &Right) {
+        let short = self.damage(d, right, 11);
+        let second = random::second_pass(d, &right.problem, random::TINY);
+        copy(&mut self.second, &second);
+        if d.chance(50) {
+            std::mem::swap(&mut self.problem, &mut self.second);
+        }
+        if self.exact {
+            fit(&mut self.second);
+            fit(&mut self.problem);
+        }
+        let pooled = pool::pool(&self.problem, &self.second, None);
+        let needed = pooled.as_ref().map_or([3; 11], pool::lengths);
+        let mut lengths = needed;
+        lengths.iter_mut().enumerate().for_each(|(k, length)| *length = room(d, *length, k == short));
+        let (o, _) = cut_rooms(&mut self.u, &mut self.f, &lengths, 0, self.exact);
+        let mut out = TableOutputs {
+            p_starts: o.p_starts,
+            p_rows: o.p_rows,
+            p_values: o.p_values,
+            q: o.q,
+            a_starts: o.a_starts,
+            a_rows: o.a_rows,
+            a_values: o.a_values,
+            b: o.b,
+            cones: o.cones,
+            alphas: o.alphas,
+            pattern_words: o.map,
+        };
+        let got = number(flat::pool(&tables(&self.problem), &tables(&self.second), &mut out));
+        let want = match pooled {
+            Err(number) => number,
+            Ok(_) if lengths.iter().zip(&needed).any(|(length, needed)| length < needed) => 11,
+            Ok(_) => 0,
+        };
+        let (u, f) = cut_results(&needed);
+        self.judge(11, input, got, want, (&u, &f[..5]));
+    }
+
     fn one(&mut self, d: &mut Draws, input: u64, right: &Right) {
-        match d.below(44) {
+        match d.below(48) {
             0 => self.pair_index(d, input),
             1 => self.pair_back(d, input),
             2..=3 => self.inverse(d, input, right),
@@ -529,7 +572,8 @@ impl Soak {
             29..=31 => self.same_layout(d, input, right),
             32..=35 => self.change_route(d, input, right),
             36..=39 => self.cut_between(d, input, right),
-            _ => self.cut_many(d, input, right),
+            40..=43 => self.cut_many(d, input, right),
+            _ => self.pool(d, input, right),
         }
     }
 }

@@ -79,7 +79,7 @@ impl Cone {
     }
 }
 
-/// The cones of records that a cut has written, with their exponents.
+/// The cones of records that a call has written, with their exponents.
 pub(crate) fn read(records: &[u32], mut alphas: &[f64]) -> Vec<Cone> {
     let mut taken = |count: u32| {
         let (first, rest) = alphas.split_at(count as usize);
@@ -94,7 +94,7 @@ pub(crate) fn read(records: &[u32], mut alphas: &[f64]) -> Vec<Cone> {
         [4, 0, 0] => Cone::Power(taken(1)[0]),
         [5, count, second] => Cone::GenPower(taken(count), second),
         [6, size, 0] => Cone::PsdTriangle(size),
-        _ => unreachable!("a cut writes records of the seven kinds"),
+        _ => unreachable!("a call writes records of the seven kinds"),
     });
     cones.collect()
 }

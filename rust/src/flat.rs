@@ -176,6 +176,41 @@ impl<'a> BetweenOutputs<'a> {
     }
 }
 
+/// A problem's tables as outputs.
+///
+/// ```
+/// use tejiwakpa::flat::TableOutputs;
+///
+/// let mut pattern_words = [0; 32];
+/// let outputs = TableOutputs { pattern_words: &mut pattern_words, ..TableOutputs::default() };
+/// assert!(outputs.b.is_empty());
+/// ```
+#[derive(Debug, Default)]
+pub struct TableOutputs<'a> {
+    /// P's column starts.
+    pub p_starts: &'a mut [u32],
+    /// P's rows.
+    pub p_rows: &'a mut [u32],
+    /// P's values.
+    pub p_values: &'a mut [f64],
+    /// The linear cost.
+    pub q: &'a mut [f64],
+    /// A's column starts.
+    pub a_starts: &'a mut [u32],
+    /// A's rows.
+    pub a_rows: &'a mut [u32],
+    /// A's values.
+    pub a_values: &'a mut [f64],
+    /// The right hand side.
+    pub b: &'a mut [f64],
+    /// The cones' records.
+    pub cones: &'a mut [u32],
+    /// The exponents of the power cones.
+    pub alphas: &'a mut [f64],
+    /// The patterns' words.
+    pub pattern_words: &'a mut [u32],
+}
+
 /// What a joining reads: the original problem's sizes, cones and patterns, the augmented problem's solution and, on the
 /// compact route, the cone map.
 ///
@@ -566,6 +601,63 @@ pub fn change_route(joining: &Joining, out: &mut JoinOutputs) -> Result<(), Refu
     })
 }
 
+/// The tables of the pooled problem: each as long as those of both problems together, save that P's, q and A's starts are
+/// as long as the first's. Its n is theirs, its m, cone count and pattern count are the sums.
+///
+/// ```
+/// use tejiwakpa::flat::{pool, TableOutputs};
+/// use tejiwakpa::Problem;
+///
+/// let problem = Problem::three_projectors();
+/// let words = problem.words();
+/// let (mut p_starts, mut q, mut a_starts, mut a_rows) = ([0; 2], [0.0; 1], [0; 2], [0; 10]);
+/// let (mut a_values, mut b, mut cones, mut pattern_words) = ([0.0; 10], [0.0; 12], [0; 6], [0; 32]);
+/// let mut out = TableOutputs {
+///     p_starts: &mut p_starts,
+///     q: &mut q,
+///     a_starts: &mut a_starts,
+///     a_rows: &mut a_rows,
+///     a_values: &mut a_values,
+///     b: &mut b,
+///     cones: &mut cones,
+///     pattern_words: &mut pattern_words,
+///     ..TableOutputs::default()
+/// };
+/// pool(&problem.tables(&words), &problem.tables(&words), &mut out)?;
+/// assert_eq!(a_rows, [0, 1, 2, 4, 5, 6, 7, 8, 10, 11]);
+/// assert_eq!((pattern_words[0], pattern_words[16]), (0, 1));
+/// # Ok::<(), tejiwakpa::Refusal>(())
+/// ```
+#[rustfmt::skip]
+pub fn pool(first: &Tables, second: &Tables, out: &mut TableOutputs) -> Result<(), Refusal> {
+    let (p, r, o) = (first, second, out);
+    // SAFETY: as above.
+    answer(unsafe {
+        c::chordal_pool(
+            p.n, p.m,
+            p.p_starts.as_ptr(), p.p_starts.len(), p.p_rows.as_ptr(), p.p_rows.len(),
+            p.p_values.as_ptr(), p.p_values.len(), p.q.as_ptr(), p.q.len(),
+            p.a_starts.as_ptr(), p.a_starts.len(), p.a_rows.as_ptr(), p.a_rows.len(),
+            p.a_values.as_ptr(), p.a_values.len(), p.b.as_ptr(), p.b.len(),
+            p.cones.as_ptr(), p.cones.len(), p.alphas.as_ptr(), p.alphas.len(),
+            p.pattern_count, p.pattern_words.as_ptr(), p.pattern_words.len(),
+            r.n, r.m,
+            r.p_starts.as_ptr(), r.p_starts.len(), r.p_rows.as_ptr(), r.p_rows.len(),
+            r.p_values.as_ptr(), r.p_values.len(), r.q.as_ptr(), r.q.len(),
+            r.a_starts.as_ptr(), r.a_starts.len(), r.a_rows.as_ptr(), r.a_rows.len(),
+            r.a_values.as_ptr(), r.a_values.len(), r.b.as_ptr(), r.b.len(),
+            r.cones.as_ptr(), r.cones.len(), r.alphas.as_ptr(), r.alphas.len(),
+            r.pattern_count, r.pattern_words.as_ptr(), r.pattern_words.len(),
+            o.p_starts.as_mut_ptr(), o.p_starts.len(), o.p_rows.as_mut_ptr(), o.p_rows.len(),
+            o.p_values.as_mut_ptr(), o.p_values.len(), o.q.as_mut_ptr(), o.q.len(),
+            o.a_starts.as_mut_ptr(), o.a_starts.len(), o.a_rows.as_mut_ptr(), o.a_rows.len(),
+            o.a_values.as_mut_ptr(), o.a_values.len(), o.b.as_mut_ptr(), o.b.len(),
+            o.cones.as_mut_ptr(), o.cones.len(), o.alphas.as_mut_ptr(), o.alphas.len(),
+            o.pattern_words.as_mut_ptr(), o.pattern_words.len(),
+        )
+    })
+}
+
 /// `out[0]`: 1 where n, m, cone records, exponents bit by bit (save for which NaN), pattern words, and the starts and rows
 /// of A and P of two problems agree, else 0.
 ///
@@ -693,6 +785,28 @@ mod c {
             a_values_out: *mut f64, a_values_out_len: usize, b_out: *mut f64, b_out_len: usize,
             cones_out: *mut u32, cones_out_len: usize, alphas_out: *mut f64, alphas_out_len: usize,
             map_out: *mut u32, map_out_len: usize,
+        ) -> u32;
+        pub fn chordal_pool(
+            n: u32, m: u32,
+            p_starts: *const u32, p_starts_len: usize, p_rows: *const u32, p_rows_len: usize,
+            p_values: *const f64, p_values_len: usize, q: *const f64, q_len: usize,
+            a_starts: *const u32, a_starts_len: usize, a_rows: *const u32, a_rows_len: usize,
+            a_values: *const f64, a_values_len: usize, b: *const f64, b_len: usize,
+            cones: *const u32, cones_len: usize, alphas: *const f64, alphas_len: usize,
+            pattern_count: u32, pattern_words: *const u32, pattern_words_len: usize,
+            n2: u32, m2: u32,
+            p_starts2: *const u32, p_starts2_len: usize, p_rows2: *const u32, p_rows2_len: usize,
+            p_values2: *const f64, p_values2_len: usize, q2: *const f64, q2_len: usize,
+            a_starts2: *const u32, a_starts2_len: usize, a_rows2: *const u32, a_rows2_len: usize,
+            a_values2: *const f64, a_values2_len: usize, b2: *const f64, b2_len: usize,
+            cones2: *const u32, cones2_len: usize, alphas2: *const f64, alphas2_len: usize,
+            pattern_count2: u32, pattern_words2: *const u32, pattern_words2_len: usize,
+            p_starts_out: *mut u32, p_starts_out_len: usize, p_rows_out: *mut u32, p_rows_out_len: usize,
+            p_values_out: *mut f64, p_values_out_len: usize, q_out: *mut f64, q_out_len: usize,
+            a_starts_out: *mut u32, a_starts_out_len: usize, a_rows_out: *mut u32, a_rows_out_len: usize,
+            a_values_out: *mut f64, a_values_out_len: usize, b_out: *mut f64, b_out_len: usize,
+            cones_out: *mut u32, cones_out_len: usize, alphas_out: *mut f64, alphas_out_len: usize,
+            pattern_words_out: *mut u32, pattern_words_out_len: usize,
         ) -> u32;
         pub fn chordal_same_layout(
             n: u32, m: u32,

@@ -13,6 +13,7 @@
 //! | [`join`] | the original problem's solution from the augmented one's |
 //! | [`cut_between`] | the compact cut where b is known only within [`Limits`] |
 //! | [`cut_many`] | the compact cut for many right hand sides at once |
+//! | [`pool`] | one problem of two passes that share their unknowns |
 //! | [`change_route`] | a compact solution from a standard one |
 //! | [`same_layout`] | whether what was worked out from one problem's places serves another |
 //!
@@ -62,6 +63,7 @@ mod change_route;
 mod cone;
 pub mod flat;
 mod pattern;
+mod pool;
 mod problem;
 mod refusal;
 mod sides;
@@ -71,6 +73,7 @@ pub use calls::{cut, inverse, join, pair_back, pair_index, renumber, same_layout
 pub use change_route::change_route;
 pub use cone::Cone;
 pub use pattern::{Clique, Pattern};
+pub use pool::pool;
 pub use problem::{Columns, Problem, Route, Words};
 pub use refusal::Refusal;
 pub use sides::{cut_between, cut_many, Limits};

@@ -90,6 +90,15 @@ impl Pattern {
     }
 }
 
+/// The patterns of words that a call has written.
+pub(crate) fn read_all(mut words: &[u32]) -> Vec<Pattern> {
+    let mut patterns = vec![];
+    while !words.is_empty() {
+        patterns.push(read(&mut words).expect("a call writes whole patterns"));
+    }
+    patterns
+}
+
 // the next words, or none where they end early
 fn taken<'a>(words: &mut &'a [u32], count: u32) -> Option<&'a [u32]> {
     let (first, rest) = words.split_at_checked(count as usize)?;

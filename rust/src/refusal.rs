@@ -48,6 +48,8 @@ pub enum Refusal {
     Solution = 12,
     /// 16: a low limit is above its high one, or one of them is a NaN. This check comes after 4.
     Limits = 16,
+    /// 17: two problems that are to be pooled have different n. This check comes after 7 of the second problem.
+    Unknowns = 17,
 }
 
 impl Refusal {
@@ -58,7 +60,7 @@ impl Refusal {
     ///
     /// assert!(Refusal::ALL.windows(2).all(|two| two[0].number() < two[1].number()));
     /// ```
-    pub const ALL: [Refusal; 13] = [
+    pub const ALL: [Refusal; 14] = [
         Refusal::Bound,
         Refusal::Starts,
         Refusal::Rows,
@@ -72,6 +74,7 @@ impl Refusal {
         Refusal::Short,
         Refusal::Solution,
         Refusal::Limits,
+        Refusal::Unknowns,
     ];
 
     /// The number of the check.
@@ -117,6 +120,7 @@ impl Refusal {
             Refusal::Short => "an output is too short",
             Refusal::Solution => "the solution's lengths or the cone map are not those of this problem",
             Refusal::Limits => "a low limit is above its high one, or one of them is a NaN",
+            Refusal::Unknowns => "the two problems have different numbers of unknowns",
         }
     }
 }

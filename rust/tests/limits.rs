@@ -1,7 +1,8 @@
 //! Threads with 2 MB of stack, each calling at the limits at the same time as the others.
 //!
-//! Every problem is cut and joined on both routes, cut with its b as both limits, and with its b as each of two sides, by
-//! every thread; what comes out is held to document 01's plain reading (compare/src/expected.rs).
+//! Every problem is cut and joined on both routes, cut with its b as both limits and with its b as each of two sides, and
+//! pooled with a pass that has no rows, by every thread; what comes out is held to document 01's plain reading
+//! (compare/src/expected.rs).
 
 #[allow(dead_code)]
 #[path = "../../compare/src/expected.rs"]
@@ -15,7 +16,7 @@ mod problem;
 mod random;
 
 use expected::{join_input, triangle, Clique, Pattern};
-use lend::{cut_outputs, join_outputs, joining, number, tables};
+use lend::{cut_outputs, join_outputs, joining, number, table_outputs, tables};
 use problem::{all_bits, all_same, Columns, Cut, Joined, Problem, Route, Solution, NONE};
 use random::{band_pattern, Draws};
 use std::sync::{Arc, Barrier};
@@ -122,6 +123,34 @@ impl Case {
         let answer = number(flat::same_layout(&tables, &tables, &mut [0]));
         let want = expected::first_seven(&self.problem).err().unwrap_or(0);
         assert_eq!(answer, want, "{}: same layout", self.name);
+        self.check_pool();
+    }
+
+    // the pool is the problem itself
+    fn check_pool(&self) {
+        let p = &self.problem;
+        let no_entries = Columns { starts: vec![0; p.n as usize + 1], ..Columns::default() };
+        let none = Problem { n: p.n, p: no_entries.clone(), q: p.q.clone(), a: no_entries, ..Problem::default() };
+        let mut got = p.clone();
+        for list in [&mut got.p.values, &mut got.q, &mut got.a.values, &mut got.b, &mut got.alphas] {
+            list.fill(0.5);
+        }
+        for list in [&mut got.p.starts, &mut got.p.rows, &mut got.a.starts, &mut got.a.rows] {
+            list.fill(7);
+        }
+        got.cones.fill(7);
+        got.pattern_words.fill(7);
+        let answer = number(flat::pool(&tables(p), &tables(&none), &mut table_outputs(&mut got)));
+        let want = expected::first_seven(p).err().unwrap_or(0);
+        assert_eq!(answer, want, "{}: pooling", self.name);
+        if answer == 0 {
+            let words = |p: &Problem| {
+                [&p.p.starts, &p.p.rows, &p.a.starts, &p.a.rows, &p.cones, &p.pattern_words].map(Vec::clone)
+            };
+            let values = |p: &Problem| [&p.p.values, &p.q, &p.a.values, &p.b, &p.alphas].map(Vec::clone);
+            let same = values(&got).iter().zip(&values(p)).all(|(got, want)| all_bits(got, want));
+            assert!(words(&got) == words(p) && same, "{}: the pooled tables", self.name);
+        }
     }
 
     // room for the cut, as long as the sizes call says

@@ -3,10 +3,11 @@
 //! A file is text of hexadecimal numbers: how many cases; for each case how many lists of u32 and those lists, then how
 //! many lists of f64 and those lists, as bits; each list is its length and its numbers. A case's lists of u32 are the
 //! call's numbers, its answer, its inputs and its outputs; its lists of f64 are its inputs and its outputs. An output's
-//! list is what the whole of its room holds after the call.
+//! list is what the whole of its room holds after the call. A case of pooling stands as two: the first problem, then the
+//! second and the outputs.
 
 use std::path::Path;
-use tejiwakpa::flat::{self, BetweenOutputs, CutOutputs, JoinOutputs, Joining, Tables};
+use tejiwakpa::flat::{self, BetweenOutputs, CutOutputs, JoinOutputs, Joining, TableOutputs, Tables};
 use tejiwakpa::Refusal;
 
 struct Case {
@@ -14,7 +15,8 @@ struct Case {
     values: Vec<Vec<f64>>,
 }
 
-fn read(text: &str) -> Vec<Case> {
+// the cases of a file, each as so many
+fn read(text: &str, parts: u64) -> Vec<Case> {
     let mut numbers = text.split_ascii_whitespace().map(|n| u64::from_str_radix(n, 16).unwrap());
     let lists = |numbers: &mut dyn Iterator<Item = u64>| -> Vec<Vec<u64>> {
         let count = numbers.next().unwrap();
@@ -29,7 +31,7 @@ fn read(text: &str) -> Vec<Case> {
         words: lists(&mut numbers).into_iter().map(|l| l.into_iter().map(|x| x as u32).collect()).collect(),
         values: lists(&mut numbers).into_iter().map(|l| l.into_iter().map(f64::from_bits).collect()).collect(),
     };
-    let cases = (0..count).map(|_| case()).collect();
+    let cases = (0..parts * count).map(|_| case()).collect();
     assert_eq!(numbers.next(), None);
     cases
 }
@@ -113,6 +115,29 @@ impl Case {
         agrees && same(&b_high, &self.values[11])
     }
 
+    // the second problem and the outputs stand in a case of their own, the pattern words in the place of a cut's map
+    fn pool(&self, more: &Case) -> bool {
+        let given = &self.words[0];
+        let first = self.tables(given[0], given[1], given[2], 2, 0);
+        let second = more.tables(given[3], given[4], given[5], 2, 0);
+        more.agrees_with_cut(&self.words[1], |o| {
+            let mut out = TableOutputs {
+                p_starts: o.p_starts,
+                p_rows: o.p_rows,
+                p_values: o.p_values,
+                q: o.q,
+                a_starts: o.a_starts,
+                a_rows: o.a_rows,
+                a_values: o.a_values,
+                b: o.b,
+                cones: o.cones,
+                alphas: o.alphas,
+                pattern_words: o.map,
+            };
+            flat::pool(&first, &second, &mut out)
+        })
+    }
+
     fn join(&self) -> bool {
         let given = &self.words[0];
         let joining = Joining {
@@ -136,7 +161,8 @@ impl Case {
     }
 }
 
-fn agrees(family: &str, case: &Case) -> bool {
+fn agrees(family: &str, parts: &[Case]) -> bool {
+    let case = &parts[0];
     let given = &case.words[0];
     let on_route = || case.tables(given[1], given[2], given[3], 2, 0);
     match family {
@@ -159,6 +185,7 @@ fn agrees(family: &str, case: &Case) -> bool {
         "join" => case.join(),
         "cut_between" => case.cut_between(),
         "cut_many" => case.agrees_with_cut(&case.words[1], |out| flat::cut_many(given[0], &on_route(), out)),
+        "pool" => case.pool(&parts[1]),
         _ => panic!("no call is known for the stored answers of {family}"),
     }
 }
@@ -170,12 +197,13 @@ fn stored_answers() {
     for file in std::fs::read_dir(folder).unwrap() {
         let path = file.unwrap().path();
         let family = path.file_name().unwrap().to_str().unwrap();
-        let cases = read(&std::fs::read_to_string(&path).unwrap());
-        for (place, case) in cases.iter().enumerate() {
+        let parts = if family == "pool" { 2 } else { 1 };
+        let cases = read(&std::fs::read_to_string(&path).unwrap(), parts);
+        for (place, case) in cases.chunks(parts as usize).enumerate() {
             assert!(agrees(family, case), "{family}: case {} differs", place + 1);
         }
-        println!("{family}: {} cases, all equal", cases.len());
+        println!("{family}: {} cases, all equal", cases.len() / parts as usize);
         families += 1;
     }
-    assert_eq!(families, 11, "a family of stored answers for each call and for checks 1 to 7");
+    assert_eq!(families, 12, "a family of stored answers for each call and for checks 1 to 7");
 }

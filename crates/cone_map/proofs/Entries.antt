@@ -10,12 +10,12 @@ use lib.Dec.{eqb}
 use borrow.Author.Tests.{eqb-true, ne-eqb}
 use Rattle.layout.specs.Lists.{sameNumbers}
 use Rattle.layout.specs.Compact.{MapEntry, wholeCone, blockOf, entryWords, mapWords, noPatternNumber}
-use Rattle.layout.proofs.ConeMap.{words-at}
+use Rattle.layout.proofs.ConeMap.{words-at, Told}
 use Rattle.cone_map.specs.declared.ConeMapEntry.{ConeMapEntry}
 use Rattle.cone_map.specs.declared.TreeAndClique.{TreeAndClique}
 use Rattle.cone_map.specs.declared.TreeAndClique.the-variants.{None, In}
 use Rattle.layout.specs.Calls.JoinEntries.{sameEntry, sameMap}
-use Rattle.cone_map.specs.Entries.{placed, meant, structOf, patternWord, cliqueWord, structWords, allWords, treeOf, structAt, Told}
+use Rattle.cone_map.specs.Entries.{placed, meant, structOf, patternWord, cliqueWord, structWords, allWords, treeOf, structAt}
 
 pub struct-meant : (e : ConeMapEntry) → structOf (meant e) ≡ e
 struct-meant e = go (e .«tree_and_clique»)

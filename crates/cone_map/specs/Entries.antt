@@ -1,5 +1,5 @@
 -- The cone map's entries: what a struct stands for among layout's, and its words.
-use Prim.Native.Nat.{ℕ, _+_, _*_, _<_}
+use Prim.Native.Nat.{ℕ, _+_, _*_}
 use mathlib.Core.Bool.{cond}
 use mathlib.Core.List.{List, [], _∷_}
 use lib.ListN.{getD}
@@ -52,9 +52,3 @@ structAt ws k = record {
   «first_row» = getD ws (k * 5 + 3) 0;
   «row_count» = getD ws (k * 5 + 4) 0;
 }
-
--- patterns' numbers are below the mark
-abbrev pub Told : List MapEntry → Type 0
-Told [] = Unit {0}
-Told (wholeCone i first rows ∷ es) = Told es
-Told (blockOf i k c first rows ∷ es) = (k < noPatternNumber) × Told es

@@ -20,10 +20,11 @@ use Rattle.layout.proofs.Accepted.{accepted-sound}
 use Rattle.layout.proofs.Members.{has-below}
 use Rattle.layout.proofs.Joins.{map-same, map-drop}
 use Rattle.layout.proofs.Sizes.{compact-sizes, map-count, entries-length}
+use Rattle.layout.proofs.ConeMap.{Told, map-told}
 use Rattle.cone_map.specs.declared.ConeMapEntry.{ConeMapEntry}
-use Rattle.cone_map.specs.Entries.{structOf, treeOf, structAt, Told}
+use Rattle.cone_map.specs.Entries.{structOf, treeOf, structAt}
 use Rattle.cone_map.proofs.Entries.{read-back}
-use Rattle.cone_map.proofs.Few.{map-told, map-few as entries-few}
+use Rattle.cone_map.proofs.Few.{map-few as entries-few}
 use Rattle.chordal_info.proofs.Counts.{accepted-fitting}
 use Rattle.augment.specs.Fits.{extended, ObjectiveFits, ConstrainedFits}
 use Rattle.layout.proofs.Promises.{Taken, taken}

@@ -19,7 +19,8 @@ use Rattle.cone_map.specs.declared.ConeMapEntry.{ConeMapEntry}
 use Rattle.layout.specs.Calls.JoinEntries.{sameEntry, sameMap, entriesRefusal}
 use Rattle.cone_map.specs.Entries.{meant, allWords}
 use Rattle.cone_map.proofs.Entries.{words-same, all-words-length}
-use Rattle.cone_map.proofs.Few.{map-told, map-few}
+use Rattle.layout.proofs.ConeMap.{map-told}
+use Rattle.cone_map.proofs.Few.{map-few}
 use Rattle.decomp_reverse.proofs.Order.{checks-passed}
 use Rattle.decomp_reverse_entries.specs.Refusals.{wordsOf}
 

@@ -8,10 +8,10 @@ use mathlib.Core.List.{List, [], _∷_, _++_, map, map-append, map-map, append-n
 use lib.ListN.{length, getD, take, drop, length-append, length-map, List·getD-append}
 use lib.Seq.{getD-append-add, take-suc, take-all, take-add}
 use lib.Dec.{T, leb, ltb, le→leb, lt→ltb}
-use lib.Ieee.{nan}
-use Rattle.layout.specs.Lists.{has, all, below, upFrom, rises, sum, join, startsFrom}
+use lib.Ieee.{Float, nan}
+use Rattle.layout.specs.Lists.{has, all, below, upFrom, rises, part, sum, join, startsFrom}
 use Rattle.layout.specs.Problem.{Csc}
-use Rattle.layout.specs.Checks.{neverFalls, startCount, startsAtZero, startsEnd, rowsAsMany, startsRight, columnRows, rowsRight}
+use Rattle.layout.specs.Checks.{neverFalls, startCount, startsAtZero, startsEnd, rowsAsMany, startsRight, columnRows, rowsInOrder, rowsRight}
 use Rattle.layout.specs.Compact.{Entry, column, csc, rowsOf}
 use Rattle.layout.proofs.Tests.{and-iff, eqb-iff}
 use Rattle.layout.proofs.Members.{getD-map, has-join, has-below, length-below, getD-below, all-has}
@@ -79,18 +79,29 @@ module _ (cs : List (List Entry)) where
   pub csc-all : (p : ℕ → Bool) → ((c : ℕ) → c < length cs → T (all p (rowsOf (getD cs c [])))) → T (all p (csc cs .rows))
   csc-all p h = all-has p (csc cs .rows) .1 (λ r k. let (c, l, j) = row-of r k in all-has p (rowsOf (getD cs c [])) .0 (h c l) r j)
 
-  -- check 3, from the columns
-  pub csc-rows : (m : ℕ) → ((c : ℕ) → c < length cs → (r : ℕ) → T (has r (rowsOf (getD cs c []))) → r < m)
-      → ((c : ℕ) → c < length cs → T (rises (rowsOf (getD cs c [])))) → T (rowsRight m (length cs) (csc cs))
-  csc-rows m inside rising =
-      and-iff (all (λ r. ltb r m) (csc cs .rows)) (all (λ c. rises (columnRows (csc cs) c)) (below (length cs))) .1 (
-        csc-all (λ r. ltb r m) (λ c l. all-has (λ r. ltb r m) (rowsOf (getD cs c [])) .1 (λ r h. lt→ltb r m (inside c l r h))),
-        all-has (λ c. rises (columnRows (csc cs) c)) (below (length cs)) .1 (λ c h.
-            let l : c < length cs = has-below c (length cs) .0 h in
-            subst (λ (rs : List ℕ). T (rises rs))
-            (ap rowsOf (sym (column-csc cs c l)) ∙ column-rows (length cs) (csc cs) (starts-right (length cs) (csc cs) csc-starts) c l)
-            (rising c l)),
-      )
+  -- what holds of each column's rows
+  csc-each : (f : List ℕ → Bool) → ((c : ℕ) → c < length cs → T (f (rowsOf (getD cs c []))))
+      → T (all (λ c. f (columnRows (csc cs) c)) (below (length cs)))
+  csc-each f h = all-has (λ c. f (columnRows (csc cs) c)) (below (length cs)) .1 (λ c k.
+      let l : c < length cs = has-below c (length cs) .0 k in
+      subst (λ (rs : List ℕ). T (f rs))
+      (ap rowsOf (sym (column-csc cs c l)) ∙ column-rows (length cs) (csc cs) (starts-right (length cs) (csc cs) csc-starts) c l)
+      (h c l))
+
+  -- check 3, from the columns: that of P, and that of A
+  module _ (m : ℕ) (inside : (c : ℕ) → c < length cs → (r : ℕ) → T (has r (rowsOf (getD cs c []))) → r < m) where
+    rows-low : T (all (λ r. ltb r m) (csc cs .rows))
+    rows-low = csc-all (λ r. ltb r m) (λ c l. all-has (λ r. ltb r m) (rowsOf (getD cs c [])) .1 (λ r h. lt→ltb r m (inside c l r h)))
+
+    pub csc-rows : ((c : ℕ) → c < length cs → T (rises (rowsOf (getD cs c [])))) → T (rowsRight m (length cs) (csc cs))
+    csc-rows rising =
+        and-iff (all (λ r. ltb r m) (csc cs .rows)) (all (λ c. rises (columnRows (csc cs) c)) (below (length cs))) .1
+        (rows-low, csc-each rises rising)
+
+    pub csc-in-order : ((c : ℕ) → c < length cs → T (neverFalls (rowsOf (getD cs c [])))) → T (rowsInOrder m (length cs) (csc cs))
+    csc-in-order never =
+        and-iff (all (λ r. ltb r m) (csc cs .rows)) (all (λ c. neverFalls (columnRows (csc cs) c)) (below (length cs))) .1
+        (rows-low, csc-each neverFalls never)
 
 -- ---- columns given by a rule below n, and others after them
 
@@ -113,6 +124,10 @@ module _ (f : ℕ → List Entry) (n : ℕ) (ds : List (List Entry)) where
       ∙ ap (λ (i : ℕ). getD (ruled ++ ds) (i + k) []) (sym ruled-count) ∙ getD-append-add ruled ds k []
 
 -- ---- a matrix's own columns
+
+-- the values of column c
+abbrev pub columnValues : Csc → ℕ → List Float
+columnValues M c = part (getD (M .starts) c 0) (getD (M .starts) (suc c) 0) (M .values)
 
 -- the running totals after a, without a itself
 abbrev pub totals : ℕ → List ℕ → List ℕ
@@ -165,6 +180,10 @@ module _ (n : ℕ) (M : Csc) (right : RightStarts n M) where
 
   pub own-values : csc (map (column M) (below n)) .values ≡ M .values
   own-values = own-field (λ (e : Entry). e .value) nan (M .values) (sym (right .even)) (λ t. refl)
+
+  -- the values of one column
+  pub column-values : (c : ℕ) → c < n → map (λ (e : Entry). e .value) (column M c) ≡ columnValues M c
+  column-values c l = column-field (λ (e : Entry). e .value) nan (M .values) (sym (right .even)) (λ t. refl) c l
 
   abbrev width : ℕ → ℕ
   width c = length (column M c)

@@ -1,22 +1,26 @@
 -- The cone map's first rows and row counts: each entry starts where the one before it ends, its rows are its block's, and a walk over
--- the entries that reads them joins a solution as the walk over all augmented rows does.
+-- the entries that reads them joins a solution as the walk over all augmented rows does. Its patterns' numbers lie below the mark for none.
 use Prim.Native.Nat.{ℕ, zero, suc, _+_, _*_, _≤_, _<_}
 use native.Mathlib.Nat.{not-suc-le-zero, le-of-suc-le-suc, le-refl}
 use native.Mathlib.Omega.{arith}
 use mathlib.Core.Path.{_≡_, refl, sym, ap, ap₂, subst, _∙_}
+use mathlib.Core.Bool.{Bool, true, false, cond}
 use mathlib.Core.List.{List, [], _∷_, _++_, map, reverse, map-append}
 use lib.ListN.{length, getD, take, drop, drop-of-length-le, length-map}
 use lib.Seq.{drop-cons, drop-drop, getD-drop, take-at, drop-at}
+use lib.Dec.{eqb}
 use lib.Ieee.{Float}
 use Rattle.layout.specs.Lists.{below, upFrom, sum, join, walk}
 use Rattle.layout.specs.Triangle.{triangle}
-use Rattle.layout.specs.Cones.{rowCount}
-use Rattle.layout.specs.Patterns.{Pattern, Clique, cliqueCount, blockSize, noClique}
-use Rattle.layout.specs.Blocks.{Part, whole, cut, Row, kept, block, rowOf, blockRows, firstRow, rowsFrom, compactRows, partRows, blockRowCount}
-use Rattle.layout.specs.Checks.{RightPattern, Laid}
-use Rattle.layout.specs.Compact.{MapEntry, wholeCone, blockOf, blockEntry, mapPart, mapFrom, coneMap, entryWords, mapWords}
+use Rattle.layout.specs.Cones.{Cone, records, rowCount}
+use Rattle.layout.specs.Patterns.{Pattern, Clique, patterns, cliqueCount, blockSize, noClique}
+use Rattle.layout.specs.Blocks.{Part, whole, cut, partsFrom, Row, kept, block, rowOf, blockRows, firstRow, rowsFrom, compactRows, partRows, blockRowCount}
+use Rattle.layout.specs.Checks.{Sound, RightPattern, Laid}
+use Rattle.layout.specs.Compact.{MapEntry, wholeCone, blockOf, blockEntry, mapPart, mapFrom, coneMap, noPatternNumber, entryWords, mapWords}
+use Rattle.layout.specs.Answers.{joinedParts}
 use Rattle.layout.specs.Reverse.{addRow, addRows, putRow, putRows}
 use Rattle.layout.proofs.Members.{length-upFrom}
+use Rattle.layout.proofs.Accepted.{sound-cone-count}
 use Rattle.layout.proofs.Joins.{reverse-below}
 use Rattle.layout.proofs.Starts.{join-append, join-map}
 use Rattle.layout.proofs.Rows.{block-length}
@@ -228,3 +232,37 @@ rows-word es k d l = sym (getD-drop (5 * k) (mapWords es) 4 0) ∙ ap (λ (ws : 
     fourth : (e : MapEntry) → getD (entryWords e ++ mapWords (drop (suc k) es)) 4 0 ≡ entryRows e
     fourth (wholeCone i first rows) = refl
     fourth (blockOf i k c first rows) = refl
+
+-- ---- patterns' numbers
+
+-- they are below the mark
+abbrev pub Told : List MapEntry → Type 0
+Told [] = Unit {0}
+Told (wholeCone i first rows ∷ es) = Told es
+Told (blockOf i k c first rows ∷ es) = (k < noPatternNumber) × Told es
+
+told-append : (es fs : List MapEntry) → Told es → Told fs → Told (es ++ fs)
+told-append [] fs h g = g
+told-append (wholeCone i a n ∷ es) fs h g = told-append es fs h g
+told-append (blockOf i k c a n ∷ es) fs h g = (h .0, told-append es fs (h .1) g)
+
+told-blocks : (i k : ℕ) (p : Pattern) (first : ℕ) (cs : List ℕ) → k < noPatternNumber → Told (map (blockEntry i k p first) cs)
+told-blocks i k p first [] l = tt
+told-blocks i k p first (c ∷ cs) l = (l, told-blocks i k p first cs l)
+
+-- a part's number is at most its cone's
+told-parts : (i row k first : ℕ) (cs : List Cone) (ps : List Pattern) → k ≤ i → i + length cs ≤ 1024 → Told (mapFrom first (partsFrom i row k cs ps))
+told-parts i row k first [] ps l few = tt
+told-parts i row k first (c ∷ cs) [] l few = told-parts (suc i) (row + rowCount c) k (first + rowCount c) cs [] (omega arith) (omega arith)
+told-parts i row k first (c ∷ cs) (p ∷ ps) l few =
+    go (eqb (p .origIndex) i) (λ k′ first′ qs l′. told-parts (suc i) (row + rowCount c) k′ first′ cs qs l′ (omega arith))
+  where
+    go : (b : Bool) → ((k′ first′ : ℕ) (qs : List Pattern) → k′ ≤ suc i → Told (mapFrom first′ (partsFrom (suc i) (row + rowCount c) k′ cs qs)))
+        → Told (mapFrom first (cond b (cut i row k p) (whole i c row) ∷ partsFrom (suc i) (row + rowCount c) (cond b (suc k) k) cs (cond b ps (p ∷ ps))))
+    go true later =
+        told-append (mapPart first (cut i row k p)) (mapFrom (first + partRows (cut i row k p)) (partsFrom (suc i) (row + rowCount c) (suc k) cs ps))
+        (told-blocks i k p first (reverse (below (cliqueCount p))) (omega arith)) (later (suc k) (first + partRows (cut i row k p)) ps (omega arith))
+    go false later = later k (first + rowCount c) (p ∷ ps) (omega arith)
+
+pub map-told : {m : ℕ} {cones : List ℕ} {count : ℕ} {words : List ℕ} → Sound m cones count words → Told (coneMap (joinedParts cones count words))
+map-told {m} {cones} {count} {words} h = told-parts 0 0 0 0 (records cones) (patterns count words) (omega arith) (omega (arith, sound-cone-count h))

@@ -6,7 +6,7 @@ use mathlib.Core.Bool.{Bool, true, false, cond}
 use mathlib.Core.List.{List, [], _∷_, _++_, map}
 use lib.ListN.{length, getD, length-append, length-map}
 use lib.Dec.{T, eqb, eqb→eq}
-use Rattle.layout.specs.Lists.{all, sum, upFrom}
+use Rattle.layout.specs.Lists.{sum, upFrom}
 use Rattle.layout.specs.Triangle.{triangle}
 use Rattle.layout.specs.Problem.{Problem, Route}
 use Rattle.layout.specs.Cones.{Cone, records, rowCount, kindOf, nvars}
@@ -16,7 +16,7 @@ use Rattle.layout.specs.Checks.{Sound, noCone, namesItsCone, refusal, la
 use Rattle.layout.proofs.Tests.{and-iff, eqb-iff}
 use Rattle.layout.proofs.Members.{EveryAt, every-cons, all-at, length-upFrom}
 use Rattle.layout.proofs.Rows.{rows-count}
-use Rattle.layout.proofs.Accepted.{sound-patterns, accepted-sound}
+use Rattle.layout.proofs.Accepted.{sound-names, sound-cone-rows, sound-patterns, accepted-sound}
 use Rattle.layout.proofs.Moves.{RightRows, nil-rows, kept-rows, append-rows, pattern-rows}
 
 -- ---- the rows of parts that are laid
@@ -127,15 +127,12 @@ module _ {m : ℕ} {cones : List ℕ} {count : ℕ} {words : List ℕ} (h : Soun
   sound-laid = parts-laid noPattern 0 0 0 (records cones) (patterns count words) (λ n l. (
     sound-patterns noPattern h n l,
     names-fits (records cones) (getD (patterns count words) n noPattern)
-        (all-at noPattern (namesItsCone (records cones)) (patterns count words) .0 names n l),
+        (all-at noPattern (namesItsCone (records cones)) (patterns count words) .0 (sound-names h) n l),
   ))
-    where
-      names : T (all (namesItsCone (records cones)) (patterns count words))
-      names = (simp and-iff at (h .named)) .0 .1
 
   -- the cones have m rows
   pub sound-total : sum (map coneRows ps) ≡ m
-  sound-total = sound-laid .1 ∙ (simp (and-iff, eqb-iff) at (h .read)) .1
+  sound-total = sound-laid .1 ∙ sound-cone-rows h
 
   pub sound-count : length (compactRows (parts (records cones) (patterns count words))) ≡ blockRowCount (parts (records cones) (patterns count words))
   sound-count = length-rows 0 0 ps (sound-laid .0)

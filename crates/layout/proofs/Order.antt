@@ -19,6 +19,10 @@ pub orElse-zero : (a b : ℕ) → (orElse a b ≡ 0) ↔ ((a ≡ 0) × (b ≡ 0)
 orElse-zero zero b = (λ e. (refl, e), λ h. h .1)
 orElse-zero (suc a) b = (λ e. absurd (omega arith), λ h. absurd (omega arith))
 
+pub orElse-assoc : (a b c : ℕ) → orElse (orElse a b) c ≡ orElse a (orElse b c)
+orElse-assoc zero b c = refl
+orElse-assoc (suc a) b c = refl
+
 -- only a first number that is 0 lets the second count
 pub orElse-same : (a b c : ℕ) → (a ≡ 0 → b ≡ c) → orElse a b ≡ orElse a c
 orElse-same zero b c h = h refl

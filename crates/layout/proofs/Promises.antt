@@ -2,16 +2,19 @@
 -- problem and has the room for it.
 use Prim.Native.Nat.{ℕ, zero, suc, _≤_}
 use native.Mathlib.Omega.{arith}
-use mathlib.Core.Path.{_≡_, refl}
+use mathlib.Core.Path.{_≡_, refl, ap, _∙_}
 use mathlib.Core.Bool.{Bool, true, false, cond}
-use mathlib.Core.List.{List}
+use mathlib.Core.List.{List, _∷_}
+use lib.ListN.{length, take}
 use lib.Dec.{T}
-use Rattle.layout.specs.Problem.{Problem, Route, standard, compact}
+use Rattle.layout.specs.Problem.{Problem, tableLengths, Route, standard, compact}
 use Rattle.layout.specs.Checks.{refusal}
-use Rattle.layout.specs.Answers.{Augmented, lengths, orElse, onRoute, routeOf, roomy, sizes, cutRefusal}
+use Rattle.layout.specs.Answers.{Augmented, lengths, output, orElse, onRoute, routeOf, roomy, sizes, cutRefusal}
 use Rattle.layout.specs.Calls.Cut.{Objective, HoldsObjective, Constrained, HoldsConstrained, Cut}
 use Rattle.layout.specs.Calls.Join.{Rejoined, HoldsRejoined}
-use Rattle.layout.proofs.Buffers.{output-kept}
+use Rattle.layout.specs.Calls.Tables.{Tables, tablesOf, rooms, problemAt, HoldsTables}
+use Rattle.layout.proofs.Tests.{and-iff, leb-iff}
+use Rattle.layout.proofs.Buffers.{output-kept, front-read}
 
 module _ (r : ℕ) (refused : r ≡ 0 → ⊥) where
   pub objective-kept : (new old : Objective) → HoldsObjective r new old old
@@ -46,6 +49,9 @@ module _ (r : ℕ) (refused : r ≡ 0 → ⊥) where
     tables = record { objective = objective-kept _ _; constrained = constrained-kept _ _; map = output-kept r _ _ refused };
   }
 
+  pub tables-kept : (new old : Tables) → HoldsTables r new old old
+  tables-kept new old = record { objective = objective-kept _ _; constrained = constrained-kept _ _; patternWords = output-kept r _ _ refused }
+
 -- ---- a cut that is not refused
 
 abbrev pub Taken : Route → Problem → List ℕ → Type 0
@@ -61,3 +67,59 @@ pub taken : (k : ℕ) (p : Problem) (rooms : List ℕ) → onRoute k (λ rt. cut
 taken zero p rooms h = (omega arith, both (refusal standard p) (roomy (sizes standard p) rooms) h)
 taken (suc zero) p rooms h = (omega arith, both (refusal compact p) (roomy (sizes compact p) rooms) h)
 taken (suc (suc k)) p rooms h = absurd (omega arith)
+
+-- ---- a problem's tables
+
+-- each output has room for its table
+pub record TablesFit (p : Problem) (t : Tables) : Type 0 where
+  pub p-starts : length (p .P .starts) ≤ length (t .P .starts)
+  pub p-rows : length (p .P .rows) ≤ length (t .P .rows)
+  pub p-values : length (p .P .values) ≤ length (t .P .values)
+  pub q : length (p .q) ≤ length (t .q)
+  pub a-starts : length (p .A .starts) ≤ length (t .A .starts)
+  pub a-rows : length (p .A .rows) ≤ length (t .A .rows)
+  pub a-values : length (p .A .values) ≤ length (t .A .values)
+  pub b : length (p .b) ≤ length (t .b)
+  pub cones : length (p .cones) ≤ length (t .cones)
+  pub alphas : length (p .alphas) ≤ length (t .alphas)
+  pub patternWords : length (p .patternWords) ≤ length (t .patternWords)
+
+pub tables-fit : (p : Problem) (t : Tables) → T (roomy (tableLengths p) (rooms t)) → TablesFit p t
+tables-fit p t h =
+    let each = simp (and-iff, leb-iff) at h in record {
+      p-starts = omega arith;
+      p-rows = omega arith;
+      p-values = omega arith;
+      q = omega arith;
+      a-starts = omega arith;
+      a-rows = omega arith;
+      a-values = omega arith;
+      b = omega arith;
+      cones = omega arith;
+      alphas = omega arith;
+      patternWords = omega arith;
+    }
+
+-- the front of an output that a call with number 0 has written
+at-front : {A : Type 0} (r : ℕ) (new old out : List A) → r ≡ 0 → out ≡ output r new old → take (length new) out ≡ new
+at-front r new old out z e = front-read new old (e ∙ ap (λ (k : ℕ). output k new old) z)
+
+-- where a call has written a problem's tables, they stand at the fronts
+pub tables-front : (r : ℕ) (p : Problem) (before after : Tables) → r ≡ 0 → HoldsTables r (tablesOf p) before after
+    → problemAt (p .n) (p .m) (p .patternCount) p after ≡ p
+tables-front r p before after z h =
+    let o = h .objective in
+    let k = h .constrained in
+    rw (
+      at-front r (p .P .starts) _ _ z (o .p-starts),
+      at-front r (p .P .rows) _ _ z (o .p-rows),
+      at-front r (p .P .values) _ _ z (o .p-values),
+      at-front r (p .q) _ _ z (o .q),
+      at-front r (p .A .starts) _ _ z (k .a-starts),
+      at-front r (p .A .rows) _ _ z (k .a-rows),
+      at-front r (p .A .values) _ _ z (k .a-values),
+      at-front r (p .b) _ _ z (k .b),
+      at-front r (p .cones) _ _ z (k .cones),
+      at-front r (p .alphas) _ _ z (o .alphas),
+      at-front r (p .patternWords) _ _ z (h .patternWords),
+    )

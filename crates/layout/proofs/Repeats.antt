@@ -159,6 +159,40 @@ summed-all p (e ∷ es) h =
     let (here, rest) = and-iff (p (e .row)) (all (λ (e : Entry). p (e .row)) es) .0 h in
     from-all p e es here rest
 
+-- ---- columns one after the other
+
+from-append : (e : Entry) (es fs : List Entry) → ((x y : ℕ) → T (has x (rowsOf (e ∷ es))) → T (has y (rowsOf fs)) → x < y)
+    → summedFrom e (es ++ fs) ≡ summedFrom e es ++ summed fs
+from-append e [] [] apart = refl
+from-append e [] (f ∷ fs) apart =
+    cond-failed (eqb (e .row) (f .row)) (summedFrom (plus e f) fs) (e ∷ summedFrom f fs) (λ h.
+    let same = eqb→eq (e .row) (f .row) h in
+    let low = apart (e .row) (f .row) (has-cons (e .row) (e .row) [] .1 (inl refl)) (has-cons (f .row) (f .row) (rowsOf fs) .1 (inl refl)) in
+    absurd (omega arith))
+from-append e (g ∷ es) fs apart =
+    go (eqb (e .row) (g .row))
+    (from-append (plus e g) es fs (λ x y h k. apart x y (skip x h) k))
+    (from-append g es fs (λ x y h k. apart x y (has-cons x (e .row) (g .row ∷ rowsOf es) .1 (inr h)) k))
+  where
+    skip : (x : ℕ) → T (has x (e .row ∷ rowsOf es)) → T (has x (e .row ∷ g .row ∷ rowsOf es))
+    skip x h = elim (has-cons x (e .row) (rowsOf es) .0 h) [
+      | inl q ↦ has-cons x (e .row) (g .row ∷ rowsOf es) .1 (inl q)
+      | inr m ↦ has-cons x (e .row) (g .row ∷ rowsOf es) .1 (inr (has-cons x (g .row) (rowsOf es) .1 (inr m)))
+    ]
+
+    go : (b : Bool) → summedFrom (plus e g) (es ++ fs) ≡ summedFrom (plus e g) es ++ summed fs
+        → summedFrom g (es ++ fs) ≡ summedFrom g es ++ summed fs
+        → cond b (summedFrom (plus e g) (es ++ fs)) (e ∷ summedFrom g (es ++ fs))
+        ≡ cond b (summedFrom (plus e g) es) (e ∷ summedFrom g es) ++ summed fs
+    go true h k = h
+    go false h k = ap {B = List Entry} (λ l. e ∷ l) k
+
+-- entries on rows above those of others: a run never goes on from one to the other
+pub summed-append : (es fs : List Entry) → ((x y : ℕ) → T (has x (rowsOf es)) → T (has y (rowsOf fs)) → x < y)
+    → summed (es ++ fs) ≡ summed es ++ summed fs
+summed-append [] fs apart = refl
+summed-append (e ∷ es) fs apart = from-append e es fs apart
+
 -- ---- what stands on one row: the sum of its run
 
 -- none for no value, and otherwise the sum

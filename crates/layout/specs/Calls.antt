@@ -11,3 +11,5 @@ pub mod Join
 pub mod JoinEntries
 pub mod SameLayout
 pub mod ChangeRoute
+pub mod Tables
+pub mod Pool

@@ -1,7 +1,8 @@
 -- A problem as flat tables, a route, a solution. Definitions only.
 use Prim.Native.Nat.{ℕ}
 use mathlib.Core.Bool.{true, false}
-use mathlib.Core.List.{List}
+use mathlib.Core.List.{List, [], _∷_}
+use lib.ListN.{length}
 use lib.IntN.{pos}
 use lib.Ieee.{Float, fin}
 
@@ -53,6 +54,13 @@ problem n m pStarts pRows pValues q aStarts aRows aValues b cones alphas count w
   patternCount = count;
   patternWords = words;
 }
+
+-- the length of each of a problem's eleven tables, in the order in which calls take and give them
+abbrev pub tableLengths : Problem → List ℕ
+tableLengths p =
+    length (p .P .starts) ∷ length (p .P .rows) ∷ length (p .P .values) ∷ length (p .q)
+    ∷ length (p .A .starts) ∷ length (p .A .rows) ∷ length (p .A .values) ∷ length (p .b)
+    ∷ length (p .cones) ∷ length (p .alphas) ∷ length (p .patternWords) ∷ []
 
 -- a problem with another right side
 abbrev pub withB : Problem → List Float → Problem

@@ -609,6 +609,84 @@ fn join<'a>(words: &'a [u32], values: &'a [f64]) -> u32 {
     values_hold(r, words, values, 23, both)
 }
 
+// ---- pooling
+
+const POOL: u8 = 11;
+
+// The second problem and the outputs stand in a case of their own, at the places that a cut has for them, the pattern
+// words in that of the map.
+fn pool<'a>(words: &'a [u32], values: &'a [f64], more: &'a [u32], more_values: &'a [f64]) -> u32 {
+    let mut p_starts_out = [0u32; 4096];
+    let mut p_rows_out = [0u32; 4096];
+    let mut p_values_out = [0f64; 4096];
+    let mut q_out = [0f64; 4096];
+    let mut a_starts_out = [0u32; 4096];
+    let mut a_rows_out = [0u32; 4096];
+    let mut a_values_out = [0f64; 4096];
+    let mut b_out = [0f64; 4096];
+    let mut cones_out = [0u32; 4096];
+    let mut alphas_out = [0f64; 4096];
+    let mut pattern_out = [0u32; 4096];
+    let given = words_at(words, 0);
+    let r = door::chordal_pool(
+        item(given, 0),
+        item(given, 1),
+        words_at(words, 2),
+        words_at(words, 3),
+        values_at(words, values, 16),
+        values_at(words, values, 17),
+        words_at(words, 4),
+        words_at(words, 5),
+        values_at(words, values, 18),
+        values_at(words, values, 19),
+        words_at(words, 6),
+        values_at(words, values, 20),
+        item(given, 2),
+        words_at(words, 7),
+        item(given, 3),
+        item(given, 4),
+        words_at(more, 2),
+        words_at(more, 3),
+        values_at(more, more_values, 16),
+        values_at(more, more_values, 17),
+        words_at(more, 4),
+        words_at(more, 5),
+        values_at(more, more_values, 18),
+        values_at(more, more_values, 19),
+        words_at(more, 6),
+        values_at(more, more_values, 20),
+        item(given, 5),
+        words_at(more, 7),
+        words_room(&mut p_starts_out, more, 8),
+        words_room(&mut p_rows_out, more, 9),
+        values_room(&mut p_values_out, more, more_values, 21),
+        values_room(&mut q_out, more, more_values, 22),
+        words_room(&mut a_starts_out, more, 10),
+        words_room(&mut a_rows_out, more, 11),
+        values_room(&mut a_values_out, more, more_values, 23),
+        values_room(&mut b_out, more, more_values, 24),
+        words_room(&mut cones_out, more, 12),
+        values_room(&mut alphas_out, more, more_values, 25),
+        words_room(&mut pattern_out, more, 13),
+    );
+    cut_answer(
+        r,
+        more,
+        more_values,
+        p_starts_out,
+        p_rows_out,
+        p_values_out,
+        q_out,
+        a_starts_out,
+        a_rows_out,
+        a_values_out,
+        b_out,
+        cones_out,
+        alphas_out,
+        pattern_out,
+    )
+}
+
 // ---- a case
 
 // Whether a case's call answers what is stored, the first number of a list, and leaves in its outputs what is stored.
@@ -624,12 +702,34 @@ fn agrees<'a>(family: u8, answer: u8, words: &'a [u32], values: &'a [f64]) -> bo
 }
 
 // The next case of a file. It has 16,384 numbers of each kind at most.
-fn next_agrees(fd: i32, family: u8, answer: u8) -> bool {
+fn next_case_agrees(fd: i32, family: u8, answer: u8) -> bool {
     let mut words = [0u32; 16384];
     let mut values = [0f64; 16384];
     load_words(fd, &mut words);
     load_values(fd, &mut words, &mut values);
     agrees(family, answer, &words, &values)
+}
+
+// The next two, which pooling has.
+fn next_two_agree(fd: i32, answer: u8) -> bool {
+    let mut words = [0u32; 16384];
+    let mut values = [0f64; 16384];
+    let mut more = [0u32; 16384];
+    let mut more_values = [0f64; 16384];
+    load_words(fd, &mut words);
+    load_values(fd, &mut words, &mut values);
+    load_words(fd, &mut more);
+    load_values(fd, &mut more, &mut more_values);
+    let r = pool(&words, &values, &more, &more_values);
+    r == item(words_at(&words, answer), 0)
+}
+
+fn next_agrees(fd: i32, family: u8, answer: u8) -> bool {
+    if family == POOL {
+        next_two_agree(fd, answer)
+    } else {
+        next_case_agrees(fd, family, answer)
+    }
 }
 
 // A family's line: how many cases it has, or how many are equal before one that is not.
@@ -676,4 +776,5 @@ fn main() {
     replay(b"join", JOIN, 1);
     replay(b"cut_between", CUT_BETWEEN, 1);
     replay(b"cut_many", CUT_MANY, 1);
+    replay(b"pool", POOL, 1);
 }

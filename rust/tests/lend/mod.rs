@@ -1,7 +1,7 @@
 //! Tables of the comparison, lent to the calls of `flat`.
 
 use crate::problem::{Cut, Joined, Problem, Solution};
-use tejiwakpa::flat::{CutOutputs, JoinOutputs, Joining, Tables};
+use tejiwakpa::flat::{CutOutputs, JoinOutputs, Joining, TableOutputs, Tables};
 use tejiwakpa::Refusal;
 
 pub fn tables(p: &Problem) -> Tables<'_> {
@@ -53,6 +53,23 @@ pub fn cut_outputs(cut: &mut Cut) -> CutOutputs<'_> {
         cones: &mut cut.cones,
         alphas: &mut cut.alphas,
         map: &mut cut.map,
+    }
+}
+
+#[allow(dead_code)]
+pub fn table_outputs(p: &mut Problem) -> TableOutputs<'_> {
+    TableOutputs {
+        p_starts: &mut p.p.starts,
+        p_rows: &mut p.p.rows,
+        p_values: &mut p.p.values,
+        q: &mut p.q,
+        a_starts: &mut p.a.starts,
+        a_rows: &mut p.a.rows,
+        a_values: &mut p.a.values,
+        b: &mut p.b,
+        cones: &mut p.cones,
+        alphas: &mut p.alphas,
+        pattern_words: &mut p.pattern_words,
     }
 }
 
