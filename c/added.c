@@ -81,11 +81,32 @@ static int pool(void) {
            (words[sizeof pattern_words / sizeof(uint32_t)] == 1);
 }
 
+/* a problem that any site can make again; a band as wide as the cone is refused */
+static int generate(void) {
+    static const double want_values[] = {56, -80, -61}, want_b[] = {44, -43, -32};
+    static const uint32_t want[] = {2, 0, 0, 1, 2, 3, 3, 3, 3, 0, 10};
+    uint32_t lengths[11], p_starts_made[2], starts[2], rows[3], cones_made[3], words[10];
+    double q_made[1], values[3], b_made[3];
+    uint32_t refusal = chordal_generate_sizes(1, 2, 1, 1, ALL(lengths));
+    if (!done("sizes of a generated problem", refusal)) return 0;
+    refusal = chordal_generate(1, 2, 1, 1, ALL(p_starts_made), p_rows_out, 0, p_values_out, 0, ALL(q_made), ALL(starts),
+                               ALL(rows), ALL(values), ALL(b_made), ALL(cones_made), alphas_out, 0, ALL(words));
+    if (!done("generated problem", refusal)) return 0;
+    print_values("A", values, 3);
+    print_values("b", b_made, 3);
+    int right = (memcmp(lengths, want, sizeof want) == 0) & equal("A", values, want_values, 3) & equal("b", b_made, want_b, 3);
+
+    refusal = chordal_generate_sizes(1, 2, 2, 1, ALL(lengths));
+    done("a band as wide as the cone", refusal);
+    return right & (refusal == CHORDAL_RANGES);
+}
+
 int main(void) {
     int right = change_route();
     right &= cut_between();
     right &= cut_many();
     right &= pool();
+    right &= generate();
     printf(right ? "all as it must be\n" : "something is wrong\n");
     return right ? EXIT_SUCCESS : EXIT_FAILURE;
 }

@@ -42,6 +42,8 @@ enum chordal_refusal {
     CHORDAL_TOO_LARGE = 10,  /* more than 262,144 augmented rows or, compact, 131,072 overlaps */
     CHORDAL_SHORT = 11,      /* an output is too short */
     CHORDAL_SOLUTION = 12,   /* a solution's lengths, or the cone map, are not those that the problem gives */
+    CHORDAL_RANGES = 15,     /* the seed of a problem to be generated is 0, or its vertex count, band or column count is out of its
+                                range; comes before anything else */
     CHORDAL_LIMITS = 16,     /* a low limit above its high one, or a NaN in either; comes after 4 */
     CHORDAL_UNKNOWNS = 17    /* two problems to be pooled have different n; comes after both have passed 1 to 7 */
 };
@@ -172,6 +174,24 @@ uint32_t chordal_pool(
     const double *a_values2, size_t a_values2_len, const double *b2, size_t b2_len,
     const uint32_t *cones2, size_t cones2_len, const double *alphas2, size_t alphas2_len,
     uint32_t pattern_count2, const uint32_t *pattern_words2, size_t pattern_words2_len,
+    uint32_t *p_starts_out, size_t p_starts_out_len, uint32_t *p_rows_out, size_t p_rows_out_len,
+    double *p_values_out, size_t p_values_out_len, double *q_out, size_t q_out_len,
+    uint32_t *a_starts_out, size_t a_starts_out_len, uint32_t *a_rows_out, size_t a_rows_out_len,
+    double *a_values_out, size_t a_values_out_len, double *b_out, size_t b_out_len,
+    uint32_t *cones_out, size_t cones_out_len, double *alphas_out, size_t alphas_out_len,
+    uint32_t *pattern_words_out, size_t pattern_words_out_len);
+
+/* The lengths of the eleven tables of a generated problem: p starts, p rows, p values, q, a starts, a rows, a values, b,
+ * cones, alphas, pattern words. Refusals 15, 11. */
+uint32_t chordal_generate_sizes(uint64_t seed, uint32_t v, uint32_t w, uint32_t n, uint32_t *out, size_t out_len);
+
+/* A problem that any site can make again, from a seed that is not 0, a vertex count v of 2 to 64, a band w with 1 <= w < v,
+ * and n of 1 to 64. Its one cone is PSDTriangle of dimension v, its m is v (v + 1) / 2, and it has one pattern. A draw
+ * changes a uint64_t by exclusive or with itself shifted left 13, right 7 and left 17. Drawn are, in this order, the ordering,
+ * the entries of A over the rows that a clique covers, column by column, and b there; values are whole, from -100 to 100.
+ * Both routes accept it. Refusals 15, 11. */
+uint32_t chordal_generate(
+    uint64_t seed, uint32_t v, uint32_t w, uint32_t n,
     uint32_t *p_starts_out, size_t p_starts_out_len, uint32_t *p_rows_out, size_t p_rows_out_len,
     double *p_values_out, size_t p_values_out_len, double *q_out, size_t q_out_len,
     uint32_t *a_starts_out, size_t a_starts_out_len, uint32_t *a_rows_out, size_t a_rows_out_len,

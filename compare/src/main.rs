@@ -10,6 +10,8 @@ mod door;
 mod exact;
 mod exhaustive;
 mod expected;
+mod generated;
+mod loads;
 mod pool;
 mod problem;
 mod random;
@@ -33,6 +35,9 @@ compare/run --exhaustive           every clique tree on up to 4 vertices, every 
                                    repeated and without a column
 compare/run --rounding [--cases N]     errors of the joined s beside their bound (Q-9), in exact sums
 compare/run --both-routes [--cases N]  solutions held against both routes' written equations (Q-13), in exact sums
+compare/run --loads [--cases N]        generated problems (Q-5): every vertex count with every band through both routes,
+                                       then N at random
+compare/run --test-load            what crate test_load prints, from the plain reading
 compare/run --vectors FILE         stored cases (JSON, one a line), told by the file's name: cases.jsonl, q-N.jsonl
 compare/run --differences          clarabel on the inputs of docs/DIFFERENCES.md
 compare/run --speed                times, with ratios where the door is linked
@@ -276,6 +281,8 @@ fn compare() -> i32 {
             "--differences" => mode = "differences",
             "--rounding" => mode = "rounding",
             "--both-routes" => mode = "both routes",
+            "--loads" => mode = "loads",
+            "--test-load" => mode = "test load",
             "--speed" => mode = "speed",
             "--vectors" => (mode, file) = ("vectors", Some(value())),
             "--store" => (mode, file) = ("store", Some(value())),
@@ -311,6 +318,11 @@ fn compare() -> i32 {
         }
         "rounding" => rounding::compare(&mut report, o.cases, o.seed).print(),
         "both routes" => both_routes::compare(&mut report, o.cases, o.seed),
+        "loads" => loads::compare(&mut report, o.cases, o.seed),
+        "test load" => {
+            print!("{}", loads::test_load_text());
+            return 0;
+        }
         "exhaustive" => exhaustive_cases(&mut report, &o),
         "one" => {
             for scale in [random::TINY, random::SMALL, random::LARGE] {

@@ -8,6 +8,8 @@ use crate::against::{join_input, tables};
 use crate::change_route;
 use crate::door;
 use crate::expected::{self, Clique, Pattern};
+use crate::generated::Load;
+use crate::loads;
 use crate::pool;
 use crate::problem::*;
 use crate::random::{self, band_pattern, Draws};
@@ -114,6 +116,10 @@ fn inputs() -> Vec<(String, Problem)> {
         "500 cones PSD 6, band 2, n 200, 100 entries a column".into(),
         made(d, 200, 100, [6, 6, 0].repeat(500), small),
     ));
+    for (v, w, n) in [(8, 2, 4), (64, 10, 64)] {
+        let load = Load { seed: 1, v, w, n };
+        out.push((format!("generated, seed 1, v {v}, w {w}, n {n}"), load.problem(None).expect("a load")));
+    }
     out.push((
         "undecomposed, m 65,536, n 1,000, 250 entries a column".into(),
         made(d, 1_000, 250, vec![1, 65_536, 0], vec![]),
@@ -475,6 +481,23 @@ fn pooled(name: &str, p: &Problem) {
     beside_line(name, "pooling with itself", "its outputs copied (memcpy)", times);
 }
 
+// beside the plain reading in Rust, which allocates what it answers
+fn generated(load: Load) {
+    let lengths = load.sizes(11).expect("a load");
+    let mut out = door::cut_outputs(&lengths);
+    assert_eq!(loads::generate(load, &mut out), 0, "the door refuses {load:?}");
+    let times = medians([
+        &mut || {
+            black_box(loads::generate(black_box(load), &mut out));
+        },
+        &mut || {
+            let _ = black_box(black_box(load).problem(None));
+        },
+    ]);
+    let name = format!("seed {}, v {}, w {}, n {}", load.seed, load.v, load.w, load.n);
+    beside_line(&name, "generated problem", "the plain reading, in Rust", times);
+}
+
 fn requests() {
     println!("\n| input | call | door | beside | time | door / beside |");
     println!("|---|---|---|---|---|---|");
@@ -487,6 +510,9 @@ fn requests() {
         if name.contains("dense") || p.m < 10 {
             many_sides(&name, &p);
         }
+    }
+    for (v, w, n) in [(2, 1, 1), (8, 2, 4), (16, 5, 8), (64, 1, 64), (64, 10, 64), (64, 63, 64)] {
+        generated(Load { seed: 1, v, w, n });
     }
 }
 

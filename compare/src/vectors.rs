@@ -7,6 +7,8 @@ use crate::against::{self, cut_difference, join_difference, join_input};
 use crate::change_route;
 use crate::door;
 use crate::expected;
+use crate::generated::Load;
+use crate::loads;
 use crate::pool;
 use crate::problem::*;
 use crate::random::Draws;
@@ -459,10 +461,35 @@ fn passes(run: &mut Run, case: &Json) -> Result<(), String> {
     Ok(())
 }
 
+// a seed, as text, the three counts, and the generated problem
+fn loads(run: &mut Run, case: &Json) -> Result<(), String> {
+    let seed = match case.get("seed")? {
+        Json::Text(seed) => seed.parse().map_err(|e| format!("no seed: {e}"))?,
+        _ => return Err("no seed".into()),
+    };
+    let count = |name: &str| case.get(name)?.number();
+    let load = Load { seed, v: count("v")?, w: count("w")?, n: count("n")? };
+    let made = load.problem(None);
+    let shown = made.clone().unwrap_or_default();
+    run.answered("generated problem", &shown, &made, case.get("answer")?, |ours, stored| {
+        let stored = problem(stored)?;
+        let counts = |p: &Problem| [p.n, p.m, p.pattern_count];
+        let wrong = cut_difference(&added::as_tables(ours.clone()), &added::as_tables(stored.clone()));
+        let wrong = wrong.or((counts(ours) != counts(&stored)).then_some("n, m or pattern count"));
+        Ok(wrong.map(|w| format!("{w} differs")))
+    })?;
+    if door::LINKED {
+        for _ in 0..TIMES {
+            loads::compare_load(run.report, run.draws, load);
+        }
+    }
+    Ok(())
+}
+
 // what reads and compares a case of a file
 type Form = fn(&mut Run, &Json) -> Result<(), String>;
 
-const FORMS: [(&str, Form); 9] = [
+const FORMS: [(&str, Form); 10] = [
     ("cases", base),
     ("q-7", |run, case| cuts(run, case, 3)),
     ("q-10", same_layout),
@@ -472,6 +499,7 @@ const FORMS: [(&str, Form); 9] = [
     ("q-8", limits),
     ("q-1", exposures),
     ("q-11", passes),
+    ("q-5", loads),
 ];
 
 /// Compares each case of the file, whose name without its ending is one of `FORMS`.

@@ -658,6 +658,60 @@ pub fn pool(first: &Tables, second: &Tables, out: &mut TableOutputs) -> Result<(
     })
 }
 
+/// The lengths of the eleven tables of a generated problem, in the order of [`TableOutputs`].
+///
+/// ```
+/// let mut lengths = [0; 11];
+/// tejiwakpa::flat::generate_sizes(1, 2, 1, 1, &mut lengths)?;
+/// assert_eq!(lengths, [2, 0, 0, 1, 2, 3, 3, 3, 3, 0, 10]);
+/// # Ok::<(), tejiwakpa::Refusal>(())
+/// ```
+pub fn generate_sizes(seed: u64, v: u32, w: u32, n: u32, out: &mut [u32]) -> Result<(), Refusal> {
+    // SAFETY: as above.
+    answer(unsafe { c::chordal_generate_sizes(seed, v, w, n, out.as_mut_ptr(), out.len()) })
+}
+
+/// A problem that any site can make again: from a seed, a vertex count, a band and a column count, each table at the front
+/// of its output. It has `v (v + 1) / 2` rows and one pattern.
+///
+/// ```
+/// use tejiwakpa::flat::{generate, TableOutputs};
+///
+/// let (mut p_starts, mut q, mut a_starts, mut a_rows) = ([9; 2], [9.0; 1], [9; 2], [9; 3]);
+/// let (mut a_values, mut b, mut cones, mut pattern_words) = ([9.0; 3], [9.0; 3], [9; 3], [9; 10]);
+/// let mut out = TableOutputs {
+///     p_starts: &mut p_starts,
+///     q: &mut q,
+///     a_starts: &mut a_starts,
+///     a_rows: &mut a_rows,
+///     a_values: &mut a_values,
+///     b: &mut b,
+///     cones: &mut cones,
+///     pattern_words: &mut pattern_words,
+///     ..TableOutputs::default()
+/// };
+/// generate(1, 2, 1, 1, &mut out)?;
+/// assert_eq!((a_rows, a_values), ([0, 1, 2], [56.0, -80.0, -61.0]));
+/// assert_eq!(b, [44.0, -43.0, -32.0]);
+/// # Ok::<(), tejiwakpa::Refusal>(())
+/// ```
+#[rustfmt::skip]
+pub fn generate(seed: u64, v: u32, w: u32, n: u32, out: &mut TableOutputs) -> Result<(), Refusal> {
+    let o = out;
+    // SAFETY: as above.
+    answer(unsafe {
+        c::chordal_generate(
+            seed, v, w, n,
+            o.p_starts.as_mut_ptr(), o.p_starts.len(), o.p_rows.as_mut_ptr(), o.p_rows.len(),
+            o.p_values.as_mut_ptr(), o.p_values.len(), o.q.as_mut_ptr(), o.q.len(),
+            o.a_starts.as_mut_ptr(), o.a_starts.len(), o.a_rows.as_mut_ptr(), o.a_rows.len(),
+            o.a_values.as_mut_ptr(), o.a_values.len(), o.b.as_mut_ptr(), o.b.len(),
+            o.cones.as_mut_ptr(), o.cones.len(), o.alphas.as_mut_ptr(), o.alphas.len(),
+            o.pattern_words.as_mut_ptr(), o.pattern_words.len(),
+        )
+    })
+}
+
 /// `out[0]`: 1 where n, m, cone records, exponents bit by bit (save for which NaN), pattern words, and the starts and rows
 /// of A and P of two problems agree, else 0.
 ///
@@ -785,6 +839,16 @@ mod c {
             a_values_out: *mut f64, a_values_out_len: usize, b_out: *mut f64, b_out_len: usize,
             cones_out: *mut u32, cones_out_len: usize, alphas_out: *mut f64, alphas_out_len: usize,
             map_out: *mut u32, map_out_len: usize,
+        ) -> u32;
+        pub fn chordal_generate_sizes(seed: u64, v: u32, w: u32, n: u32, out: *mut u32, out_len: usize) -> u32;
+        pub fn chordal_generate(
+            seed: u64, v: u32, w: u32, n: u32,
+            p_starts_out: *mut u32, p_starts_out_len: usize, p_rows_out: *mut u32, p_rows_out_len: usize,
+            p_values_out: *mut f64, p_values_out_len: usize, q_out: *mut f64, q_out_len: usize,
+            a_starts_out: *mut u32, a_starts_out_len: usize, a_rows_out: *mut u32, a_rows_out_len: usize,
+            a_values_out: *mut f64, a_values_out_len: usize, b_out: *mut f64, b_out_len: usize,
+            cones_out: *mut u32, cones_out_len: usize, alphas_out: *mut f64, alphas_out_len: usize,
+            pattern_words_out: *mut u32, pattern_words_out_len: usize,
         ) -> u32;
         pub fn chordal_pool(
             n: u32, m: u32,

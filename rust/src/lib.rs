@@ -15,6 +15,7 @@
 //! | [`cut_many`] | the compact cut for many right hand sides at once |
 //! | [`pool`] | one problem of two passes that share their unknowns |
 //! | [`change_route`] | a compact solution from a standard one |
+//! | [`generate`] | a problem that any site can make again |
 //! | [`same_layout`] | whether what was worked out from one problem's places serves another |
 //!
 //! The code behind the calls is proved: given anything at all, a call ends with its full result or with one [`Refusal`].
@@ -62,6 +63,7 @@ mod calls;
 mod change_route;
 mod cone;
 pub mod flat;
+mod generate;
 mod pattern;
 mod pool;
 mod problem;
@@ -72,6 +74,7 @@ mod solution;
 pub use calls::{cut, inverse, join, pair_back, pair_index, renumber, same_layout, sizes, Sizes};
 pub use change_route::change_route;
 pub use cone::Cone;
+pub use generate::generate;
 pub use pattern::{Clique, Pattern};
 pub use pool::pool;
 pub use problem::{Columns, Problem, Route, Words};

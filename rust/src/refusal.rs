@@ -46,6 +46,9 @@ pub enum Refusal {
     Short = 11,
     /// 12: the lengths of a solution, or the cone map, are not those that the problem gives.
     Solution = 12,
+    /// 15: the seed of a problem to be generated is 0, or its vertex count, band or column count is out of its range. This
+    /// check comes before any other.
+    Ranges = 15,
     /// 16: a low limit is above its high one, or one of them is a NaN. This check comes after 4.
     Limits = 16,
     /// 17: two problems that are to be pooled have different n. This check comes after 7 of the second problem.
@@ -60,7 +63,7 @@ impl Refusal {
     ///
     /// assert!(Refusal::ALL.windows(2).all(|two| two[0].number() < two[1].number()));
     /// ```
-    pub const ALL: [Refusal; 14] = [
+    pub const ALL: [Refusal; 15] = [
         Refusal::Bound,
         Refusal::Starts,
         Refusal::Rows,
@@ -73,6 +76,7 @@ impl Refusal {
         Refusal::TooLarge,
         Refusal::Short,
         Refusal::Solution,
+        Refusal::Ranges,
         Refusal::Limits,
         Refusal::Unknowns,
     ];
@@ -119,6 +123,7 @@ impl Refusal {
             Refusal::TooLarge => "there are too many augmented rows or overlaps",
             Refusal::Short => "an output is too short",
             Refusal::Solution => "the solution's lengths or the cone map are not those of this problem",
+            Refusal::Ranges => "the seed is 0, or a vertex count, band or column count is out of its range",
             Refusal::Limits => "a low limit is above its high one, or one of them is a NaN",
             Refusal::Unknowns => "the two problems have different numbers of unknowns",
         }

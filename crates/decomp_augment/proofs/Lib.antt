@@ -4,3 +4,4 @@ pub mod NoColumns
 pub mod Alone
 pub mod FirstRows
 pub mod BothRoutes
+pub mod Generated

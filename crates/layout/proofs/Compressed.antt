@@ -19,6 +19,10 @@ use Rattle.layout.proofs.Joins.{map-same, upFrom-last}
 use Rattle.layout.proofs.Starts.{part-at, length-starts, starts-at, join-append, join-map}
 use Rattle.layout.proofs.Columns.{column-csc, starts-right, RightStarts, column-length, column-rows, columns-sum, entry-count, even}
 
+-- the values of entries
+abbrev pub valuesOf : List Entry → List Float
+valuesOf es = map (λ (e : Entry). e .value) es
+
 pub rows-joined : (cs : List (List Entry)) → rowsOf (join (λ c. c) cs) ≡ join (λ r. r) (map rowsOf cs)
 rows-joined [] = refl
 rows-joined (c ∷ cs) =
@@ -80,7 +84,7 @@ module _ (cs : List (List Entry)) where
   csc-all p h = all-has p (csc cs .rows) .1 (λ r k. let (c, l, j) = row-of r k in all-has p (rowsOf (getD cs c [])) .0 (h c l) r j)
 
   -- what holds of each column's rows
-  csc-each : (f : List ℕ → Bool) → ((c : ℕ) → c < length cs → T (f (rowsOf (getD cs c []))))
+  pub csc-each : (f : List ℕ → Bool) → ((c : ℕ) → c < length cs → T (f (rowsOf (getD cs c []))))
       → T (all (λ c. f (columnRows (csc cs) c)) (below (length cs)))
   csc-each f h = all-has (λ c. f (columnRows (csc cs) c)) (below (length cs)) .1 (λ c k.
       let l : c < length cs = has-below c (length cs) .0 k in

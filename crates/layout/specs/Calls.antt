@@ -13,3 +13,5 @@ pub mod SameLayout
 pub mod ChangeRoute
 pub mod Tables
 pub mod Pool
+pub mod GenerateSizes
+pub mod Generate

@@ -1,0 +1,219 @@
+// The generator's draws (Q-5): a draw, a drawn value, the ranges of its arguments, the ordering, and columns and a right side over
+// given rows. The state is a u64, which each function takes and hands on.
+ghost use mathlib.Core.Path.{_≡_};
+ghost use Prim.Native.Nat.{_-_, _≤_, _<_};
+ghost use mathlib.Core.List.{map};
+ghost use lib.ListN.{length};
+ghost use lib.Ieee.{Float};
+ghost use Rattle.layout.specs.Lists.{below, written, Below};
+ghost use Rattle.layout.specs.Compact.{Entry, rowsOf};
+ghost use Rattle.layout.specs.Generator.{draw as drawOf, draws as drawsOf, isOdd, drawnValue, exchange, exchanges, drawnOrdering, afterEntry, drawnColumn, afterColumn, drawnSide, inRanges};
+ghost use Rattle.layout.proofs.Compressed.{valuesOf};
+
+// Changes the state: exclusive or with itself shifted left 13, then right 7, then left 17. A shift to the left loses the bits above
+// 64.
+pub fn draw(s: u64) -> u64
+    ensures { λ r. ⌜ r ≡ drawOf s ⌝ }
+{
+    let a = s ^ (s << 13);
+    let b = a ^ (a >> 7);
+    b ^ (b << 17)
+}
+
+// The value of a draw: a whole number from -100 to 100.
+pub fn draw_value(d: u64) -> f64
+    ensures { λ r. ⌜ r ≡ drawnValue d ⌝ }
+{
+    ((d % 201) as i32 - 100) as f64
+}
+
+// Whether the arguments are in their ranges.
+pub fn in_ranges(seed: u64, v: u32, w: u32, n: u32) -> bool
+    ensures { λ r. ⌜ r ≡ inRanges seed v w n ⌝ }
+{
+    if seed == 0 {
+        return false;
+    }
+    if v < 2 {
+        return false;
+    }
+    if 64 < v {
+        return false;
+    }
+    if w < 1 {
+        return false;
+    }
+    if v <= w {
+        return false;
+    }
+    if n < 1 {
+        return false;
+    }
+    n <= 64
+}
+
+// ---- the ordering
+
+// Writes the numbers below the length in order.
+fn count_up(out: &mut [u32])
+    requires { ⌜ length (now out) ≤ 64 ⌝ }
+    ensures { λ _. ⌜ now (out .exit) ≡ below (length (now (out .entry))) ⌝ }
+{
+    let mut i = 0;
+    while i < out.len() {
+        out[i] = i as u32;
+        i += 1;
+    }
+}
+
+// Exchanges entries `i` and `k`.
+fn exchange_entries(i: usize, k: usize, out: &mut [u32])
+    requires { ⌜ (i < length (now out)) × (k < length (now out)) ⌝ }
+    ensures { λ _. ⌜ now (out .exit) ≡ exchange i k (now (out .entry)) ⌝ }
+{
+    let x = out[i];
+    out[i] = out[k];
+    out[k] = x;
+}
+
+// Exchanges each entry from the last down to 1 with a drawn one that is not after it, and answers the state after these draws.
+fn exchange_all(seed: u64, out: &mut [u32]) -> u64
+    requires { ⌜ (0 < length (now out)) × (length (now out) ≤ 64) ⌝ }
+    ensures { λ r. ⌜ r ≡ drawsOf (length (now (out .entry)) - 1) seed ⌝ }
+    ensures { λ _. ⌜ now (out .exit) ≡ exchanges (length (now (out .entry)) - 1) seed (now (out .entry)) ⌝ }
+{
+    let count = out.len();
+    let mut s = seed;
+    let mut done = 1;
+    while done < count {
+        let i = count - done;
+        s = draw(s);
+        let k = s % (i as u64 + 1);
+        exchange_entries(i, k as usize, &mut *out);
+        done += 1;
+    }
+    s
+}
+
+// Draws an ordering of as many vertices as `out` is long, and answers the state after it.
+pub fn draw_ordering(seed: u64, out: &mut [u32]) -> u64
+    requires { ⌜ (0 < length (now out)) × (length (now out) ≤ 64) ⌝ }
+    ensures { λ r. ⌜ r ≡ drawsOf (length (now (out .entry)) - 1) seed ⌝ }
+    ensures { λ _. ⌜ now (out .exit) ≡ drawnOrdering seed (length (now (out .entry))) ⌝ }
+{
+    count_up(&mut *out);
+    exchange_all(seed, out)
+}
+
+// ---- a column
+
+// What is drawn at a row: whether an entry is stored, and the state after it, whose value is the entry's.
+pub struct RowDraw {
+    pub stored: bool,
+    pub state: u64,
+}
+
+// Draws at one row: an odd draw stores an entry, and the next draw gives its value.
+fn draw_row(s: u64) -> RowDraw
+    ensures { λ r. ⌜ (r .stored ≡ isOdd (drawOf s)) × (r .state ≡ afterEntry s) ⌝ }
+{
+    let d = draw(s);
+    if d % 2 == 1 {
+        return RowDraw {
+            stored: true,
+            state: draw(d),
+        };
+    }
+    RowDraw {
+        stored: false,
+        state: d,
+    }
+}
+
+// What is drawn in a column: how many entries, and the state after them.
+pub struct ColumnDraw {
+    pub count: usize,
+    pub state: u64,
+}
+
+// Draws a column over `rows` and counts its entries.
+pub fn count_column(s: u64, rows: &[u32]) -> ColumnDraw
+    ensures { λ r. ⌜ (r .count ≡ length (drawnColumn s (now (rows .entry)))) × (r .state ≡ afterColumn s (now (rows .entry))) ⌝ }
+{
+    let mut state = s;
+    let mut count = 0;
+    let mut i = 0;
+    while i < rows.len() {
+        let d = draw_row(state);
+        state = d.state;
+        i += 1;
+        if d.stored {
+            count += 1;
+        }
+    }
+    ColumnDraw { count, state }
+}
+
+// Draws a column over `rows` and writes its entries to the front of the outputs.
+pub fn write_column(
+    s: u64,
+    rows: &[u32],
+    rows_out: &mut [u32],
+    values_out: &mut [f64],
+) -> ColumnDraw
+    requires { ⌜ (length (drawnColumn s (now rows)) ≤ length (now «rows_out»)) × (length (drawnColumn s (now rows)) ≤ length (now «values_out»)) ⌝ }
+    ensures { λ r. ⌜ (r .count ≡ length (drawnColumn s (now (rows .entry)))) × (r .state ≡ afterColumn s (now (rows .entry))) ⌝ }
+    ensures { λ _. ⌜ now («rows_out» .exit) ≡ written (rowsOf (drawnColumn s (now (rows .entry)))) (now («rows_out» .entry)) ⌝ }
+    ensures { λ _. ⌜ now («values_out» .exit) ≡ written (valuesOf (drawnColumn s (now (rows .entry)))) (now («values_out» .entry)) ⌝ }
+{
+    let mut state = s;
+    let mut count = 0;
+    let mut i = 0;
+    while i < rows.len() {
+        let row = rows[i];
+        let d = draw_row(state);
+        state = d.state;
+        i += 1;
+        if d.stored {
+            rows_out[count] = row;
+            values_out[count] = draw_value(state);
+            count += 1;
+        }
+    }
+    ColumnDraw { count, state }
+}
+
+// ---- the right side
+
+// A drawn value, and the state after it.
+pub struct ValueDraw {
+    pub value: f64,
+    pub state: u64,
+}
+
+// Draws a value without a first draw that would say whether it is stored.
+fn draw_alone(s: u64) -> ValueDraw
+    ensures { λ r. ⌜ (r .state ≡ drawOf s) × (r .value ≡ drawnValue (r .state)) ⌝ }
+{
+    let next = draw(s);
+    ValueDraw {
+        value: draw_value(next),
+        state: next,
+    }
+}
+
+// Draws a value to each of the `rows` of the right side.
+pub fn draw_side(s: u64, rows: &[u32], out: &mut [f64])
+    requires { ⌜ Below (length (now out)) (now rows) ⌝ }
+    ensures { λ _. ⌜ now (out .exit) ≡ drawnSide s (now (rows .entry)) (now (out .entry)) ⌝ }
+{
+    let mut state = s;
+    let mut i = 0;
+    while i < rows.len() {
+        let r = rows[i] as usize;
+        let d = draw_alone(state);
+        out[r] = d.value;
+        state = d.state;
+        i += 1;
+    }
+}

@@ -1,0 +1,319 @@
+// The generator (Q-5): from a seed, a vertex count `v`, a band `w` and a column count `n`, a problem that any site can make again.
+ghost use mathlib.Core.Path.{_≡_};
+ghost use mathlib.Core.List.{map};
+ghost use Prim.Native.Nat.{suc, _+_, _-_, _*_, _≤_, _<_};
+ghost use lib.ListN.{length, replicate};
+ghost use lib.Dec.{T};
+ghost use Rattle.layout.specs.Lists.{sum, written, Below};
+ghost use Rattle.layout.specs.Triangle.{triangle};
+ghost use Rattle.layout.specs.Problem.{zero64, tableLengths};
+ghost use Rattle.layout.specs.Patterns.{patternWordsOf};
+ghost use Rattle.layout.specs.Compact.{csc as cscOf, psdWords};
+ghost use Rattle.layout.specs.Generator.{draws as drawsOf, drawnOrdering, band as bandOf, bandRows, drawnColumns, afterColumns, drawnSide, generated, inRanges, generateRefusal};
+ghost use Rattle.generator.specs.Lengths.{lengthsOf};
+ghost use Rattle.layout.specs.Calls.Tables.{tables};
+ghost use Rattle.layout.specs.Calls.GenerateSizes.{GenerateSizes};
+ghost use Rattle.layout.specs.Calls.Generate.{Generate};
+
+const PSD_TRIANGLE: u32 = 6;
+
+// ---- the rows
+
+// The state after the ordering is drawn, and how many rows its band covers.
+pub struct RowsDraw {
+    pub count: usize,
+    pub state: u64,
+}
+
+// Draws an ordering of as many vertices as it has room for, and writes the rows that its band covers, rising. The places of the
+// vertices in the ordering are scratch.
+fn draw_band(
+    seed: u64,
+    w: u32,
+    ordering: &mut [u32],
+    places: &mut [u32],
+    rows: &mut [u32],
+) -> RowsDraw
+    requires { ⌜ (w < length (now ordering)) × (length (now ordering) ≤ 64) × (length (now places) ≡ length (now ordering)) × (2080 ≤ length (now rows)) ⌝ }
+    ensures { λ r. ⌜ (r .state ≡ drawsOf (length (now (ordering .entry)) - 1) seed) × (r .count ≡ length (bandRows (drawnOrdering seed (length (now (ordering .entry)))) (length (now (ordering .entry))) w)) ⌝ }
+    ensures { λ _. ⌜ now (rows .exit) ≡ written (bandRows (drawnOrdering seed (length (now (ordering .entry)))) (length (now (ordering .entry))) w) (now (rows .entry)) ⌝ }
+{
+    let state = draws::draw_ordering(seed, &mut *ordering);
+    utils::inverse(&*ordering, &mut *places);
+    let count = band::cover_rows(&*places, w, rows);
+    RowsDraw { count, state }
+}
+
+// The same for `v` vertices.
+fn draw_rows(seed: u64, v: u32, w: u32, rows: &mut [u32]) -> RowsDraw
+    requires { ⌜ (w < v) × (v ≤ 64) × (2080 ≤ length (now rows)) ⌝ }
+    ensures { λ r. ⌜ (r .state ≡ drawsOf (v - 1) seed) × (r .count ≡ length (bandRows (drawnOrdering seed v) v w)) ⌝ }
+    ensures { λ _. ⌜ now (rows .exit) ≡ written (bandRows (drawnOrdering seed v) v w) (now (rows .entry)) ⌝ }
+{
+    let mut ordering = [0u32; 64];
+    let mut places = [0u32; 64];
+    let count = v as usize;
+    draw_band(seed, w, &mut ordering[..count], &mut places[..count], rows)
+}
+
+// ---- A and b
+
+// Draws `n` columns over `rows` and counts their entries.
+fn count_columns(s: u64, rows: &[u32], n: u32) -> u32
+    requires { ⌜ (length (now rows) ≤ 2080) × (n ≤ 64) ⌝ }
+    ensures { λ r. ⌜ r ≡ sum (map length (drawnColumns s (now (rows .entry)) n)) ⌝ }
+{
+    let mut state = s;
+    let mut entries = 0;
+    let mut c = 0;
+    while c < n {
+        let d = draws::count_column(state, rows);
+        state = d.state;
+        entries += d.count as u32;
+        c += 1;
+    }
+    entries
+}
+
+// Draws `n` columns over `rows` and writes them, and answers the state after them.
+fn write_columns(
+    s: u64,
+    rows: &[u32],
+    n: u32,
+    starts_out: &mut [u32],
+    rows_out: &mut [u32],
+    values_out: &mut [f64],
+) -> u64
+    requires { ⌜ (length (now rows) ≤ 2080) × (n ≤ 64) × (n + 1 ≤ length (now «starts_out»)) ⌝ }
+    requires { ⌜ (sum (map length (drawnColumns s (now rows) n)) ≤ length (now «rows_out»)) × (sum (map length (drawnColumns s (now rows) n)) ≤ length (now «values_out»)) ⌝ }
+    ensures { λ r. ⌜ r ≡ afterColumns s (now (rows .entry)) n ⌝ }
+    ensures { λ _. ⌜ now («starts_out» .exit) ≡ written (cscOf (drawnColumns s (now (rows .entry)) n) .starts) (now («starts_out» .entry)) ⌝ }
+    ensures { λ _. ⌜ now («rows_out» .exit) ≡ written (cscOf (drawnColumns s (now (rows .entry)) n) .rows) (now («rows_out» .entry)) ⌝ }
+    ensures { λ _. ⌜ now («values_out» .exit) ≡ written (cscOf (drawnColumns s (now (rows .entry)) n) .values) (now («values_out» .entry)) ⌝ }
+{
+    starts_out[0] = 0;
+    let mut state = s;
+    let mut at = 0;
+    let mut c = 0;
+    while c < n {
+        let d = draws::write_column(state, rows, &mut rows_out[at..], &mut values_out[at..]);
+        state = d.state;
+        at += d.count;
+        c += 1;
+        starts_out[c as usize] = at as u32;
+    }
+    state
+}
+
+// Writes a right side of `m` values: drawn ones at the `rows`, and +0.0 elsewhere.
+fn write_side(s: u64, rows: &[u32], m: usize, out: &mut [f64])
+    requires { ⌜ (m ≤ length (now out)) × Below m (now rows) ⌝ }
+    ensures { λ _. ⌜ now (out .exit) ≡ written (drawnSide s (now (rows .entry)) (replicate m zero64)) (now (out .entry)) ⌝ }
+{
+    csc::fill_values(&mut *out, m, 0.0);
+    draws::draw_side(s, rows, out);
+}
+
+// ---- the sizes
+
+// How many entries A has; the covered rows are scratch.
+fn count_entries(seed: u64, v: u32, w: u32, n: u32, rows: &mut [u32]) -> u32
+    requires { ⌜ (w < v) × (v ≤ 64) × (n ≤ 64) × (2080 ≤ length (now rows)) ⌝ }
+    ensures { λ r. ⌜ r ≡ sum (map length (drawnColumns (drawsOf (v - 1) seed) (bandRows (drawnOrdering seed v) v w) n)) ⌝ }
+{
+    let d = draw_rows(seed, v, w, &mut *rows);
+    count_columns(d.state, &rows[..d.count], n)
+}
+
+// Writes the length of each table of the generated problem.
+fn write_lengths(v: u32, w: u32, n: u32, entries: u32, out: &mut [u32])
+    requires { ⌜ (w < v) × (v ≤ 64) × (n ≤ 64) × (11 ≤ length (now out)) ⌝ }
+    ensures { λ _. ⌜ now (out .exit) ≡ written (lengthsOf v w n entries) (now (out .entry)) ⌝ }
+{
+    let starts = n + 1;
+    let m = v * (v + 1) / 2;
+    let words = 3 + v + (v - w) * (w + 4);
+    let lengths = [starts, 0, 0, n, starts, entries, entries, m, 3, 0, words];
+    csc::copy_numbers(out, &lengths);
+}
+
+// The length of each table of the generated problem, or a refusal: 15 for arguments out of their ranges, 11 for too short an output.
+pub fn generate_sizes(seed: u64, v: u32, w: u32, n: u32, out: &mut [u32]) -> u32
+    ensures { λ r. ⌜ GenerateSizes seed v w n (now (out .entry)) (now (out .exit)) r ⌝ }
+{
+    if !draws::in_ranges(seed, v, w, n) {
+        return 15;
+    }
+    if out.len() < 11 {
+        return 11;
+    }
+    let mut rows = [0u32; 2080];
+    let entries = count_entries(seed, v, w, n, &mut rows);
+    write_lengths(v, w, n, entries, out);
+    0
+}
+
+// ---- the problem
+
+// The number of the generator, 15, 11 or 0, for outputs with these rooms.
+fn refuse(seed: u64, v: u32, w: u32, n: u32, rooms: &[usize]) -> u32
+    ensures { λ r. ⌜ r ≡ generateRefusal seed v w n (now (rooms .entry)) ⌝ }
+{
+    let mut needs = [0u32; 11];
+    let r = generate_sizes(seed, v, w, n, &mut needs);
+    if r != 0 {
+        return r;
+    }
+    utils::check_rooms(&needs, rooms)
+}
+
+// Writes A and b, drawn over the rows that the band covers; the rows are scratch.
+fn write_drawn(
+    seed: u64,
+    v: u32,
+    w: u32,
+    n: u32,
+    rows: &mut [u32],
+    a_starts_out: &mut [u32],
+    a_rows_out: &mut [u32],
+    a_values_out: &mut [f64],
+    b_out: &mut [f64],
+)
+    requires { ⌜ T (inRanges seed v w n) × (2080 ≤ length (now rows)) ⌝ }
+    requires { let p = generated seed v w n in ⌜ (length (p .A .starts) ≤ length (now «a_starts_out»)) × (length (p .A .rows) ≤ length (now «a_rows_out»)) × (length (p .A .values) ≤ length (now «a_values_out»)) × (length (p .b) ≤ length (now «b_out»)) ⌝ }
+    ensures { λ _. ⌜ now («a_starts_out» .exit) ≡ written (generated seed v w n .A .starts) (now («a_starts_out» .entry)) ⌝ }
+    ensures { λ _. ⌜ now («a_rows_out» .exit) ≡ written (generated seed v w n .A .rows) (now («a_rows_out» .entry)) ⌝ }
+    ensures { λ _. ⌜ now («a_values_out» .exit) ≡ written (generated seed v w n .A .values) (now («a_values_out» .entry)) ⌝ }
+    ensures { λ _. ⌜ now («b_out» .exit) ≡ written (generated seed v w n .b) (now («b_out» .entry)) ⌝ }
+{
+    let d = draw_rows(seed, v, w, &mut *rows);
+    let m = v * (v + 1) / 2;
+    let after = write_columns(
+        d.state,
+        &rows[..d.count],
+        n,
+        a_starts_out,
+        a_rows_out,
+        a_values_out,
+    );
+    write_side(after, &rows[..d.count], m as usize, b_out);
+}
+
+// Writes the single cone.
+fn write_cone(v: u32, out: &mut [u32])
+    requires { ⌜ 3 ≤ length (now out) ⌝ }
+    ensures { λ _. ⌜ now (out .exit) ≡ written (psdWords v) (now (out .entry)) ⌝ }
+{
+    let cone = [PSD_TRIANGLE, v, 0];
+    csc::copy_numbers(out, &cone);
+}
+
+// Writes the pattern's words; the ordering is scratch.
+fn write_pattern(seed: u64, w: u32, ordering: &mut [u32], out: &mut [u32])
+    requires { ⌜ (w < length (now ordering)) × (length (now ordering) ≤ 64) × (3 + length (now ordering) + (length (now ordering) - w) * (w + 4) ≤ length (now out)) ⌝ }
+    ensures { λ _. ⌜ now (out .exit) ≡ written (patternWordsOf (bandOf (drawnOrdering seed (length (now (ordering .entry)))) (length (now (ordering .entry))) w)) (now (out .entry)) ⌝ }
+{
+    draws::draw_ordering(seed, &mut *ordering);
+    band::write_words(&*ordering, w, out);
+}
+
+// Writes P, which has no entries, and q, which is zero.
+fn write_objective(n: u32, p_starts_out: &mut [u32], q_out: &mut [f64])
+    requires { ⌜ (n ≤ 64) × (n + 1 ≤ length (now «p_starts_out»)) × (n ≤ length (now «q_out»)) ⌝ }
+    ensures { λ _. ⌜ now («p_starts_out» .exit) ≡ written (replicate (suc n) 0) (now («p_starts_out» .entry)) ⌝ }
+    ensures { λ _. ⌜ now («q_out» .exit) ≡ written (replicate n zero64) (now («q_out» .entry)) ⌝ }
+{
+    let count = n as usize;
+    csc::fill_numbers(p_starts_out, count + 1, 0);
+    csc::fill_values(q_out, count, 0.0);
+}
+
+// Writes A and b.
+fn write_constraints(
+    seed: u64,
+    v: u32,
+    w: u32,
+    n: u32,
+    a_starts_out: &mut [u32],
+    a_rows_out: &mut [u32],
+    a_values_out: &mut [f64],
+    b_out: &mut [f64],
+)
+    requires { ⌜ T (inRanges seed v w n) ⌝ }
+    requires { let p = generated seed v w n in ⌜ (length (p .A .starts) ≤ length (now «a_starts_out»)) × (length (p .A .rows) ≤ length (now «a_rows_out»)) × (length (p .A .values) ≤ length (now «a_values_out»)) × (length (p .b) ≤ length (now «b_out»)) ⌝ }
+    ensures { λ _. ⌜ now («a_starts_out» .exit) ≡ written (generated seed v w n .A .starts) (now («a_starts_out» .entry)) ⌝ }
+    ensures { λ _. ⌜ now («a_rows_out» .exit) ≡ written (generated seed v w n .A .rows) (now («a_rows_out» .entry)) ⌝ }
+    ensures { λ _. ⌜ now («a_values_out» .exit) ≡ written (generated seed v w n .A .values) (now («a_values_out» .entry)) ⌝ }
+    ensures { λ _. ⌜ now («b_out» .exit) ≡ written (generated seed v w n .b) (now («b_out» .entry)) ⌝ }
+{
+    let mut rows = [0u32; 2080];
+    write_drawn(
+        seed,
+        v,
+        w,
+        n,
+        &mut rows,
+        a_starts_out,
+        a_rows_out,
+        a_values_out,
+        b_out,
+    );
+}
+
+// Writes the cone and the words of its pattern.
+fn write_layout(seed: u64, v: u32, w: u32, cones_out: &mut [u32], words_out: &mut [u32])
+    requires { ⌜ (w < v) × (v ≤ 64) × (3 ≤ length (now «cones_out»)) × (3 + v + (v - w) * (w + 4) ≤ length (now «words_out»)) ⌝ }
+    ensures { λ _. ⌜ now («cones_out» .exit) ≡ written (psdWords v) (now («cones_out» .entry)) ⌝ }
+    ensures { λ _. ⌜ now («words_out» .exit) ≡ written (patternWordsOf (bandOf (drawnOrdering seed v) v w)) (now («words_out» .entry)) ⌝ }
+{
+    let mut ordering = [0u32; 64];
+    write_cone(v, cones_out);
+    write_pattern(seed, w, &mut ordering[..v as usize], words_out);
+}
+
+// The generated problem, each table at the front of its output, or a refusal: 15 for arguments out of their ranges, 11 for too short
+// an output.
+pub fn generate(
+    seed: u64,
+    v: u32,
+    w: u32,
+    n: u32,
+    p_starts_out: &mut [u32],
+    p_rows_out: &mut [u32],
+    p_values_out: &mut [f64],
+    q_out: &mut [f64],
+    a_starts_out: &mut [u32],
+    a_rows_out: &mut [u32],
+    a_values_out: &mut [f64],
+    b_out: &mut [f64],
+    cones_out: &mut [u32],
+    alphas_out: &mut [f64],
+    pattern_words_out: &mut [u32],
+) -> u32
+    ensures { λ r.
+        let before = tables (now («p_starts_out» .entry)) (now («p_rows_out» .entry)) (now («p_values_out» .entry)) (now («q_out» .entry)) (now («a_starts_out» .entry)) (now («a_rows_out» .entry)) (now («a_values_out» .entry)) (now («b_out» .entry)) (now («cones_out» .entry)) (now («alphas_out» .entry)) (now («pattern_words_out» .entry)) in
+        let after = tables (now («p_starts_out» .exit)) (now («p_rows_out» .exit)) (now («p_values_out» .exit)) (now («q_out» .exit)) (now («a_starts_out» .exit)) (now («a_rows_out» .exit)) (now («a_values_out» .exit)) (now («b_out» .exit)) (now («cones_out» .exit)) (now («alphas_out» .exit)) (now («pattern_words_out» .exit)) in
+        ⌜ Generate seed v w n before after r ⌝ }
+{
+    let rooms = [
+        p_starts_out.len(),
+        p_rows_out.len(),
+        p_values_out.len(),
+        q_out.len(),
+        a_starts_out.len(),
+        a_rows_out.len(),
+        a_values_out.len(),
+        b_out.len(),
+        cones_out.len(),
+        alphas_out.len(),
+        pattern_words_out.len(),
+    ];
+    let refused = refuse(seed, v, w, n, &rooms);
+    if refused != 0 {
+        return refused;
+    }
+    write_objective(n, p_starts_out, q_out);
+    write_constraints(seed, v, w, n, a_starts_out, a_rows_out, a_values_out, b_out);
+    write_layout(seed, v, w, cones_out, pattern_words_out);
+    0
+}

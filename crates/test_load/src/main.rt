@@ -1,0 +1,416 @@
+// Tells a list of test loads (document 02, Q-5): what the generator and both cuts answer for each, the length of every table, and a
+// checksum over all tables of a problem. A site holds what it prints against ours.
+//
+// A checksum starts from 1. Each number of a table, the bits of a value, is joined to it by exclusive or, and the draw after that is
+// the checksum with this number.
+use libc::STDOUT_FILENO;
+use stored::item;
+
+const STANDARD: u32 = 0;
+
+const COMPACT: u32 = 1;
+
+// ---- words and numbers
+
+fn say(text: &[u8]) {
+    io::write_all(STDOUT_FILENO, text);
+}
+
+// A number after its name.
+fn tell(name: &[u8], n: u64) {
+    say(name);
+    io::print_decimal(STDOUT_FILENO, n);
+}
+
+// What a call answers.
+fn tell_answer(name: &[u8], answer: u32) {
+    say(b"  ");
+    tell(name, answer as u64);
+}
+
+// ---- checksums
+
+// The bits of a value. A NaN's cannot be read, and no load has one.
+fn bits(v: f64) -> u64 {
+    if v != v { 0 } else { f64::to_bits(v) }
+}
+
+// A checksum with the first `n` numbers of a table.
+fn add_words(sum: u64, table: &[u32], n: u32) -> u64 {
+    let mut s = sum;
+    let mut i = 0;
+    while i < n {
+        s = draws::draw(s ^ item(table, i as usize) as u64);
+        i += 1;
+    }
+    s
+}
+
+// A checksum with the first `n` values of a table.
+fn add_values(sum: u64, table: &[f64], n: u32) -> u64 {
+    let mut s = sum;
+    let mut i = 0;
+    while i < n {
+        s = draws::draw(s ^ bits(value(table, i as usize)));
+        i += 1;
+    }
+    s
+}
+
+// The value at a place of a table, or 0.
+fn value(table: &[f64], i: usize) -> f64 {
+    if i < table.len() { table[i] } else { 0.0 }
+}
+
+// Tells the lengths of eleven tables.
+fn tell_lengths(lengths: &[u32]) {
+    say(b": lengths");
+    let mut i = 0;
+    while i < 11 {
+        tell(b" ", item(lengths, i) as u64);
+        i += 1;
+    }
+}
+
+// Tells the lengths and the checksum of eleven tables, each as long as `lengths` says.
+fn tell_tables<'a>(
+    lengths: &'a [u32],
+    p_starts: &'a [u32],
+    p_rows: &'a [u32],
+    p_values: &'a [f64],
+    q: &'a [f64],
+    a_starts: &'a [u32],
+    a_rows: &'a [u32],
+    a_values: &'a [f64],
+    b: &'a [f64],
+    cones: &'a [u32],
+    alphas: &'a [f64],
+    last: &'a [u32],
+) {
+    let mut s = 1;
+    s = add_words(s, p_starts, item(lengths, 0));
+    s = add_words(s, p_rows, item(lengths, 1));
+    s = add_values(s, p_values, item(lengths, 2));
+    s = add_values(s, q, item(lengths, 3));
+    s = add_words(s, a_starts, item(lengths, 4));
+    s = add_words(s, a_rows, item(lengths, 5));
+    s = add_values(s, a_values, item(lengths, 6));
+    s = add_values(s, b, item(lengths, 7));
+    s = add_words(s, cones, item(lengths, 8));
+    s = add_values(s, alphas, item(lengths, 9));
+    s = add_words(s, last, item(lengths, 10));
+    tell_lengths(lengths);
+    say(b", checksum ");
+    io::print_hex(STDOUT_FILENO, s, 16);
+}
+
+// ---- a cut
+
+// Cuts a load on a route and tells what is written.
+fn tell_cut<'a>(
+    name: &[u8],
+    route: u32,
+    n: u32,
+    m: u32,
+    p_starts: &'a [u32],
+    p_rows: &'a [u32],
+    p_values: &'a [f64],
+    q: &'a [f64],
+    a_starts: &'a [u32],
+    a_rows: &'a [u32],
+    a_values: &'a [f64],
+    b: &'a [f64],
+    cones: &'a [u32],
+    alphas: &'a [f64],
+    pattern: &'a [u32],
+) {
+    let mut lengths = [0u32; 11];
+    door::chordal_sizes(
+        route,
+        n,
+        m,
+        p_starts,
+        p_rows,
+        p_values,
+        q,
+        a_starts,
+        a_rows,
+        a_values,
+        b,
+        cones,
+        alphas,
+        1,
+        pattern,
+        &mut lengths,
+    );
+    let mut p_starts_out = [0u32; 32768];
+    let mut p_rows_out = [0u32; 32768];
+    let mut p_values_out = [0f64; 32768];
+    let mut q_out = [0f64; 32768];
+    let mut a_starts_out = [0u32; 32768];
+    let mut a_rows_out = [0u32; 32768];
+    let mut a_values_out = [0f64; 32768];
+    let mut b_out = [0f64; 32768];
+    let mut cones_out = [0u32; 32768];
+    let mut alphas_out = [0f64; 32768];
+    let mut map_out = [0u32; 32768];
+    let answer = door::chordal_cut(
+        route,
+        n,
+        m,
+        p_starts,
+        p_rows,
+        p_values,
+        q,
+        a_starts,
+        a_rows,
+        a_values,
+        b,
+        cones,
+        alphas,
+        1,
+        pattern,
+        &mut p_starts_out,
+        &mut p_rows_out,
+        &mut p_values_out,
+        &mut q_out,
+        &mut a_starts_out,
+        &mut a_rows_out,
+        &mut a_values_out,
+        &mut b_out,
+        &mut cones_out,
+        &mut alphas_out,
+        &mut map_out,
+    );
+    tell_answer(name, answer);
+    if answer == 0 {
+        tell_tables(
+            &lengths,
+            &p_starts_out,
+            &p_rows_out,
+            &p_values_out,
+            &q_out,
+            &a_starts_out,
+            &a_rows_out,
+            &a_values_out,
+            &b_out,
+            &cones_out,
+            &alphas_out,
+            &map_out,
+        );
+    }
+    say(b"\n");
+}
+
+// ---- a load
+
+// The first `n` numbers of a table.
+fn front(table: &[u32], n: u32) -> &[u32] {
+    let count = n as usize;
+    if table.len() < count {
+        return table;
+    }
+    &table[..count]
+}
+
+fn front_values(table: &[f64], n: u32) -> &[f64] {
+    let count = n as usize;
+    if table.len() < count {
+        return table;
+    }
+    &table[..count]
+}
+
+// Tells a problem and both its cuts.
+fn tell_problem<'a>(
+    lengths: &'a [u32],
+    p_starts: &'a [u32],
+    p_rows: &'a [u32],
+    p_values: &'a [f64],
+    q: &'a [f64],
+    a_starts: &'a [u32],
+    a_rows: &'a [u32],
+    a_values: &'a [f64],
+    b: &'a [f64],
+    cones: &'a [u32],
+    alphas: &'a [f64],
+    pattern: &'a [u32],
+) {
+    let n = item(lengths, 3);
+    let m = item(lengths, 7);
+    tell_tables(
+        lengths,
+        p_starts,
+        p_rows,
+        p_values,
+        q,
+        a_starts,
+        a_rows,
+        a_values,
+        b,
+        cones,
+        alphas,
+        pattern,
+    );
+    say(b"\n");
+    tell_cut(
+        b"standard ",
+        STANDARD,
+        n,
+        m,
+        p_starts,
+        p_rows,
+        p_values,
+        q,
+        a_starts,
+        a_rows,
+        a_values,
+        b,
+        cones,
+        alphas,
+        pattern,
+    );
+    tell_cut(
+        b"compact ",
+        COMPACT,
+        n,
+        m,
+        p_starts,
+        p_rows,
+        p_values,
+        q,
+        a_starts,
+        a_rows,
+        a_values,
+        b,
+        cones,
+        alphas,
+        pattern,
+    );
+}
+
+// Tells the problem at the fronts of the generator's outputs.
+fn tell_fronts<'a>(
+    lengths: &'a [u32],
+    p_starts: &'a [u32],
+    p_rows: &'a [u32],
+    p_values: &'a [f64],
+    q: &'a [f64],
+    a_starts: &'a [u32],
+    a_rows: &'a [u32],
+    a_values: &'a [f64],
+    b: &'a [f64],
+    cones: &'a [u32],
+    alphas: &'a [f64],
+    pattern: &'a [u32],
+) {
+    tell_problem(
+        lengths,
+        front(p_starts, item(lengths, 0)),
+        front(p_rows, item(lengths, 1)),
+        front_values(p_values, item(lengths, 2)),
+        front_values(q, item(lengths, 3)),
+        front(a_starts, item(lengths, 4)),
+        front(a_rows, item(lengths, 5)),
+        front_values(a_values, item(lengths, 6)),
+        front_values(b, item(lengths, 7)),
+        front(cones, item(lengths, 8)),
+        front_values(alphas, item(lengths, 9)),
+        front(pattern, item(lengths, 10)),
+    );
+}
+
+// Tells a load from its four numbers.
+fn tell_load(seed: u64, v: u32, w: u32, n: u32) {
+    tell(b"seed ", seed);
+    tell(b", v ", v as u64);
+    tell(b", w ", w as u64);
+    tell(b", n ", n as u64);
+    say(b"\n");
+    let mut lengths = [0u32; 11];
+    door::chordal_generate_sizes(seed, v, w, n, &mut lengths);
+    let mut p_starts = [0u32; 8192];
+    let mut p_rows = [0u32; 8192];
+    let mut p_values = [0f64; 8192];
+    let mut q = [0f64; 8192];
+    let mut a_starts = [0u32; 8192];
+    let mut a_rows = [0u32; 8192];
+    let mut a_values = [0f64; 8192];
+    let mut b = [0f64; 8192];
+    let mut cones = [0u32; 8192];
+    let mut alphas = [0f64; 8192];
+    let mut pattern = [0u32; 8192];
+    let answer = door::chordal_generate(
+        seed,
+        v,
+        w,
+        n,
+        &mut p_starts,
+        &mut p_rows,
+        &mut p_values,
+        &mut q,
+        &mut a_starts,
+        &mut a_rows,
+        &mut a_values,
+        &mut b,
+        &mut cones,
+        &mut alphas,
+        &mut pattern,
+    );
+    tell_answer(b"generate ", answer);
+    if answer == 0 {
+        tell_fronts(
+            &lengths,
+            &p_starts,
+            &p_rows,
+            &p_values,
+            &q,
+            &a_starts,
+            &a_rows,
+            &a_values,
+            &b,
+            &cones,
+            &alphas,
+            &pattern,
+        );
+    } else {
+        say(b"\n");
+    }
+}
+
+// ---- the list
+
+fn small_loads() {
+    tell_load(1, 2, 1, 1);
+    tell_load(1, 3, 1, 1);
+    tell_load(2, 3, 2, 2);
+    tell_load(3, 8, 2, 4);
+    tell_load(18446744073709551615, 8, 7, 1);
+}
+
+fn larger_loads() {
+    tell_load(20261116, 16, 5, 8);
+    tell_load(9223372036854775808, 20, 4, 64);
+    tell_load(5, 32, 31, 4);
+    tell_load(88172645463325252, 48, 8, 16);
+    tell_load(7, 64, 1, 32);
+    tell_load(11, 64, 24, 2);
+    tell_load(13, 64, 63, 3);
+}
+
+// One number out of its range in each.
+fn refused_loads() {
+    tell_load(0, 8, 2, 4);
+    tell_load(1, 1, 1, 1);
+    tell_load(1, 65, 2, 4);
+    tell_load(1, 8, 0, 4);
+    tell_load(1, 8, 8, 4);
+    tell_load(1, 8, 2, 0);
+    tell_load(1, 8, 2, 65);
+}
+
+fn main() {
+    small_loads();
+    larger_loads();
+    refused_loads();
+}
