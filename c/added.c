@@ -102,6 +102,7 @@ static int generate(void) {
 }
 
 int main(void) {
+    trap_floating_point();
     int right = change_route();
     right &= cut_between();
     right &= cut_many();

@@ -76,6 +76,7 @@ static int run(uint32_t route, const double *solved, const double *joined_s, con
 }
 
 int main(void) {
+    trap_floating_point();
     static const double standard_solved[] = {0, 0, 0, 0, 0, 0, 1, 2, 7, 3, 4, 5};
     static const double compact_solved[] = {3, 4, 5, 1, 2, 7};
     static const double s[] = {1, 2, 10, 0, 4, 5};

@@ -5,6 +5,7 @@
 
 #include "chordal.h"
 
+#include <fenv.h>
 #include <stdio.h>
 #include <stdlib.h>
 #include <string.h>
@@ -34,6 +35,9 @@ static const uint32_t pattern_words[] = {0, 3, 2, 0, 1, 2, 1, 1, 1, 0, 1, CHORDA
 #define BEFORE_B N, M, ALL(p_starts), NO_WORDS, NO_VALUES, ALL(q), ALL(a_starts), ALL(a_rows), ALL(a_values)
 #define AFTER_B ALL(cones), NO_VALUES, 1, ALL(pattern_words)
 #define PROBLEM BEFORE_B, ALL(b), AFTER_B
+
+/* Ends the program where a call divides by zero, overflows or does an invalid operation, as a caller that traps them would. */
+static inline void trap_floating_point(void) { feenableexcept(FE_DIVBYZERO | FE_INVALID | FE_OVERFLOW); }
 
 static inline void print_values(const char *name, const double *values, size_t count) {
     printf("  %s:", name);

@@ -5,7 +5,10 @@ ghost use mathlib.Core.Path.{_≡_};
 ghost use mathlib.Core.List.{map};
 ghost use Prim.Native.Nat.{_≤_, _<_};
 ghost use lib.ListN.{length, getD};
-ghost use lib.Ieee.{add, binary64};
+ghost use mathlib.Core.Bool.{cond};
+ghost use lib.Dec.{ltb};
+ghost use lib.IntN.{pos};
+ghost use lib.Ieee.{add, div, ofInt, binary64};
 ghost use Rattle.layout.specs.Lists.{below};
 ghost use Rattle.layout.specs.Problem.{zero64, one64};
 ghost use Rattle.reverse_standard.specs.Averages.{averagedBy, shared, Clears};
@@ -79,16 +82,34 @@ pub fn block_start(standard: bool, counted: usize, map: &[u32], entry: usize) ->
     map[entry * ENTRY_WORDS + FIRST_ROW] as usize
 }
 
-// z on a row where count columns stand. The quotient is computed before the test, so that the compiler can select
-// instead of branching on counts that cannot be predicted.
+// Divides `v` by `count`, which is above 0: a division by zero would raise a flag that a caller may trap. Returns the quotient.
+fn quotient(v: f64, count: u32) -> f64
+    requires { ⌜ 0 < count ⌝ }
+    ensures { λ r. ⌜ r ≡ div binary64 v (ofInt binary64 (pos count)) ⌝ }
+{
+    v / count as f64
+}
+
+// Returns `count`, or 1 where it is 0.
+fn at_least_one(count: u32) -> u32
+    ensures { λ r. ⌜ r ≡ cond (ltb 1 count) count 1 ⌝ }
+{
+    if 1 < count {
+        return count;
+    }
+    1
+}
+
+// Averages z on a row where `count` columns stand, whose sum is `v`. It divides by 1 where there are none, so that the compiler
+// can select instead of branching on counts that cannot be predicted. Returns the quotient where `count` is above 1, and else `v`.
 fn row_average(v: f64, count: u32) -> f64
     ensures { λ r. ⌜ r ≡ shared count v ⌝ }
 {
-    let quotient = v / count as f64;
-    if 1 < count {
-        return quotient;
+    let average = quotient(v, at_least_one(count));
+    if count < 2 {
+        return v;
     }
-    v
+    average
 }
 
 // Divides each row by the number of its columns where that is above 1, and counts no column on it any more.
