@@ -11,7 +11,7 @@ mod join;
 mod pair_back;
 mod pair_index;
 mod pooled;
-mod renumber;
+mod renumbering;
 mod same_layouts;
 mod sizes;
 
@@ -26,6 +26,6 @@ pub use join::chordal_join;
 pub use pair_back::chordal_pair_back;
 pub use pair_index::chordal_pair_index;
 pub use pooled::chordal_pool;
-pub use renumber::chordal_renumber;
+pub use renumbering::chordal_renumber;
 pub use same_layouts::chordal_same_layout;
 pub use sizes::chordal_sizes;
