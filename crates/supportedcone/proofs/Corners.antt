@@ -4,7 +4,7 @@ use mathlib.Core.Bool.{true, false}
 use mathlib.Core.List.{[], _∷_}
 use Rattle.layout.specs.Cones.{records}
 use Rattle.layout.specs.Checks.{conesBounded, conesRead}
-use Rattle.supportedcone.specs.Ranges.{rowTotal, firstRows}
+use Rattle.supportedcone.specs.Ranges.{rowTotal}
 
 -- a part record at the end: check 1 passes over it, check 4 does not
 part-bounded : conesBounded (0 ∷ 2 ∷ 0 ∷ 1 ∷ 65537 ∷ []) ≡ true
@@ -35,9 +35,6 @@ no-rows = refl
 all-kinds : conesRead 33 (0 ∷ 1 ∷ 0 ∷ 1 ∷ 2 ∷ 0 ∷ 2 ∷ 4 ∷ 0 ∷ 3 ∷ 0 ∷ 0 ∷ 4 ∷ 0 ∷ 0 ∷ 5 ∷ 2 ∷ 3 ∷ 6 ∷ 5 ∷ 0 ∷ []) ≡ true
 all-kinds = refl
 
--- test_cone_ranges: 0..3, 3..3, 3..7
-ranges : firstRows 0 (records (1 ∷ 3 ∷ 0 ∷ 1 ∷ 0 ∷ 0 ∷ 2 ∷ 4 ∷ 0 ∷ [])) ≡ 0 ∷ 3 ∷ 3 ∷ []
-ranges = refl
-
+-- test_cone_ranges: 0..3, 3..3, 3..7 end at 7
 ranges-end : rowTotal (records (1 ∷ 3 ∷ 0 ∷ 1 ∷ 0 ∷ 0 ∷ 2 ∷ 4 ∷ 0 ∷ [])) ≡ 7
 ranges-end = refl

@@ -2,7 +2,6 @@
 pub mod Steps
 -- records by number, the first row of each
 pub mod Records
-pub mod Ranges
 -- reading a record; what check 1 says of it
 pub mod Reading
 pub mod Bounds

@@ -1,13 +1,12 @@
 // clarabel's solver/core/cones/supportedcone.rs: the cones, their records, rows and α; checks 1 and 4 of the records.
 ghost use mathlib.Core.Path.{_≡_};
 ghost use mathlib.Core.Bool.{true, cond};
-ghost use Prim.Native.Nat.{_≤_};
 ghost use lib.ListN.{length};
-ghost use Rattle.layout.specs.Lists.{all, written};
+ghost use Rattle.layout.specs.Lists.{all};
 ghost use Rattle.layout.specs.Cones.{records, reads, rowCount, alphaCount};
 ghost use Rattle.layout.specs.Checks.{sizesBounded, conesBounded, conesRead, alphasAsMany};
 ghost use Rattle.supportedcone.specs.Cases.{coneRecord, recordOf, told, readsAs, readsWith, recordAt};
-ghost use Rattle.supportedcone.specs.Ranges.{firstRows, rowTotal, isPsdOf};
+ghost use Rattle.supportedcone.specs.Ranges.{isPsdOf};
 
 // A cone by value: its dimension, or its exponent, or its two counts. GenPower has its count of α first; the α stay in their table.
 pub enum SupportedCone {
@@ -218,25 +217,6 @@ pub fn cone_rows(cones: &[u32], i: usize) -> u32
         return 0;
     };
     cone.nvars()
-}
-
-// Writes the first row of each cone; answers how many rows there are in all, where the last range ends.
-pub fn rng_cones(cones: &[u32], out: &mut [u32]) -> u32
-    requires { ⌜ conesBounded (now cones) ≡ true ⌝ }
-    requires { ⌜ all reads (records (now cones)) ≡ true ⌝ }
-    requires { ⌜ length (records (now cones)) ≤ length (now out) ⌝ }
-    ensures { λ r. ⌜ r ≡ rowTotal (records (now (cones .entry))) ⌝ }
-    ensures { λ _. ⌜ now (out .exit) ≡ written (firstRows 0 (records (now (cones .entry)))) (now (out .entry)) ⌝ }
-{
-    let count = record_count(cones);
-    let mut row = 0;
-    let mut i = 0;
-    while i < count {
-        out[i] = row;
-        row += cone_rows(cones, i);
-        i += 1;
-    }
-    row
 }
 
 // Cone i is there, and is a PSD cone of dimension v.
