@@ -12,6 +12,7 @@ mod exhaustive;
 mod expected;
 mod generated;
 mod loads;
+mod malformed;
 mod pool;
 mod problem;
 mod random;
@@ -40,6 +41,7 @@ compare/run --loads [--cases N]        generated problems (Q-5): every vertex co
 compare/run --test-load            what crate test_load prints, from the plain reading
 compare/run --vectors FILE         stored cases (JSON, one a line), told by the file's name: cases.jsonl, q-N.jsonl
 compare/run --differences          clarabel on the inputs of docs/DIFFERENCES.md
+compare/run --malformed            time a word of refused calls, at 10,000, 100,000 and 1,000,000 words
 compare/run --speed                times, with ratios where the door is linked
 compare/run --store FOLDER --cases N --seed S    writes stored answers of each family, for crate replay
 The door is the libdoor.a in the folder that CHORDAL_DOOR_LIB names, or else the one that rt makes.";
@@ -283,6 +285,7 @@ fn compare() -> i32 {
             "--both-routes" => mode = "both routes",
             "--loads" => mode = "loads",
             "--test-load" => mode = "test load",
+            "--malformed" => mode = "malformed",
             "--speed" => mode = "speed",
             "--vectors" => (mode, file) = ("vectors", Some(value())),
             "--store" => (mode, file) = ("store", Some(value())),
@@ -299,6 +302,7 @@ fn compare() -> i32 {
             differences::print();
             return 0;
         }
+        "malformed" => return malformed::print() as i32,
         "speed" => {
             speed::print();
             return 0;

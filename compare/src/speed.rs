@@ -142,7 +142,7 @@ fn inputs() -> Vec<(String, Problem)> {
 }
 
 // the thread's own time in microseconds, so that other programs on the machine do not count
-fn now() -> f64 {
+pub fn now() -> f64 {
     #[repr(C)]
     struct Timespec {
         seconds: i64,
