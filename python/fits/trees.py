@@ -1,0 +1,48 @@
+"""Clique trees of sparse symmetric matrices. The search is no part of the proved calls: any tree that they accept serves."""
+from tejiwakpa import Clique, Pattern
+
+
+def clique_tree(size, pairs, orig_index=0):
+    """The pattern of a PSD cone whose entries beside the diagonal stand at `pairs`, filled so that it is chordal: the vertex
+    with the fewest neighbours left goes first. Returns the pattern, whose vertices are places in that order."""
+    near = [set() for _ in range(size)]
+    for i, j in pairs:
+        if i != j:
+            near[i].add(j)
+            near[j].add(i)
+    ordering, later, left = [], [], set(range(size))
+    while left:
+        vertex = min(left, key=lambda v: (len(near[v]), v))
+        left.remove(vertex)
+        ordering.append(vertex)
+        later.append(set(near[vertex]))
+        for w in near[vertex]:
+            near[w] |= near[vertex] - {w}
+            near[w].discard(vertex)
+    place = {vertex: k for k, vertex in enumerate(ordering)}
+    higher = [sorted(place[w] for w in found) for found in later]
+    return Pattern(orig_index, ordering, _cliques(higher))
+
+
+def _cliques(higher):
+    # a vertex joins the snode of the one before it whose later neighbours are it and its own
+    snodes, of = [], {}
+    for vertex, found in enumerate(higher):
+        number = of.get(vertex)
+        if number is None:
+            number = len(snodes)
+            snodes.append([])
+        snodes[number].append(vertex)
+        if found and found[0] not in of and len(higher[found[0]]) == len(found) - 1:
+            of[found[0]] = number
+    holder = {vertex: number for number, snode in enumerate(snodes) for vertex in snode}
+    # each before its parent: by the last vertex of the snode
+    rank = sorted(range(len(snodes)), key=lambda number: snodes[number][-1])
+    new = {number: k for k, number in enumerate(rank)}
+    cliques = []
+    for number in rank:
+        separator = higher[snodes[number][-1]]
+        parent = new[holder[separator[0]]] if separator else len(snodes) - 1
+        cliques.append(Clique(parent, snodes[number], separator))
+    cliques[-1] = Clique(None, cliques[-1].snode)
+    return cliques

@@ -1,0 +1,246 @@
+"""The calls: each gives its full result or raises one `Refusal`."""
+import dataclasses
+
+import numpy
+
+from . import door
+from .diagnosis import fault, fault_of_map, fault_of_solution, limits_fault
+from .refusal import Refusal
+from .types import Augmented, Columns, ConeMapEntry, Pattern, Problem, Route, Solution, read_cones
+
+MOST_ROWS, MOST_OVERLAPS, MOST_SIZE = 262_144, 131_072, 65_536
+
+
+def _done(number, where=lambda: None):
+    if number:
+        found = where()
+        raise Refusal(number, found.where if found is not None and found.number == number else "")
+
+
+def _room(length, dtype):
+    return numpy.zeros(int(length), dtype=dtype)
+
+
+def pair_index(i, j):
+    """The index of the pair (i, j) in the packed upper triangle, column by column, in either order.
+
+    >>> pair_index(2, 5)
+    17
+    """
+    out = _room(1, numpy.uint32)
+    _done(door.call("chordal_pair_index", door.word(i), door.word(j), out))
+    return int(out[0])
+
+
+def pair_back(index):
+    """Row and column of an index in the packed upper triangle.
+
+    >>> pair_back(17)
+    (2, 5)
+    """
+    out = _room(2, numpy.uint32)
+    _done(door.call("chordal_pair_back", door.word(index), out))
+    return int(out[0]), int(out[1])
+
+
+def inverse(permutation):
+    """The inverse of a permutation: for each number its place.
+
+    >>> inverse([2, 0, 1])
+    [1, 2, 0]
+    """
+    out = _room(len(permutation), numpy.uint32)
+    _done(door.call("chordal_inverse", door.words(permutation), out))
+    return out.tolist()
+
+
+def renumber(pattern):
+    """The pattern with its vertices numbered by rising clique and, within a snode, by rising old number."""
+    words = door.words(pattern.words())
+    out = _room(len(words), numpy.uint32)
+    _done(door.call("chordal_renumber", words, out))
+    return Pattern.from_words(out)
+
+
+@dataclasses.dataclass(frozen=True)
+class Sizes:
+    """The lengths of the cut's outputs as flat tables."""
+
+    p_starts: int
+    p_rows: int
+    p_values: int
+    q: int
+    a_starts: int
+    a_rows: int
+    a_values: int
+    b: int
+    cones: int
+    alphas: int
+    map: int
+
+
+def _sizes(route, tables):
+    out = _room(11, numpy.uint32)
+    number = door.call("chordal_sizes", int(route), *tables, out)
+    return number, Sizes(*out.tolist())
+
+
+def sizes(route, problem):
+    """The lengths of the outputs that `cut` makes of the problem: `b` is the number of augmented rows, `q` of unknowns."""
+    number, lengths = _sizes(route, problem.tables())
+    _done(number, lambda: fault(problem, route))
+    return lengths
+
+
+def covers(problem):
+    """Whether the patterns cover A and b: no stored entry of A and no b unequal to zero lies in a row that no clique of
+    its cone's pattern covers.
+
+    The standard route takes a problem whose patterns do not. Its fit then is another, stricter one, and no residual
+    shows it; the compact route refuses such a problem, number 9. A problem that is refused otherwise raises that.
+    """
+    try:
+        sizes(Route.COMPACT, problem)
+    except Refusal as refused:
+        if refused.number == 10:
+            # the number of overlaps is no matter of covering, and 9 comes before it
+            return True
+        if refused.number != 9:
+            raise
+        return False
+    return True
+
+
+class _Buffers:
+    def __init__(self, lengths, sides=1):
+        words, values = numpy.uint32, numpy.float64
+        self.p = Columns(_room(lengths.p_starts, words), _room(lengths.p_rows, words), _room(lengths.p_values, values))
+        self.q = _room(lengths.q, values)
+        self.a = Columns(_room(lengths.a_starts, words), _room(lengths.a_rows, words), _room(lengths.a_values, values))
+        self.sides = [_room(lengths.b, values) for _ in range(sides)]
+        self.cones, self.alphas = _room(lengths.cones, words), _room(lengths.alphas, values)
+        self.map = _room(lengths.map, words)
+
+    def outputs(self):
+        return [self.p.starts, self.p.rows, self.p.values, self.q, self.a.starts, self.a.rows, self.a.values, *self.sides,
+                self.cones, self.alphas, self.map]
+
+    def augmented(self):
+        b = self.sides[0]
+        problem = Problem(len(self.q), len(b), self.p, self.q, self.a, b, read_cones(self.cones, self.alphas))
+        entries = [
+            ConeMapEntry(orig, None if tree == door.NONE else (tree, clique), first, rows)
+            for orig, tree, clique, first, rows in self.map.reshape(-1, 5).tolist()
+        ]
+        return Augmented(problem, entries)
+
+
+def cut(route, problem):
+    """Cuts the PSD cones that have a pattern into their cliques: the augmented problem, and where its cones come from.
+
+    On the standard route a pattern that does not cover A and b is accepted, and the fit is then another, stricter
+    problem; `cut_covered` asks first.
+
+    >>> cut(Route.COMPACT, Problem.three_projectors()).problem.b.tolist()
+    [3.0, 4.0, 5.0, 1.0, 2.0, 0.0]
+    """
+    tables = problem.tables()
+    number, lengths = _sizes(route, tables)
+    _done(number, lambda: fault(problem, route))
+    made = _Buffers(lengths)
+    _done(door.call("chordal_cut", int(route), *tables, *made.outputs()), lambda: fault(problem, route))
+    return made.augmented()
+
+
+def cut_covered(route, problem):
+    """The cut of a problem whose patterns cover A and b; on either route number 9 where they do not."""
+    if not covers(problem):
+        found = fault(problem, Route.COMPACT)
+        raise Refusal(9, found.where if found is not None and found.number == 9 else "")
+    return cut(route, problem)
+
+
+def cut_between(problem, low, high):
+    """The compact cut of a problem whose b is known only as a low and a high limit: the augmented problem, whose b is the
+    low limits', and both augmented limits."""
+    tables = problem.tables(low, high)
+    _, lengths = _sizes(Route.COMPACT, problem.tables(low))
+    made = _Buffers(lengths, 2)
+    _done(door.call("chordal_cut_between", *tables, *made.outputs()), lambda: limits_fault(problem, low, high))
+    return made.augmented(), made.sides[0], made.sides[1]
+
+
+def _map_words(entries):
+    words = []
+    for entry in entries:
+        tree, clique = (None, 0) if entry.tree_and_clique is None else entry.tree_and_clique
+        words += [entry.orig_index, door.numbered(tree), clique, entry.first_row, entry.rows]
+    return door.words(words)
+
+
+def _solved(problem, solution):
+    return [door.word(problem.n), door.word(problem.m), problem.cone_words()[0], len(problem.patterns),
+            problem.pattern_words(), door.doubles(solution.x), door.doubles(solution.s), door.doubles(solution.z),
+            float(solution.tau), float(solution.kappa)]
+
+
+def _size(number):
+    # a size beyond the bound is refused whatever the room
+    return min(max(number, 0), MOST_SIZE)
+
+
+def join(route, problem, entries, solution):
+    """Joins a solution of the augmented problem to one of the original problem, of which only n, m, the cones and the
+    patterns are read. `entries` is the cut's map; the standard route reads none.
+
+    In rows of cut cones z is the last walked block's value on the compact route and the blocks' mean on the standard one,
+    and zero where no clique covers: entries of a matrix to be completed, not a PSD matrix. See `original_residual` for
+    what to watch.
+    """
+    outs = [_room(_size(problem.n), float), _room(_size(problem.m), float), _room(_size(problem.m), float), _room(2, float)]
+    number = door.call("chordal_join", int(route), *_solved(problem, solution), _map_words(entries), *outs)
+    _done(number, lambda: fault_of_solution(problem, route, solution) or fault_of_map(problem, route, entries))
+    x, s, z, scalars = outs
+    return Solution(x, s, z, float(scalars[0]), float(scalars[1]))
+
+
+def change_route(problem, solution):
+    """A solution of the standard cut as one of the compact cut of the same problem: a fit that began on the standard route
+    goes on with the compact one from where it is. τ and κ are copied."""
+    rows = sum(cone.nvars() for cone in problem.cones)
+    overlaps = 0
+    for pattern in problem.patterns:
+        if 0 <= pattern.orig_index < len(problem.cones):
+            rows -= problem.cones[pattern.orig_index].nvars()
+        for clique in pattern.cliques:
+            size, shared = len(clique.snode) + len(clique.separator), len(clique.separator)
+            rows += size * (size + 1) // 2
+            overlaps += shared * (shared + 1) // 2
+    rows, overlaps = max(0, min(rows, MOST_ROWS)), min(overlaps, MOST_OVERLAPS)
+    outs = [_room(_size(problem.n) + overlaps, float), _room(rows, float), _room(rows, float), _room(2, float)]
+    number = door.call("chordal_change_route", *_solved(problem, solution), *outs)
+    _done(number, lambda: fault_of_solution(problem, Route.STANDARD, solution))
+    x, s, z, scalars = outs
+    return Solution(x, s, z, float(scalars[0]), float(scalars[1]))
+
+
+def same_layout(first, second):
+    """Whether n, m, the cones with their exponents, the patterns, and the starts and rows of A and P of two problems agree:
+    what was worked out from one cut's places then serves the other."""
+    out = _room(1, numpy.uint32)
+    _done(door.call("chordal_same_layout", *first.tables(), *second.tables(), out), lambda: fault(first) or fault(second))
+    return bool(out[0])
+
+
+def original_residual(problem, solution):
+    """The largest |Ax + s − b| of a joined solution in the original problem's rows: what a site should watch.
+
+    A solver's own residuals are those of the augmented equations. Where one of these were wrong, they would still
+    vanish; this one would not.
+
+    >>> problem = Problem.three_projectors()
+    >>> original_residual(problem, Solution([0.0], problem.b, [0.0] * 6))
+    0.0
+    """
+    rows = problem.a.times(solution.x, problem.m) + numpy.asarray(solution.s, dtype=float) - numpy.asarray(problem.b, dtype=float)
+    return float(numpy.max(numpy.abs(rows), initial=0.0))
