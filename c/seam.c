@@ -27,6 +27,26 @@ static int view_block(uint32_t clique, const uint32_t *map, const double *augmen
            equal("the block", augmented_b + entry[FIRST_ROW], want, count);
 }
 
+/* After a joining a site watches the original equations: a solution of the augmented ones leaves nothing there. */
+static int watch(uint32_t route, const uint32_t *starts, const uint32_t *rows, const double *values,
+                 size_t columns, const double *augmented_b, size_t augmented_rows, const uint32_t *map, size_t map_len) {
+    struct chordal_problem problem = {.n = N, .m = M, .a_starts = {ALL(a_starts)}, .a_rows = {ALL(a_rows)},
+                                      .a_values = {ALL(a_values)}, .b = {ALL(b)}};
+    /* x = 0.5, and added unknowns: any on the compact route; on the standard one those that leave the zero cone none */
+    static const double compact_x[] = {0.5, 2}, standard_x[] = {0.5, -4, -8, -6, -6, -16, -20};
+    const double *x = route ? compact_x : standard_x;
+    double slack[12], x_out[N], s[M], z[M], scalars[2], left[M];
+    memcpy(slack, augmented_b, augmented_rows * sizeof *slack);
+    for (size_t c = 0; c < columns; c++)
+        for (size_t k = starts[c]; k < starts[c + 1]; k++) slack[rows[k]] -= values[k] * x[c];
+    uint32_t refusal = chordal_join(route, N, M, ALL(cones), 1, ALL(pattern_words), x, columns, slack, augmented_rows, slack,
+                                    augmented_rows, 1, 0, map, map_len, ALL(x_out), ALL(s), ALL(z), ALL(scalars));
+    if (refusal != CHORDAL_DONE) return 0;
+    double residual = chordal_original_residual(&problem, x_out, s, left);
+    printf("  original residual of a solution at x = %g: %g\n", x_out[0], residual);
+    return residual == 0;
+}
+
 static int run(uint32_t route, const double *solved, const double *joined_s, const double *joined_z) {
     uint32_t size[TABLES];
     void *table[TABLES];
@@ -68,6 +88,8 @@ static int run(uint32_t route, const double *solved, const double *joined_s, con
             print_values("joined s", s, M);
             print_values("joined z", z, M);
             right = seen & equal("s", s, joined_s, M) & equal("z", z, joined_z, M) & equal("x", x_out, x, N);
+            right &= watch(route, table[A_STARTS], table[A_ROWS], table[A_VALUES], size[Q], table[B], size[B],
+                           table[MAP], size[MAP]);
         }
     }
     if (refusal != CHORDAL_DONE) printf("  refused, number %u\n", (unsigned)refusal);

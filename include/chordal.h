@@ -1,16 +1,58 @@
 /* The chordal cut and join of semidefinite problems: the calls of libdoor.a, which `rt staticlib door` makes.
  *
+ * CALLS
  * Each call returns 0 where it is done, and otherwise the number of the first check that fails; its outputs then hold
  * what they held. A slice is a pointer, never null, and a length; an output longer than its result keeps its rest.
  * No output may overlap another argument. Whatever the tables hold, a call reads and writes within their lengths and
- * ends. It fits a thread with 2 MB of stack, and calls on several threads do not meet.
+ * ends. It fits a thread with 2 MB of stack, and calls on several threads do not meet. The end of this header has
+ * structs and inline functions over the calls, for callers who would not spell out 48 arguments.
  *
- * A route is 0 standard, 1 compact. P and A are compressed columns: starts, rows, which rise in a column, and values. A
- * cone is three words, its kind and two sizes, an unused size being 0: 0 Zero, 1 Nonnegative, 2 SecondOrder (dimension);
+ * PROBLEM
+ * Minimise x'Px / 2 + q'x with Ax + s = b and s in the cones. P and A are compressed columns: starts, rows, which rise in
+ * a column (A may repeat one), and values. P is passed on as it is, whole or upper, whichever the solver reads. A cone is
+ * three words, its kind and two sizes, an unused size being 0: 0 Zero, 1 Nonnegative, 2 SecondOrder (dimension);
  * 3 Exponential; 4 Power (takes one of alphas); 5 GenPower (how many of alphas it takes, dim2); 6 PSDTriangle (dimension).
- * A pattern is orig_index, vertex count, clique count, the ordering, and for each clique its parent, snode count,
- * separator count, snode and separator. The parent of the last clique, and the pattern of a cone map's entry that has
- * none, is CHORDAL_NONE.
+ * The rows of a PSD cone are the upper triangle of its matrix column by column: (0,0), (0,1), (1,1), (0,2), (1,2), (2,2).
+ * Values of A and b are only moved, never scaled: whatever factor a solver has beside the diagonal (clarabel has the root
+ * of 2), it finds again in the blocks.
+ *
+ * PATTERN
+ * The clique tree that a PSD cone is cut by: orig_index (the cone, by its place among the cones), vertex count, clique
+ * count, the ordering, and for each clique its parent, snode count, separator count, snode and separator. The parent of
+ * the last clique, and the pattern of a cone map's entry that has none, is CHORDAL_NONE. Cliques stand each before its
+ * parent. Patterns stand by rising orig_index.
+ * Members of snodes and separators are vertices: places in the ordering, and not rows of the matrix. ordering[v] is the
+ * row of the matrix that vertex v is. Three projectors, their matrix cut into the rows {0, 1} and {1, 2}:
+ *
+ *     ordering 0 1 2:  0,3,2, 0,1,2,  1,1,1, 0, 1,  CHORDAL_NONE,2,0, 1,2       clique 0 has the vertices 0 and 1
+ *     ordering 2 0 1:  0,3,2, 2,0,1,  1,1,1, 1, 2,  CHORDAL_NONE,2,0, 2,0       vertex 1 is row 0, vertex 2 is row 1
+ *
+ * A clique's block is the PSD cone of its members' rows of the matrix, sorted. A row of the cone is covered where both
+ * rows of its pair are in one clique.
+ *
+ * COVERING: A WARNING
+ * The patterns must cover A and b. The compact route refuses a problem where they do not, number 9; there a stored 0.0 of
+ * A is an entry, and a b of 0.0 or -0.0 is none. The standard route takes such a problem: an uncovered row has no slack
+ * there, the fit is another, stricter one, and no residual shows it. chordal_sizes on the compact route asks, and
+ * chordal_problem_cut_covered below refuses on either route.
+ *
+ * ROUTES
+ * A route is 0 standard, 1 compact. Both mean one problem.
+ *   standard  cones: Zero(m), which has all original rows, then the cones in order, a cut one as its cliques from first to
+ *             last. Each row after m is a new unknown; A becomes A beside H over 0 beside -I, where column k of H has a 1
+ *             in the original row of entry k.
+ *   compact   cones: the cones in order, a cut one as its cliques from last to first. A row of A and b moves to the block
+ *             of the clique that owns its pair; a pair that lies wholly in the separator is an overlap, a new unknown with
+ *             +1 in its own row and -1 in the row of the same pair in the parent's block.
+ * Both extend P by empty columns and q by 0.0.
+ *
+ * JOINING
+ * The first n of x are copied. s adds the blocks. z of a cut cone is, on the compact route, the value of the block walked
+ * last, that of the first clique that has the row, and on the standard one the mean of the blocks; where no clique covers
+ * it is 0. So it is no positive semidefinite matrix as it is: completing it is for the caller. tau and kappa are not read
+ * and come out as 1: a caller with a homogeneous embedding divides x, s and z by tau first.
+ * What to watch after each joining is the largest |Ax + s - b| of the original rows, chordal_original_residual below. A
+ * solver's residuals are those of the augmented equations, and vanish for wrong ones too.
  */
 #ifndef CHORDAL_H
 #define CHORDAL_H
@@ -219,6 +261,203 @@ uint32_t chordal_same_layout(
     const uint32_t *cones2, size_t cones2_len, const double *alphas2, size_t alphas2_len,
     uint32_t pattern_count2, const uint32_t *pattern_words2, size_t pattern_words2_len,
     uint32_t *out, size_t out_len);
+
+/* ---- Structs and inline functions over the calls. Nothing here is in libdoor.a. */
+
+#define CHORDAL_VERSION 100 /* 0.1.0 */
+
+/* What a refusal number means, in a few words; a number that no call answers has a text too. */
+static inline const char *chordal_refusal_text(uint32_t number) {
+    switch (number) {
+    case CHORDAL_DONE: return "done";
+    case CHORDAL_BOUND: return "a bound is exceeded";
+    case CHORDAL_STARTS: return "the starts of A or P are wrong, or rows are not as many as values";
+    case CHORDAL_ROWS: return "rows in a column of A fall or lie outside, or rows of P do not strictly rise or lie outside";
+    case CHORDAL_CONES: return "a cone record, the cones' rows, or the length of alphas, q or b is wrong";
+    case CHORDAL_PATTERNS: return "pattern words or a pattern's cone are wrong, or an ordering is no permutation";
+    case CHORDAL_TREE: return "a pattern's cliques are no tree with the last as its root";
+    case CHORDAL_CLIQUES: return "snodes do not hold each vertex once, or a separator is wrong";
+    case CHORDAL_UNCOVERED: return "an entry of A or a value of b lies in a row that no clique covers";
+    case CHORDAL_TOO_LARGE: return "there are too many augmented rows or overlaps";
+    case CHORDAL_SHORT: return "an output is too short";
+    case CHORDAL_SOLUTION: return "the solution's lengths or the cone map are not those of this problem";
+    case CHORDAL_LIMITS: return "a low limit is above its high one, or one of them is a NaN";
+    /* of problem files, of the generator and of pooling */
+    case 13: return "a problem file's header is short, or its length is not the file's";
+    case 14: return "a problem file's offsets, gaps or end are not those of its counts";
+    case 15: return "a seed is 0, or a count of the generator is outside its range";
+    case 17: return "two problems to be pooled have different n";
+    default: return "a number that this header does not name";
+    }
+}
+
+/* A table that is read, and one that is written. Where the length is 0 the pointer may be null. */
+struct chordal_words { const uint32_t *at; size_t len; };
+struct chordal_values { const double *at; size_t len; };
+struct chordal_words_out { uint32_t *at; size_t len; };
+struct chordal_values_out { double *at; size_t len; };
+
+/* A problem; all zero, it has no unknowns, no rows and no tables. */
+struct chordal_problem {
+    uint32_t n, m;
+    struct chordal_words p_starts, p_rows;
+    struct chordal_values p_values, q;
+    struct chordal_words a_starts, a_rows;
+    struct chordal_values a_values, b;
+    struct chordal_words cones;
+    struct chordal_values alphas;
+    uint32_t pattern_count;
+    struct chordal_words pattern_words;
+};
+
+/* The lengths of the cut's outputs: b is the number of augmented rows, q of augmented unknowns. */
+struct chordal_lengths { uint32_t p_starts, p_rows, p_values, q, a_starts, a_rows, a_values, b, cones, alphas, map; };
+
+/* The cut's outputs, each with the caller's room and its length. */
+struct chordal_augmented {
+    struct chordal_words_out p_starts, p_rows;
+    struct chordal_values_out p_values, q;
+    struct chordal_words_out a_starts, a_rows;
+    struct chordal_values_out a_values, b;
+    struct chordal_words_out cones;
+    struct chordal_values_out alphas;
+    struct chordal_words_out map;
+};
+
+/* A solution that is read, and the room for one that is written. */
+struct chordal_solution { struct chordal_values x, s, z; double tau, kappa; };
+struct chordal_joined { struct chordal_values_out x, s, z; double tau, kappa; };
+
+static inline const uint32_t *chordal_words_at(struct chordal_words t) {
+    static const uint32_t none[1] = {0};
+    return t.at ? t.at : none;
+}
+static inline const double *chordal_values_at(struct chordal_values t) {
+    static const double none[1] = {0};
+    return t.at ? t.at : none;
+}
+static inline uint32_t *chordal_words_room(struct chordal_words_out t) {
+    static uint32_t none[1];
+    return t.at ? t.at : none;
+}
+static inline double *chordal_values_room(struct chordal_values_out t) {
+    static double none[1];
+    return t.at ? t.at : none;
+}
+
+#define CHORDAL_W(t) chordal_words_at(t), (t).len
+#define CHORDAL_V(t) chordal_values_at(t), (t).len
+#define CHORDAL_WO(t) chordal_words_room(t), (t).len
+#define CHORDAL_VO(t) chordal_values_room(t), (t).len
+#define CHORDAL_BEFORE_B(p) \
+    (p)->n, (p)->m, CHORDAL_W((p)->p_starts), CHORDAL_W((p)->p_rows), CHORDAL_V((p)->p_values), CHORDAL_V((p)->q), \
+    CHORDAL_W((p)->a_starts), CHORDAL_W((p)->a_rows), CHORDAL_V((p)->a_values)
+#define CHORDAL_AFTER_B(p) \
+    CHORDAL_W((p)->cones), CHORDAL_V((p)->alphas), (p)->pattern_count, CHORDAL_W((p)->pattern_words)
+#define CHORDAL_PROBLEM(p) CHORDAL_BEFORE_B(p), CHORDAL_V((p)->b), CHORDAL_AFTER_B(p)
+#define CHORDAL_OUT_BEFORE_B(o) \
+    CHORDAL_WO((o)->p_starts), CHORDAL_WO((o)->p_rows), CHORDAL_VO((o)->p_values), CHORDAL_VO((o)->q), \
+    CHORDAL_WO((o)->a_starts), CHORDAL_WO((o)->a_rows), CHORDAL_VO((o)->a_values)
+#define CHORDAL_OUT_AFTER_B(o) CHORDAL_WO((o)->cones), CHORDAL_VO((o)->alphas), CHORDAL_WO((o)->map)
+#define CHORDAL_SKETCH(p) (p)->n, (p)->m, CHORDAL_W((p)->cones), (p)->pattern_count, CHORDAL_W((p)->pattern_words)
+#define CHORDAL_SOLVED(v) CHORDAL_V((v)->x), CHORDAL_V((v)->s), CHORDAL_V((v)->z), (v)->tau, (v)->kappa
+
+/* chordal_sizes. */
+static inline uint32_t chordal_problem_sizes(uint32_t route, const struct chordal_problem *problem,
+                                             struct chordal_lengths *out) {
+    uint32_t l[11];
+    uint32_t number = chordal_sizes(route, CHORDAL_PROBLEM(problem), l, 11);
+    if (number != CHORDAL_DONE) return number;
+    out->p_starts = l[0], out->p_rows = l[1], out->p_values = l[2], out->q = l[3], out->a_starts = l[4], out->a_rows = l[5];
+    out->a_values = l[6], out->b = l[7], out->cones = l[8], out->alphas = l[9], out->map = l[10];
+    return CHORDAL_DONE;
+}
+
+/* chordal_cut. */
+static inline uint32_t chordal_problem_cut(uint32_t route, const struct chordal_problem *problem,
+                                           const struct chordal_augmented *out) {
+    return chordal_cut(route, CHORDAL_PROBLEM(problem), CHORDAL_OUT_BEFORE_B(out), CHORDAL_VO(out->b),
+                       CHORDAL_OUT_AFTER_B(out));
+}
+
+/* Number 9 where the patterns do not cover A and b, 0 where they do, and another where the problem is refused before. */
+static inline uint32_t chordal_problem_covered(const struct chordal_problem *problem) {
+    uint32_t l[11];
+    uint32_t number = chordal_sizes(1, CHORDAL_PROBLEM(problem), l, 11);
+    /* 9 comes before 10 */
+    return number == CHORDAL_TOO_LARGE ? (uint32_t)CHORDAL_DONE : number;
+}
+
+/* chordal_cut of a problem whose patterns cover A and b; number 9 on either route where they do not. */
+static inline uint32_t chordal_problem_cut_covered(uint32_t route, const struct chordal_problem *problem,
+                                                   const struct chordal_augmented *out) {
+    uint32_t number = chordal_problem_covered(problem);
+    return number == CHORDAL_DONE ? chordal_problem_cut(route, problem, out) : number;
+}
+
+/* chordal_cut_between: the low limits go to out->b, the high ones to b_high. The problem's b is not read. */
+static inline uint32_t chordal_problem_cut_between(const struct chordal_problem *problem, struct chordal_values low,
+                                                   struct chordal_values high, const struct chordal_augmented *out,
+                                                   struct chordal_values_out b_high) {
+    return chordal_cut_between(CHORDAL_BEFORE_B(problem), CHORDAL_V(low), CHORDAL_V(high), CHORDAL_AFTER_B(problem),
+                               CHORDAL_OUT_BEFORE_B(out), CHORDAL_VO(out->b), CHORDAL_VO(b_high), CHORDAL_OUT_AFTER_B(out));
+}
+
+/* chordal_join. The map is the cut's. */
+static inline uint32_t chordal_problem_join(uint32_t route, const struct chordal_problem *problem,
+                                            const struct chordal_solution *solution, struct chordal_words map,
+                                            struct chordal_joined *out) {
+    double scalars[2];
+    uint32_t number = chordal_join(route, CHORDAL_SKETCH(problem), CHORDAL_SOLVED(solution), CHORDAL_W(map),
+                                   CHORDAL_VO(out->x), CHORDAL_VO(out->s), CHORDAL_VO(out->z), scalars, 2);
+    if (number == CHORDAL_DONE) out->tau = scalars[0], out->kappa = scalars[1];
+    return number;
+}
+
+/* chordal_change_route. */
+static inline uint32_t chordal_problem_change_route(const struct chordal_problem *problem,
+                                                    const struct chordal_solution *solution, struct chordal_joined *out) {
+    double scalars[2];
+    uint32_t number = chordal_change_route(CHORDAL_SKETCH(problem), CHORDAL_SOLVED(solution), CHORDAL_VO(out->x),
+                                           CHORDAL_VO(out->s), CHORDAL_VO(out->z), scalars, 2);
+    if (number == CHORDAL_DONE) out->tau = scalars[0], out->kappa = scalars[1];
+    return number;
+}
+
+/* chordal_same_layout: *same is 1 or 0. */
+static inline uint32_t chordal_problem_same_layout(const struct chordal_problem *first,
+                                                   const struct chordal_problem *second, uint32_t *same) {
+    return chordal_same_layout(CHORDAL_PROBLEM(first), CHORDAL_PROBLEM(second), same, 1);
+}
+
+/* The largest |Ax + s - b| of a joined solution in the original rows, or a NaN where one is; rows gets Ax + s - b. The
+ * problem is one that a cut has accepted, x has n values, s and rows have m. */
+static inline double chordal_original_residual(const struct chordal_problem *problem, const double *x, const double *s,
+                                               double *rows) {
+    double most = 0;
+    for (uint32_t r = 0; r < problem->m; r++) rows[r] = s[r] - problem->b.at[r];
+    for (uint32_t c = 0; c < problem->n; c++)
+        for (uint32_t k = problem->a_starts.at[c]; k < problem->a_starts.at[c + 1]; k++)
+            rows[problem->a_rows.at[k]] += problem->a_values.at[k] * x[c];
+    for (uint32_t r = 0; r < problem->m; r++) {
+        double away = rows[r] < 0 ? -rows[r] : rows[r];
+        /* a NaN stays */
+        if (away > most || away != away) most = away;
+    }
+    return most;
+}
+
+#undef CHORDAL_W
+#undef CHORDAL_V
+#undef CHORDAL_WO
+#undef CHORDAL_VO
+#undef CHORDAL_BEFORE_B
+#undef CHORDAL_AFTER_B
+#undef CHORDAL_PROBLEM
+#undef CHORDAL_OUT_BEFORE_B
+#undef CHORDAL_OUT_AFTER_B
+#undef CHORDAL_SKETCH
+#undef CHORDAL_SOLVED
 
 #ifdef __cplusplus
 }
