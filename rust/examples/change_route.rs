@@ -3,7 +3,7 @@
 //! The solver here is the plainest that will do: steps down the squared residual of the augmented equations, with no cone.
 //! `cargo run --example change_route` prints the largest residual as it goes.
 
-use tejiwakpa::{change_route, cut, join, Cone, Problem, Refusal, Route, Solution};
+use tejiwakpa::{change_route, cut, join, original_residual, Cone, Problem, Refusal, Route, Solution};
 
 /// A fit of an augmented problem, from any solution of its lengths.
 struct Fit<'a> {
@@ -80,7 +80,7 @@ fn main() -> Result<(), Refusal> {
     let ([stopped, started, ended], joined) = fitted(&dome())?;
     println!("standard route, after 30 steps: {stopped:.2e}");
     println!("compact route, from there: {started:.2e}, after 400 steps: {ended:.2e}");
-    println!("slacks {:.3?}", joined.s);
+    println!("slacks {:.3?}, original residual {:.2e}", joined.s, original_residual(&dome(), &joined));
     Ok(())
 }
 
@@ -92,9 +92,6 @@ fn goes_on() {
     let compact = cut(Route::Compact, &problem).unwrap().problem;
     assert!(started < Fit::from_zero(&compact).largest());
     assert!(ended < 1e-9);
-    // the original equations, in the rows that a clique covers
-    for (row, value) in problem.a.column(0) {
-        let row = row as usize;
-        assert!((value * joined.x[0] + joined.s[row] - problem.b[row]).abs() < 1e-8);
-    }
+    // the original equations, which a site watches
+    assert!(original_residual(&problem, &joined) < 1e-8);
 }

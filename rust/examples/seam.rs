@@ -5,7 +5,9 @@
 //! projectors with one seam on both routes and prints what it did.
 #![allow(non_snake_case, mixed_script_confusables)]
 
-use tejiwakpa::{cut, join, Clique, Columns, Cone, ConeMapEntry, Pattern, Problem, Refusal, Route, Solution};
+use tejiwakpa::{
+    cut, join, original_residual, Clique, Columns, Cone, ConeMapEntry, Pattern, Problem, Refusal, Route, Solution,
+};
 
 // ---- the solver's side
 
@@ -245,7 +247,32 @@ fn run(compact: bool) -> Result<DefaultVariables, Refusal> {
     println!("  joined: s {:?}", joined.s);
     println!("          z {:?}", joined.z);
     println!("          x {:?}, τ {}, κ {}", joined.x, joined.τ, joined.κ);
+    println!("  original residual of a solution at x = 0.5: {}", watched(&info, &settings, &A, &b, &newA, &newb)?);
     Ok(joined)
+}
+
+// what a site watches after each joining, here for slacks that meet the augmented equations
+fn watched(
+    info: &ChordalInfo,
+    settings: &DefaultSettings,
+    A: &CscMatrix,
+    b: &[f64],
+    newA: &CscMatrix,
+    newb: &[f64],
+) -> Result<f64, Refusal> {
+    // any overlap does on the compact route; on the standard one the added unknowns leave the zero cone no slack
+    let compact = settings.chordal_decomposition_compact;
+    let x = if compact { vec![0.5, 2.0] } else { vec![0.5, -4.0, -8.0, -6.0, -6.0, -16.0, -20.0] };
+    let mut s = newb.to_vec();
+    for (c, x) in x.iter().enumerate() {
+        (newA.colptr[c]..newA.colptr[c + 1]).for_each(|k| s[newA.rowval[k]] -= newA.nzval[k] * x);
+    }
+    let solved = DefaultVariables { x, s: s.clone(), z: s, τ: 1.0, κ: 0.0 };
+    let DefaultVariables { x, s, z, τ, κ } = info.decomp_reverse(&solved, &[], settings)?;
+    let original = Problem { a: columns(A), b: b.to_vec(), ..info.sketch() };
+    let residual = original_residual(&original, &Solution { x, s, z, tau: τ, kappa: κ });
+    assert_eq!(residual, 0.0);
+    Ok(residual)
 }
 
 fn main() -> Result<(), Refusal> {

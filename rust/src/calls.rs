@@ -184,6 +184,9 @@ impl Buffers {
 /// There may be nothing to adjust: with n = 0 the overlaps' columns are the only ones. A may repeat a row in a column: the
 /// compact route adds the run from left to right into one entry, the standard route keeps it as stored.
 ///
+/// The standard route accepts patterns that do not cover A and b, and the fit is then another, stricter problem, which no
+/// residual shows: [`cut_covered`](crate::cut_covered) asks first.
+///
 /// ```
 /// use tejiwakpa::{cut, Cone, Problem, Refusal, Route};
 ///
@@ -209,7 +212,8 @@ pub fn cut(route: Route, problem: &Problem) -> Result<Augmented, Refusal> {
 }
 
 /// Joins a solution of the augmented problem to one of the original problem, of which only n, m, the cones and the
-/// patterns are read. The map is that of the cut; the standard route reads none.
+/// patterns are read. The map is that of the cut; the standard route reads none. What to watch afterwards is
+/// [`original_residual`](crate::original_residual).
 ///
 /// ```
 /// use tejiwakpa::{cut, join, Problem, Route, Solution};

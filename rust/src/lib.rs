@@ -18,6 +18,10 @@
 //! | [`generate`] | a problem that any site can make again |
 //! | [`same_layout`] | whether what was worked out from one problem's places serves another |
 //!
+//! Beside the calls, in Rust alone: [`original_residual`] is what to watch after a joining, [`covers`] and [`cut_covered`] ask
+//! whether the patterns cover the problem, and [`fault`] says where a refused problem is wrong. [`contract`] has what the tables
+//! mean, in full.
+//!
 //! The code behind the calls is proved: given anything at all, a call ends with its full result or with one [`Refusal`].
 //! Each fits a thread with 2 MB of stack, Rust's usual one, and calls on several threads do not meet. [`flat`] has the
 //! same calls over lent slices.
@@ -62,6 +66,8 @@
 mod calls;
 mod change_route;
 mod cone;
+pub mod contract;
+mod diagnosis;
 pub mod flat;
 mod generate;
 mod pattern;
@@ -70,10 +76,12 @@ mod problem;
 mod refusal;
 mod sides;
 mod solution;
+mod watch;
 
 pub use calls::{cut, inverse, join, pair_back, pair_index, renumber, same_layout, sizes, Sizes};
 pub use change_route::change_route;
 pub use cone::Cone;
+pub use diagnosis::{fault, Fault};
 pub use generate::generate;
 pub use pattern::{Clique, Pattern};
 pub use pool::pool;
@@ -81,6 +89,7 @@ pub use problem::{Columns, Problem, Route, Words};
 pub use refusal::Refusal;
 pub use sides::{cut_between, cut_many, Limits};
 pub use solution::{Augmented, ConeMapEntry, Solution};
+pub use watch::{covers, cut_covered, original_residual};
 
 // A length as a u32. One that is too long becomes the largest, which is beyond every bound.
 fn count(length: usize) -> u32 {
