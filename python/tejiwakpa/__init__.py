@@ -10,11 +10,14 @@ from .calls import (
     cut,
     cut_between,
     cut_covered,
+    cut_many,
+    generate,
     inverse,
     join,
     original_residual,
     pair_back,
     pair_index,
+    pool,
     renumber,
     same_layout,
     sizes,
@@ -25,6 +28,6 @@ from .types import Augmented, Clique, Columns, Cone, ConeMapEntry, Kind, Pattern
 
 __all__ = [
     "Augmented", "Clique", "Columns", "Cone", "ConeMapEntry", "Fault", "Kind", "Pattern", "Problem", "Refusal", "Route", "Sizes",
-    "Solution", "change_route", "covers", "cut", "cut_between", "cut_covered", "fault", "inverse", "join", "original_residual",
-    "pair_back", "pair_index", "renumber", "same_layout", "sizes", "smat", "svec", "uncovered",
+    "Solution", "change_route", "covers", "cut", "cut_between", "cut_covered", "cut_many", "fault", "generate", "inverse", "join",
+    "original_residual", "pair_back", "pair_index", "pool", "renumber", "same_layout", "sizes", "smat", "svec", "uncovered",
 ]

@@ -1,4 +1,5 @@
 """The calls: each gives its full result or raises one `Refusal`."""
+import ctypes
 import dataclasses
 
 import numpy
@@ -8,7 +9,7 @@ from .diagnosis import fault, fault_of_map, fault_of_solution, limits_fault
 from .refusal import Refusal
 from .types import Augmented, Columns, ConeMapEntry, Pattern, Problem, Route, Solution, read_cones
 
-MOST_ROWS, MOST_OVERLAPS, MOST_SIZE = 262_144, 131_072, 65_536
+MOST_ROWS, MOST_OVERLAPS, MOST_SIZE, MOST_SIDES = 262_144, 131_072, 65_536, 64
 
 
 def _done(number, where=lambda: None):
@@ -168,6 +169,76 @@ def cut_between(problem, low, high):
     made = _Buffers(lengths, 2)
     _done(door.call("chordal_cut_between", *tables, *made.outputs()), lambda: limits_fault(problem, low, high))
     return made.augmented(), made.sides[0], made.sides[1]
+
+
+def cut_many(problem, sides):
+    """The compact cut of one problem with 1 to 64 right sides, its own b being passed over: the augmented problem, whose b is
+    the first side's, and each side's augmented b in turn. Each is what `cut` gives for that side alone; where several sides
+    would be refused, the first of them gives the number.
+
+    >>> problem = Problem.three_projectors()
+    >>> augmented, each = cut_many(problem, [[1.0, 2.0, 3.0, 0.0, 4.0, 5.0], [1.5, 2.5, 3.5, 0.0, 4.5, 5.5]])
+    >>> [side.tolist() for side in each]
+    [[3.0, 4.0, 5.0, 1.0, 2.0, 0.0], [3.5, 4.5, 5.5, 1.5, 2.5, 0.0]]
+    """
+    taken = [door.doubles(side) for side in sides[:MOST_SIDES]]
+    _, lengths = _sizes(Route.COMPACT, problem.tables(taken[0] if taken else []))
+    values = numpy.concatenate([*taken, numpy.zeros(0)])
+    if any(len(side) != problem.m for side in taken) and len(values) == len(taken) * problem.m:
+        # lengths that only even out are wrong all the same
+        values = numpy.append(values, 0.0)
+    made = _Buffers(dataclasses.replace(lengths, b=lengths.b * len(taken)))
+    number = door.call("chordal_cut_many", door.word(len(sides)), *problem.tables(values), *made.outputs())
+    _done(number, lambda: next((f for f in (fault(dataclasses.replace(problem, b=s), Route.COMPACT) for s in taken) if f), None))
+    each = made.sides[0].reshape(len(taken), lengths.b)
+    made.sides = [each[0]]
+    return made.augmented(), list(each)
+
+
+def _tables(lengths):
+    """Rooms for a problem's eleven tables."""
+    words, values = numpy.uint32, numpy.float64
+    kinds = [words, words, values, values, words, words, values, values, words, values, words]
+    return [_room(length, kind) for length, kind in zip(lengths, kinds)]
+
+
+def _problem(n, m, count, tables):
+    """The problem of tables that a call has written."""
+    p_starts, p_rows, p_values, q, a_starts, a_rows, a_values, b, cones, alphas, patterns = tables
+    return Problem(n, m, Columns(p_starts, p_rows, p_values), q, Columns(a_starts, a_rows, a_values), b, read_cones(cones, alphas),
+                   Pattern.all_from_words(count, patterns))
+
+
+def pool(first, second):
+    """Pools two passes over one dome, which share their unknowns: A over A, b over b, cones and patterns in turn; P and q are
+    the first's.
+
+    >>> pooled = pool(Problem.three_projectors(), Problem.three_projectors())
+    >>> pooled.m, [pattern.orig_index for pattern in pooled.patterns]
+    (12, [0, 1])
+    """
+    one, two = first.tables(), second.tables()
+    shared = {2, 3, 4, 5, 6}  # P, q and the starts of A are as long as the first's
+    places = [2, 3, 4, 5, 6, 7, 8, 9, 10, 11, 13]
+    outs = _tables([len(one[k]) + (0 if k in shared else len(two[k])) for k in places])
+    number = door.call("chordal_pool", *one, *two, *outs)
+    _done(number, lambda: fault(first) or fault(second))
+    return _problem(first.n, first.m + second.m, len(first.patterns) + len(second.patterns), outs)
+
+
+def generate(seed, v, w, n):
+    """Generates a problem that any site can make again: from a seed that is not 0, a vertex count `v` of 2 to 64, a band `w`
+    with 1 ≤ w < v, and `n` of 1 to 64 columns. Both routes accept it.
+
+    >>> generate(7, 4, 1, 2).b.tolist()
+    [23.0, 88.0, -22.0, 0.0, 73.0, 21.0, 30.0, 0.0, 0.0, -66.0]
+    """
+    drawn = [ctypes.c_uint64(seed), door.word(v), door.word(w), door.word(n)]
+    lengths = _room(11, numpy.uint32)
+    _done(door.call("chordal_generate_sizes", *drawn, lengths))
+    outs = _tables(lengths.tolist())
+    _done(door.call("chordal_generate", *drawn, *outs))
+    return _problem(n, v * (v + 1) // 2, 1, outs)
 
 
 def _map_words(entries):

@@ -47,7 +47,8 @@ def doubles(values):
 
 
 def call(name, *arguments):
-    """Calls `name`: an array passes as pointer and length, an int as u32, a float as double. Returns the refusal number."""
+    """Calls `name`: an array passes as pointer and length, an int as u32, a float as double, and what ctypes made as it is.
+    Returns the refusal number."""
     passed, kept = [], []
     for argument in arguments:
         if isinstance(argument, numpy.ndarray):
@@ -61,6 +62,8 @@ def call(name, *arguments):
             passed += [ctypes.c_void_p(argument.ctypes.data), ctypes.c_size_t(length)]
         elif isinstance(argument, float):
             passed.append(ctypes.c_double(argument))
+        elif isinstance(argument, ctypes.c_uint64):
+            passed.append(argument)
         else:
             passed.append(ctypes.c_uint32(argument))
     function = getattr(library(), name)

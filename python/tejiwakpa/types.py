@@ -174,6 +174,15 @@ class Pattern:
             cliques.append(Clique(None if parent == door.NONE else parent, members[:snodes], members[snodes:]))
         return Pattern(orig_index, ordering, cliques)
 
+    @staticmethod
+    def all_from_words(count, words):
+        """Reads the words of `count` patterns, one after the other, that a call has written."""
+        patterns = []
+        for _ in range(count):
+            patterns.append(Pattern.from_words(words))
+            words = words[len(patterns[-1].words()) :]
+        return patterns
+
     def originals(self, clique):
         """The original vertices of a clique's members, sorted: the rows of the matrix that its block is."""
         return sorted(self.ordering[v] for v in self.cliques[clique].members())

@@ -8,8 +8,8 @@ import numpy
 
 import tejiwakpa
 from tejiwakpa import (
-    Clique, Columns, Cone, ConeMapEntry, Pattern, Problem, Refusal, Route, Solution, change_route, cut, cut_between, inverse, join,
-    original_residual, pair_back, pair_index, renumber, same_layout, sizes,
+    Clique, Columns, Cone, ConeMapEntry, Pattern, Problem, Refusal, Route, Solution, change_route, cut, cut_between, cut_many, generate,
+    inverse, join, original_residual, pair_back, pair_index, pool, renumber, same_layout, sizes,
 )
 from tejiwakpa import calls, types
 
@@ -103,6 +103,40 @@ class Beside(unittest.TestCase, Refused):
         self.assertEqual(augmented.problem.b.tolist(), got_low.tolist())
         self.refused(16, cut_between, problem, high, low, where="row 0 has the limits 1.5 and 0.5")
         self.refused(4, cut_between, problem, low, high[1:], where="high has 5 values")
+
+    def test_many_sides(self):
+        problem = Problem.three_projectors()
+        sides = [[1.0 + k, 2.0, 3.0, 0.0, 4.0, 5.0] for k in range(64)]
+        augmented, each = cut_many(problem, sides)
+        self.assertEqual(augmented.problem.b.tolist(), each[0].tolist())
+        for side, got in zip(sides, each):
+            self.assertEqual(got.tolist(), cut(Route.COMPACT, dataclasses.replace(problem, b=side)).problem.b.tolist())
+        self.refused(1, cut_many, problem, [])
+        self.refused(1, cut_many, problem, sides + sides[:1])
+        self.refused(4, cut_many, problem, [sides[0], sides[1][1:]])
+        self.refused(4, cut_many, problem, [sides[0][1:], sides[1] + [0.0]])
+        sides[5][3] = 1.0
+        self.refused(9, cut_many, problem, sides, where="row 3")
+
+    def test_pool(self):
+        first = Problem.three_projectors()
+        second = dataclasses.replace(first, b=[1.5, 2.5, 3.5, 0.0, 4.5, 5.5], q=[9.0])
+        pooled = pool(first, second)
+        self.assertEqual((pooled.n, pooled.m, pooled.q.tolist()), (1, 12, [0.0]))
+        self.assertEqual(pooled.a.rows.tolist(), [0, 1, 2, 4, 5, 6, 7, 8, 10, 11])
+        self.assertEqual(pooled.patterns[1].words(), [1, *first.patterns[0].words()[1:]])
+        compact = cut(Route.COMPACT, pooled).problem.b.tolist()
+        self.assertEqual(compact, sum((cut(Route.COMPACT, p).problem.b.tolist() for p in (first, second)), []))
+        wider = dataclasses.replace(first, n=2, p=Columns.empty(2), q=[0.0, 0.0], a=Columns([0, 5, 5], first.a.rows, first.a.values))
+        self.refused(17, pool, first, wider)
+
+    def test_generate(self):
+        problem = generate(1, 8, 2, 4)
+        self.assertEqual((problem.n, problem.m, len(problem.patterns[0].cliques)), (4, 36, 6))
+        for route in Route:
+            self.assertGreater(len(cut(route, problem).problem.b), 0)
+        for seed, v, w, n in ((0, 8, 2, 4), (1, 65, 2, 4), (1, 8, 8, 4), (1, 8, 2, 65)):
+            self.refused(15, generate, seed, v, w, n)
 
     def test_same_layout(self):
         problem = Problem.three_projectors()
