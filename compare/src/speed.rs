@@ -451,16 +451,23 @@ fn many_sides(name: &str, p: &Problem) {
     beside_line(name, "cut of 64 sides", "64 compact cuts", times);
 }
 
-// the problem pooled with itself, where both fit, beside copying what comes out
+// the problem pooled with itself, or with a pass without rows where the pool would exceed a bound, beside copying
+// what comes out
 fn pooled(name: &str, p: &Problem) {
-    let Ok(pool) = pool::pool(p, p, None) else { return };
+    let no_entries = Columns { starts: vec![0; p.n as usize + 1], ..Columns::default() };
+    let no_rows = Problem { n: p.n, p: no_entries.clone(), q: p.q.clone(), a: no_entries, ..Problem::default() };
+    let (second, call) = match pool::pool(p, p, None) {
+        Ok(_) => (p, "pooling with itself"),
+        Err(_) => (&no_rows, "pooling with a pass without rows"),
+    };
+    let Ok(pool) = pool::pool(p, second, None) else { return };
     let lengths = pool::lengths(&pool);
     let (mut out, mut copy) = (door::cut_outputs(&lengths), door::cut_outputs(&lengths));
-    assert_eq!(added::pool(p, p, &mut out), 0, "the door refuses {name}");
+    assert_eq!(added::pool(p, second, &mut out), 0, "the door refuses {name}");
     let given = out.clone();
     let times = medians([
         &mut || {
-            black_box(added::pool(p, p, &mut out));
+            black_box(added::pool(p, second, &mut out));
         },
         &mut || {
             let given = black_box(&given);
@@ -478,7 +485,7 @@ fn pooled(name: &str, p: &Problem) {
             black_box(&mut copy);
         },
     ]);
-    beside_line(name, "pooling with itself", "its outputs copied (memcpy)", times);
+    beside_line(name, call, "its outputs copied (memcpy)", times);
 }
 
 // beside the plain reading in Rust, which allocates what it answers

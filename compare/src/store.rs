@@ -6,7 +6,8 @@
 //! A case of pooling stands as two: the first problem, then the second and the outputs, at the places that a cut has.
 
 use crate::added::as_tables;
-use crate::expected;
+use crate::change_route;
+use crate::expected::{self, Clique, Pattern};
 use crate::pool;
 use crate::problem::*;
 use crate::random::{self, Draws};
@@ -24,16 +25,12 @@ const OUTPUT: usize = 4_096;
 const LISTS: usize = 16_384 - 32;
 
 impl Case {
+    // any list may be an output's, save the pattern words and the values of b
     fn fits(&self) -> bool {
-        let lengths = |words: bool| {
-            let each: Vec<usize> = if words {
-                self.words.iter().map(Vec::len).collect()
-            } else {
-                self.values.iter().map(Vec::len).collect()
-            };
-            each.iter().all(|&l| l <= OUTPUT) && each.iter().sum::<usize>() <= LISTS
+        let lengths = |each: Vec<usize>, long: usize| {
+            each.iter().filter(|&&l| l > OUTPUT).count() <= long && each.iter().sum::<usize>() <= LISTS
         };
-        lengths(true) && lengths(false)
+        lengths(self.words.iter().map(Vec::len).collect(), 1) && lengths(self.values.iter().map(Vec::len).collect(), 2)
     }
 }
 
@@ -187,11 +184,15 @@ fn some_room(d: &mut Draws, need: usize) -> usize {
 fn sizes(d: &mut Draws, index: u64) -> Case {
     let (route, p) = (some_route(d), some_problem_on(d, index));
     let room = some_room(d, 11);
-    let answer = expected::sizes(route, &p, room).map(|lengths| lengths.map(|k| k as u32).to_vec());
-    let mut words = vec![vec![route.code(), p.n, p.m, p.pattern_count], vec![number(&answer)]];
-    words.extend(problem_words(&p));
+    sizes_case(route.code(), &p, room, expected::sizes(route, &p, room))
+}
+
+fn sizes_case(route: u32, p: &Problem, room: usize, answer: Result<[usize; 11], u32>) -> Case {
+    let answer = answer.map(|lengths| lengths.map(|k| k as u32).to_vec());
+    let mut words = vec![vec![route, p.n, p.m, p.pattern_count], vec![number(&answer)]];
+    words.extend(problem_words(p));
     words.push(after(&answer, room));
-    Case { words, values: problem_values(&p) }
+    Case { words, values: problem_values(p) }
 }
 
 // what the outputs of a cut hold after the call: those of u32, and those of f64
@@ -295,11 +296,45 @@ fn join(d: &mut Draws, index: u64) -> Case {
     }
     let rooms = [p.n as usize, p.m as usize, p.m as usize, 2].map(|need| some_room(d, need.min(4096)));
     let answer = expected::join(route, &expected::join_input(&p, &solution), Some(&rooms));
+    solution_case(route.code(), &p, &solution, &rooms, &answer)
+}
+
+// a standard solution, and no map
+fn changed_route(d: &mut Draws, index: u64) -> Case {
+    let mut p = random::problem(d, random::SMALL);
+    if index % 10 == 8 {
+        random::no_columns(&mut p);
+    }
+    let shape = expected::solution_shape(Route::Standard, &p).unwrap_or((p.n as usize, p.m as usize, vec![]));
+    let mut solution = random::solution(d, &shape);
+    match index % 4 {
+        2 => random::damage_solution(d, &mut solution),
+        3 => {
+            let check = 4 + d.below(4);
+            random::damage(d, &mut p, check);
+        }
+        _ => {}
+    }
+    solution.map.clear();
+    let needs = change_route::lengths(&expected::join_input(&p, &solution)).unwrap_or([3; 4]);
+    let rooms = needs.map(|need| some_room(d, need));
+    let answer = change_route::change_route(&expected::join_input(&p, &solution), Some(&rooms));
+    solution_case(Route::Standard.code(), &p, &solution, &rooms, &answer)
+}
+
+// a case of a call that takes a solution and gives one
+fn solution_case(
+    route: u32,
+    p: &Problem,
+    solution: &Solution,
+    rooms: &[usize; 4],
+    answer: &Result<Joined, u32>,
+) -> Case {
     let j = answer.as_ref().ok();
     let scalars = j.map(|j| [j.tau, j.kappa]);
     let words = vec![
-        vec![route.code(), p.n, p.m, p.pattern_count],
-        vec![number(&answer)],
+        vec![route, p.n, p.m, p.pattern_count],
+        vec![number(answer)],
         p.cones.clone(),
         p.pattern_words.clone(),
         solution.map.clone(),
@@ -317,23 +352,123 @@ fn join(d: &mut Draws, index: u64) -> Case {
     Case { words, values }
 }
 
-/// Writes a file of `cases` answers for each family into a folder.
+// ---- the refusals that few random problems meet
+
+const NO_ROUTE: u32 = 2;
+
+/// A problem without columns whose PSD cone has a clique for each vertex, with it all later ones. From 93 vertices on it has
+/// more overlaps than the compact route takes, from 115 on more rows than the standard one takes.
+fn crowded(vertices: u32) -> Problem {
+    let clique = |v: u32| Clique {
+        parent: if v + 1 < vertices { v + 1 } else { NONE },
+        snode: vec![v],
+        separator: (v + 1..vertices).collect(),
+    };
+    let cliques = (0..vertices).map(clique).collect();
+    let pattern = Pattern { orig_index: 0, vertices, ordering: (0..vertices).collect(), cliques };
+    let rows = expected::triangle(vertices as u64) as usize;
+    let no_entries = Columns { starts: vec![0], ..Columns::default() };
+    Problem {
+        m: rows as u32,
+        p: no_entries.clone(),
+        a: no_entries,
+        b: vec![0.0; rows],
+        cones: vec![6, vertices, 0],
+        pattern_count: 1,
+        pattern_words: pattern.words(),
+        ..Problem::default()
+    }
+}
+
+fn sizes_corners() -> Vec<Case> {
+    let (p, small) = (crowded(93), crowded(2));
+    vec![
+        sizes_case(Route::Compact.code(), &p, 11, expected::sizes(Route::Compact, &p, 11)),
+        sizes_case(NO_ROUTE, &small, 11, Err(1)),
+    ]
+}
+
+fn cut_corners() -> Vec<Case> {
+    let (p, small, rooms) = (crowded(93), crowded(2), [3; 11]);
+    let given = |route: u32, p: &Problem| vec![route, p.n, p.m, p.pattern_count];
+    let answer = expected::cut(Route::Compact, &p, Some(&rooms));
+    vec![
+        cut_case(given(Route::Compact.code(), &p), &p, &rooms, &answer),
+        cut_case(given(NO_ROUTE, &small), &small, &[20; 11], &Err(1)),
+    ]
+}
+
+fn cut_between_corners() -> Vec<Case> {
+    let (p, rooms) = (crowded(93), [3; 11]);
+    let answer = sides::cut_between(&p, &p.b, &p.b, Some((&rooms, 3))).map(|(cut, _)| cut);
+    let mut case = cut_case(vec![p.n, p.m, p.pattern_count], &p, &rooms, &answer);
+    case.values.extend([p.b.clone(), values_after(None, 3)]);
+    vec![case]
+}
+
+fn cut_many_corners() -> Vec<Case> {
+    let (p, rooms) = (crowded(93), [3; 11]);
+    let answer = sides::cut_many(1, &p, Some(&rooms));
+    vec![cut_case(vec![1, p.n, p.m, p.pattern_count], &p, &rooms, &answer)]
+}
+
+// a call with no solution and little room on a problem that is refused before these are looked at
+fn refused_solution(
+    route: Route,
+    p: &Problem,
+    call: fn(&expected::JoinInput, &[usize; 4]) -> Result<Joined, u32>,
+) -> Case {
+    let (solution, rooms) = (Solution::default(), [1; 4]);
+    let answer = call(&expected::join_input(p, &solution), &rooms);
+    assert!(number(&answer) < 11);
+    solution_case(route.code(), p, &solution, &rooms, &answer)
+}
+
+fn faulty() -> [Problem; 2] {
+    let wide = Problem { n: 65_537, ..crowded(2) };
+    let unknown = Problem { cones: vec![7, 2, 0], ..crowded(2) };
+    [wide, unknown]
+}
+
+fn join_corners() -> Vec<Case> {
+    let compact = |j: &expected::JoinInput, rooms: &[usize; 4]| expected::join(Route::Compact, j, Some(rooms));
+    let standard = |j: &expected::JoinInput, rooms: &[usize; 4]| expected::join(Route::Standard, j, Some(rooms));
+    let [wide, unknown] = faulty();
+    vec![
+        refused_solution(Route::Compact, &wide, compact),
+        refused_solution(Route::Compact, &crowded(93), compact),
+        refused_solution(Route::Standard, &wide, standard),
+        refused_solution(Route::Standard, &unknown, standard),
+        refused_solution(Route::Standard, &crowded(115), standard),
+        solution_case(NO_ROUTE, &crowded(2), &Solution::default(), &[9; 4], &Err(1)),
+    ]
+}
+
+fn change_route_corners() -> Vec<Case> {
+    let call = |j: &expected::JoinInput, rooms: &[usize; 4]| change_route::change_route(j, Some(rooms));
+    let [wide, unknown] = faulty();
+    [wide, unknown, crowded(93)].iter().map(|p| refused_solution(Route::Standard, p, call)).collect()
+}
+
+/// Writes a file of `cases` answers and some corners for each family into a folder.
 pub fn write(folder: &Path, cases: u64, seed: u64) -> io::Result<()> {
     type Family = fn(&mut Draws, u64) -> Vec<Case>;
-    let families: [(&str, Family); 9] = [
-        ("renumber", |d, index| vec![renumber(d, index)]),
-        ("check_problem", |d, index| vec![check_problem(d, index)]),
-        ("same_layout", |d, index| vec![same_layout(d, index)]),
-        ("sizes", |d, index| vec![sizes(d, index)]),
-        ("cut", |d, index| vec![cut(d, index)]),
-        ("join", |d, index| vec![join(d, index)]),
-        ("cut_between", |d, index| vec![cut_between(d, index)]),
-        ("cut_many", |d, index| vec![cut_many(d, index)]),
-        ("pool", pooled),
+    let families: [(&str, Family, Vec<Case>); 10] = [
+        ("renumber", |d, index| vec![renumber(d, index)], vec![]),
+        ("check_problem", |d, index| vec![check_problem(d, index)], vec![]),
+        ("same_layout", |d, index| vec![same_layout(d, index)], vec![]),
+        ("sizes", |d, index| vec![sizes(d, index)], sizes_corners()),
+        ("cut", |d, index| vec![cut(d, index)], cut_corners()),
+        ("join", |d, index| vec![join(d, index)], join_corners()),
+        ("cut_between", |d, index| vec![cut_between(d, index)], cut_between_corners()),
+        ("cut_many", |d, index| vec![cut_many(d, index)], cut_many_corners()),
+        ("pool", pooled, vec![]),
+        ("change_route", |d, index| vec![changed_route(d, index)], change_route_corners()),
     ];
-    for (k, (name, family)) in families.iter().enumerate() {
-        let made: Vec<Vec<Case>> =
+    for (k, (name, family, corners)) in families.into_iter().enumerate() {
+        let mut made: Vec<Vec<Case>> =
             (0..cases).map(|index| family(&mut crate::case_draws(seed + k as u64, index), index)).collect();
+        made.extend(corners.into_iter().map(|corner| vec![corner]));
         assert!(made.iter().flatten().all(Case::fits), "a case of {name} has more than crate replay has room for");
         fs::write(folder.join(name), text(&made))?;
     }

@@ -138,7 +138,8 @@ impl Case {
         })
     }
 
-    fn join(&self) -> bool {
+    // the joining or, which looks at no route and no map, the change of route
+    fn on_solution(&self, call: impl FnOnce(u32, &Joining, &mut JoinOutputs) -> Result<(), Refusal>) -> bool {
         let given = &self.words[0];
         let joining = Joining {
             n: given[1],
@@ -155,8 +156,7 @@ impl Case {
         };
         let [mut x, mut s, mut z, mut scalars] = [4, 5, 6, 7].map(|k| values(&self.values[k]));
         let mut out = JoinOutputs { x: &mut x, s: &mut s, z: &mut z, scalars: &mut scalars };
-        let answer = flat::join(given[0], &joining, &mut out);
-        self.words[1] == [number(answer)]
+        self.words[1] == [number(call(given[0], &joining, &mut out))]
             && [x, s, z, scalars].iter().zip(&self.values[4..8]).all(|(got, want)| same(got, want))
     }
 }
@@ -182,7 +182,8 @@ fn agrees(family: &str, parts: &[Case]) -> bool {
         }),
         "sizes" => case.agrees(1, 8, |out| flat::sizes(given[0], &on_route(), out)),
         "cut" => case.agrees_with_cut(&case.words[1], |out| flat::cut(given[0], &on_route(), out)),
-        "join" => case.join(),
+        "join" => case.on_solution(flat::join),
+        "change_route" => case.on_solution(|_, joining, out| flat::change_route(joining, out)),
         "cut_between" => case.cut_between(),
         "cut_many" => case.agrees_with_cut(&case.words[1], |out| flat::cut_many(given[0], &on_route(), out)),
         "pool" => case.pool(&parts[1]),
@@ -205,5 +206,5 @@ fn stored_answers() {
         println!("{family}: {} cases, all equal", cases.len() / parts as usize);
         families += 1;
     }
-    assert_eq!(families, 12, "a family of stored answers for each call and for checks 1 to 7");
+    assert_eq!(families, 13, "a family of stored answers for each call and for checks 1 to 7");
 }

@@ -8,12 +8,15 @@ ghost use Prim.Native.Nat.{_+_, _-_, _*_, _≤_, _<_};
 ghost use lib.Dec.{leb, ltb};
 ghost use lib.ListN.{length, take, drop};
 ghost use Rattle.supernode_tree.specs.Reads.{cliquesFrom, whole};
+ghost use Rattle.vertex_set.specs.OnceIn.{onceBelowIn};
 ghost use Rattle.clique_tree.specs.Trees.{separatorBelow};
 ghost use Rattle.layout.specs.Lists.{all};
 ghost use Rattle.layout.specs.Checks.{conesBounded, patternsRead, treeRight, cliquesRight};
 ghost use Rattle.layout.specs.Triangle.{triangle};
 ghost use Rattle.layout.specs.Patterns.{patterns, readHead, readClique, readCliques, readPattern};
 ghost use Rattle.accepted.specs.Accepted.{Summed, AllClear, Met, Meets, cliqueRight, SnodeHolds, snodesRight, SnodesHold, separatorsFit, SeparatorsHold, Stand, headRight, verticesRight, VerticesHold, headAt, patternHolds, PatternHolds, Added};
+use constants::limit;
+use constants::scratch;
 use supernode_tree::Clique;
 use supernode_tree::CliqueRead;
 use supernode_tree::Pattern;
@@ -108,6 +111,30 @@ fn snodes_hold(words: &[u32], p: Pattern, marks: &mut [bool], offsets: &mut [usi
 
 // ---- separators and blocks
 
+// A separator, which stands from `a` to `e`, repeats no member, each is below `n`, and its parent's clique, from `b` to `f`, holds it.
+// Members rise as a rule, and are then looked for here, in the loop over the cliques; the walks for any members are a call.
+fn separator_right(
+    words: &[u32],
+    a: usize,
+    e: usize,
+    b: usize,
+    f: usize,
+    n: usize,
+    marks: &mut [bool],
+) -> bool
+    requires { ⌜ (a ≤ e) × (e ≤ length (now words)) ⌝ }
+    requires { ⌜ (b ≤ f) × (f ≤ length (now words)) ⌝ }
+    requires { ⌜ 0 < length (now marks) ⌝ }
+    ensures { λ r. ⌜ r ≡ onceBelowIn n (take (f - b) (drop b (now (words .entry)))) (take (e - a) (drop a (now (words .entry)))) ⌝ }
+{
+    if f - b <= scratch::VERTICES {
+        if vertex_set::rises_below(&words[a..e], n) {
+            return vertex_set::held(&words[a..e], &words[b..f]);
+        }
+    }
+    clique_tree::separator_right(words, a, e, b, f, n, marks)
+}
+
 // A read clique's block is no larger than a cone, its separator repeats no member, and each is a vertex that its parent's clique,
 // which has its offset, holds.
 fn separator_holds(
@@ -123,7 +150,7 @@ fn separator_holds(
     requires { ⌜ 0 < length (now marks) ⌝ }
     ensures { λ r. ⌜ r ≡ (leb (q .«snode_count» + q .«separator_count») 256 && separatorBelow (p .«vertex_count») (cliquesFrom (now (words .entry)) (p .cliques) (p .«clique_count»)) (q .parent) (take (q .next - q .separator) (drop (q .separator) (now (words .entry))))) ⌝ }
 {
-    if 256 < q.get_nblk() {
+    if scratch::VERTICES < q.get_nblk() {
         return false;
     }
     if q.separator == q.next {
@@ -134,7 +161,7 @@ fn separator_holds(
     }
     let at = offsets[q.parent as usize];
     let m = Clique::here(words, at);
-    clique_tree::separator_right(
+    separator_right(
         words,
         q.separator,
         q.next,
@@ -214,10 +241,10 @@ fn head_holds(cones: &[u32], words: &[u32], at: usize, least: u64) -> bool
     if p.clique_count == 0 {
         return false;
     }
-    if 256 < p.clique_count {
+    if limit::PSD_SIZE < p.clique_count {
         return false;
     }
-    if 256 < p.vertex_count {
+    if scratch::VERTICES < p.vertex_count {
         return false;
     }
     supportedcone::is_psd_of(cones, p.orig_index as usize, p.vertex_count)
@@ -315,9 +342,9 @@ pub fn patterns_hold(cones: &[u32], count: u32, words: &[u32]) -> Accepted
     ensures { λ r. ⌜ r .holds ≡ (patternsRead (now (cones .entry)) count (now (words .entry)) && all treeRight (patterns count (now (words .entry))) && all cliquesRight (patterns count (now (words .entry)))) ⌝ }
     ensures { λ r. ⌜ (r .holds ≡ true → Summed (patterns count (now (words .entry))) r × (r .dim ≤ count * 8421376)) ⌝ }
 {
-    let mut marks = [false; 256];
-    let mut offsets = [0usize; 256];
-    let mut others = [false; 256];
+    let mut marks = [false; scratch::VERTICES];
+    let mut offsets = [0usize; scratch::VERTICES];
+    let mut others = [false; scratch::VERTICES];
     let mut w = Walk {
         next: 0,
         least: 0,

@@ -15,6 +15,8 @@ ghost use Rattle.augment_standard.specs.Beside.{pairValues, besideStarts};
 ghost use Rattle.augment_compact.specs.Cut.{codedColumns, tiedRows, cutRows, cutValues, Behind};
 ghost use Rattle.augment_compact.specs.Places.{placed, ColumnsInOrder, RunsStart};
 ghost use Rattle.columns.specs.Marks.{Placing, Clear};
+use codes::FIRST_OVERLAP;
+use constants::scratch;
 
 // Writes where each original row moves to.
 pub fn write_place(place: &mut [u32], codes: &[u32])
@@ -24,7 +26,7 @@ pub fn write_place(place: &mut [u32], codes: &[u32])
     let mut r = 0;
     while r < codes.len() {
         let c = codes[r] as usize;
-        if c < 65536 {
+        if c < scratch::ROWS {
             place[c] = r as u32;
         }
         r += 1;
@@ -93,8 +95,8 @@ pub fn write_overlap_rows(out: &mut [u32], codes: &[u32])
     let mut r = 0;
     while r < codes.len() {
         let c = codes[r];
-        if c >= 65536 {
-            out[w] = c - 65536;
+        if c >= FIRST_OVERLAP {
+            out[w] = c - FIRST_OVERLAP;
             out[w + 1] = r as u32;
             w += 2;
         }

@@ -112,6 +112,9 @@ module _ {n : ℕ} where
   abbrev pub handed-number : Param n
   handed-number = handed (λ _. u32) (λ κs. uint-vals w32) (λ κs. uint-tells w32) (λ M 𝓤 H A W κs. uint-lawful 𝓤 H A W w32) (λ κs x is. [])
 
+  abbrev pub handed-size : Param n
+  handed-size = handed (λ _. usize) (λ κs. uint-vals w64) (λ κs. uint-tells w64) (λ M 𝓤 H A W κs. uint-lawful 𝓤 H A W w64) (λ κs x is. [])
+
   abbrev pub handed-float : Param n
   handed-float = handed (λ _. f64) (λ κs. float-vals binary64) (λ κs. float-tells binary64) (λ M 𝓤 H A W κs. float-lawful 𝓤 H A W binary64) (λ κs x is. [])
 

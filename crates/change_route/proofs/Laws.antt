@@ -1,52 +1,19 @@
 -- Blocks moved one by one, and parts one by one.
 use Prim.Native.Nat.{ℕ, _+_, _-_, _≤_}
-use native.Mathlib.Nat.{add-sub-cancel-left}
 use native.Mathlib.Omega.{arith}
-use mathlib.Core.Path.{_≡_, refl, sym, ap, ap₂, _∙_}
+use mathlib.Core.Path.{_≡_, sym, ap, ap₂, _∙_}
 use mathlib.Core.List.{List, [], _∷_, _++_, append-assoc, append-nil}
-use lib.ListN.{length, take, drop, length-append, length-drop, take-append-drop, drop-of-length-le}
-use lib.Seq.{length-take-le, drop-at, take-at, drop-drop, take-all}
+use lib.ListN.{length, take, drop, length-append, length-drop, take-append-drop}
+use lib.Seq.{length-take-le, drop-drop}
 use lib.Ieee.{Float}
 use Rattle.layout.specs.Lists.{sum, written}
 use Rattle.layout.specs.Blocks.{Part, partRows, blockRowCount}
 use Rattle.layout.specs.Orders.{blockLengths, lastFirst, compactOrder}
 use Rattle.layout.proofs.Orders.{length-last, last-front, length-part, compact-cons}
-use Rattle.layout.proofs.Buffers.{written-whole}
 use Rattle.reverse_blocks.proofs.Room.{length-part as part-length}
 use Rattle.reverse_cones.specs.Parts.{writtenAt}
 use Rattle.reverse_cones.proofs.Laws.{put-same}
-
--- k values were copied to a part that was lent, and are `new` now
-pub moved : (k from : ℕ) (vs : List Float) (to : ℕ) (old new : List Float) → from + k ≤ length vs → to + k ≤ length old
-    → new ≡ written (take (from + k - from) (drop from vs)) (take (to + k - to) (drop to old))
-    → take to old ++ (new ++ drop (to + k - to) (drop to old)) ≡ writtenAt to (take k (drop from vs)) old
-moved k from vs to old new l m e =
-    let src : List Float = take (from + k - from) (drop from vs) in
-    let lent : List Float = take (to + k - to) (drop to old) in
-    let whole : new ≡ src = e ∙ written-whole src lent (part-length to k old m ∙ sym (part-length from k vs l)) in
-    put-same (take k (drop from vs)) new old to k m (whole ∙ ap (λ (n : ℕ). take n (drop from vs)) (add-sub-cancel-left from k))
-    (ap length whole ∙ part-length from k vs l ∙ sym (part-length to k old m))
-
--- what was written from a on stands there, and what was before a still does
-module _ (xs old new : List Float) (a : ℕ) (l : a + length xs ≤ length old) (e : new ≡ writtenAt a xs old) where
-  front : length (take a old) ≡ a
-  front = length-take-le a old (omega arith)
-
-  pub from-there : drop a new ≡ xs ++ drop (a + length xs) old
-  from-there =
-      ap (drop a) e ∙ drop-at (take a old) (written xs (drop a old)) a front ∙ ap (λ (r : List Float). xs ++ r) (drop-drop (length xs) a old)
-
-  pub up-to-there : take a new ≡ take a old
-  up-to-there = ap (take a) e ∙ take-at (take a old) (written xs (drop a old)) a front
-
-  pub after-it : drop (a + length xs) new ≡ drop (a + length xs) old
-  after-it =
-      sym (drop-drop (length xs) a new) ∙ ap (drop (length xs)) from-there ∙ drop-at xs (drop (a + length xs) old) (length xs) refl
-
-  pub up-to-its-end : take (a + length xs) new ≡ take a old ++ xs
-  up-to-its-end =
-      ap (take (a + length xs)) (e ∙ sym (append-assoc (take a old) xs (drop (length xs) (drop a old))))
-      ∙ take-at (take a old ++ xs) (drop (length xs) (drop a old)) (a + length xs) (omega (arith, length-append (take a old) xs, front))
+use Rattle.block_moves.proofs.Laws.{from-there, after-it, up-to-its-end}
 
 -- a block of k values more is moved to its place before the others
 pub block-more : (k : ℕ) (ks : List ℕ) (vs old new : List Float) (from to : ℕ) → from + k ≤ length vs → to + k ≤ length old

@@ -17,7 +17,11 @@ ghost use Rattle.supernode_tree.specs.Reads.{patternAt, Whole, cliquesFrom};
 ghost use Rattle.supernode_tree.specs.Sizes.{atMost, dimOf};
 ghost use Rattle.reverse_cones.specs.Parts.{writtenAt};
 ghost use Rattle.change_route.specs.Counted.{countedRefusal};
+use block_moves::move_both;
+use block_moves::move_values;
 use chordal_info::rows_right;
+use constants::refusal;
+use constants::route;
 use decomp_reverse::lengths_fit;
 use decomp_reverse::room_enough;
 use decomp_reverse::write_scalars;
@@ -27,22 +31,7 @@ use reverse_standard::Scalars;
 use supernode_tree::Clique;
 use supernode_tree::Pattern;
 
-// The routes by their numbers.
-const STANDARD: u32 = 0;
-
-const COMPACT: u32 = 1;
-
 // ---- s and z
-
-// Copies `k` values from `from` on to the place `to`.
-fn move_values(k: usize, from: usize, values: &[f64], to: usize, out: &mut [f64])
-    requires { ⌜ (from + k ≤ length (now values)) × (to + k ≤ length (now out)) ⌝ }
-    ensures { λ _. ⌜ now (out .exit) ≡ writtenAt to (take k (drop from (now (values .entry)))) (now (out .entry)) ⌝ }
-{
-    let a = from + k;
-    let b = to + k;
-    csc::copy_values(&mut out[to..b], &values[from..a]);
-}
 
 // The blocks of `count` cliques, the last block first. They are read from the first clique on, so each is written before the one read
 // before it.
@@ -69,8 +58,7 @@ fn move_blocks(
         let q = Clique::here(words, at);
         let k = supernode_tree::triangular_number(q.get_nblk()) as usize;
         to -= k;
-        move_values(k, from, s, to, &mut *s_out);
-        move_values(k, from, z, to, &mut *z_out);
+        move_both(k, from, s, z, to, &mut *s_out, &mut *z_out);
         from += k;
         at = q.next;
         left -= 1;
@@ -209,11 +197,11 @@ fn refuse_counted(
     requires { ⌜ (n ≤ 65536) × (overlaps ≤ rows) ⌝ }
     ensures { λ r. ⌜ r ≡ countedRefusal n m rows overlaps x s z («x_room» ∷ «s_room» ∷ «z_room» ∷ «scalars_room» ∷ []) ⌝ }
 {
-    if !rows_right(STANDARD, m, rows, overlaps) {
-        return 10;
+    if !rows_right(route::STANDARD, m, rows, overlaps) {
+        return refusal::TOO_LARGE;
     }
-    if !rows_right(COMPACT, m, rows, overlaps) {
-        return 10;
+    if !rows_right(route::COMPACT, m, rows, overlaps) {
+        return refusal::TOO_LARGE;
     }
     if !room_enough(
         n + overlaps as u32,
@@ -223,12 +211,12 @@ fn refuse_counted(
         z_room,
         scalars_room,
     ) {
-        return 11;
+        return refusal::SHORT;
     }
-    if !lengths_fit(STANDARD, n, m, rows, overlaps, x, s, z) {
-        return 12;
+    if !lengths_fit(route::STANDARD, n, m, rows, overlaps, x, s, z) {
+        return refusal::SOLUTION;
     }
-    0
+    refusal::DONE
 }
 
 // A standard solution as a compact one of the same problem. The blocks are counted once for the checks and for x.

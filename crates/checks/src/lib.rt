@@ -11,15 +11,17 @@ ghost use Rattle.layout.specs.Checks.{conesBounded, conesRead, patternsRead, tr
 ghost use Rattle.layout.specs.Answers.{joinBounded, joinedParts, problemRefusal};
 ghost use Rattle.csc.specs.Matrix.{matrix};
 ghost use Rattle.checks.specs.Order.{bounds, matricesRefusal, recordsRefusal, patternsRefusal, joinedRefusal};
+use constants::limit;
+use constants::refusal;
 
 // Check 1 of a joining: n, m and the cones.
 pub fn join_bounded(n: u32, m: u32, cones: &[u32]) -> bool
     ensures { λ r. ⌜ r ≡ joinBounded n m (now (cones .entry)) ⌝ }
 {
-    if 65536 < n {
+    if limit::UNKNOWNS < n {
         return false;
     }
-    if 65536 < m {
+    if limit::ROWS < m {
         return false;
     }
     supportedcone::cones_bounded(cones)
@@ -29,10 +31,10 @@ pub fn join_bounded(n: u32, m: u32, cones: &[u32]) -> bool
 pub fn bounded(n: u32, m: u32, a_entries: usize, p_entries: usize, cones: &[u32]) -> bool
     ensures { λ r. ⌜ r ≡ bounds n m «a_entries» «p_entries» (now (cones .entry)) ⌝ }
 {
-    if 262144 < a_entries {
+    if limit::ENTRIES < a_entries {
         return false;
     }
-    if 262144 < p_entries {
+    if limit::ENTRIES < p_entries {
         return false;
     }
     join_bounded(n, m, cones)
@@ -52,18 +54,18 @@ pub fn check_matrices(
     ensures { λ r. ⌜ r ≡ matricesRefusal n m (matrix (now («p_starts» .entry)) (now («p_rows» .entry)) (now («p_values» .entry))) (matrix (now («a_starts» .entry)) (now («a_rows» .entry)) (now («a_values» .entry))) ⌝ }
 {
     if !csc::starts_right(n, a_starts, a_rows, a_values) {
-        return 2;
+        return refusal::STARTS;
     }
     if !csc::starts_right(n, p_starts, p_rows, p_values) {
-        return 2;
+        return refusal::STARTS;
     }
     if !csc::rows_in_order(m, n, a_starts, a_rows, a_values) {
-        return 3;
+        return refusal::ROWS;
     }
     if !csc::rows_right(n, n, p_starts, p_rows, p_values) {
-        return 3;
+        return refusal::ROWS;
     }
-    0
+    refusal::DONE
 }
 
 // Check 4: records and rows, α, and the lengths of q and b.
@@ -71,19 +73,19 @@ pub fn check_records(n: u32, m: u32, q: &[f64], b: &[f64], cones: &[u32], alphas
     requires { ⌜ conesBounded (now cones) ≡ true ⌝ }
     ensures { λ r. ⌜ r ≡ recordsRefusal n m (now (q .entry)) (now (b .entry)) (now (cones .entry)) (now (alphas .entry)) ⌝ }
 {
-    if supportedcone::check_cones(m, cones) != 0 {
-        return 4;
+    if supportedcone::check_cones(m, cones) != refusal::DONE {
+        return refusal::CONES;
     }
     if !supportedcone::alphas_as_many(cones, alphas) {
-        return 4;
+        return refusal::CONES;
     }
     if q.len() != n as usize {
-        return 4;
+        return refusal::CONES;
     }
     if b.len() != m as usize {
-        return 4;
+        return refusal::CONES;
     }
-    0
+    refusal::DONE
 }
 
 // Checks 5, 6 and 7 in order, where one of them fails: it is the last where the others pass.
@@ -92,12 +94,12 @@ fn refuse_patterns(cones: &[u32], count: u32, words: &[u32]) -> u32
     ensures { λ r. ⌜ (r ≡ patternsRefusal (now (cones .entry)) count (now (words .entry))) × (0 < r) ⌝ }
 {
     if !sparsity_pattern::check_patterns(cones, count, words) {
-        return 5;
+        return refusal::PATTERNS;
     }
     if !clique_tree::trees_right(count, words) {
-        return 6;
+        return refusal::TREE;
     }
-    7
+    refusal::CLIQUES
 }
 
 // The number of the first check that fails, or 0 and how many rows and overlaps the blocks have.
@@ -127,7 +129,7 @@ fn count_patterns(m: u32, cones: &[u32], count: u32, words: &[u32]) -> Joined
     let walk = accepted::patterns_hold(cones, count, words);
     if walk.holds {
         return Joined {
-            refusal: 0,
+            refusal: refusal::DONE,
             rows: m as u64 + walk.dim - walk.cut,
             overlaps: walk.overlaps,
         };
@@ -157,14 +159,14 @@ pub fn check_problem(
         ⌜ r ≡ problemRefusal p ⌝ }
 {
     if !bounded(n, m, a_values.len(), p_values.len(), cones) {
-        return 1;
+        return refusal::BOUND;
     }
     let matrices = check_matrices(n, m, p_starts, p_rows, p_values, a_starts, a_rows, a_values);
-    if matrices != 0 {
+    if matrices != refusal::DONE {
         return matrices;
     }
     let records = check_records(n, m, q, b, cones, alphas);
-    if records != 0 {
+    if records != refusal::DONE {
         return records;
     }
     let patterns = count_patterns(m, cones, count, words);
@@ -177,10 +179,10 @@ pub fn check_joined(n: u32, m: u32, cones: &[u32], count: u32, words: &[u32]) ->
     ensures { λ r. ⌜ (r .refusal ≡ 0 → (r .rows ≡ blockRowCount (joinedParts (now (cones .entry)) count (now (words .entry)))) × (r .overlaps ≡ overlapCount (joinedParts (now (cones .entry)) count (now (words .entry))))) ⌝ }
 {
     if !join_bounded(n, m, cones) {
-        return refused_as(1);
+        return refused_as(refusal::BOUND);
     }
-    if supportedcone::check_cones(m, cones) != 0 {
-        return refused_as(4);
+    if supportedcone::check_cones(m, cones) != refusal::DONE {
+        return refused_as(refusal::CONES);
     }
     count_patterns(m, cones, count, words)
 }

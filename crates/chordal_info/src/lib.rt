@@ -13,6 +13,11 @@ ghost use Rattle.layout.specs.Answers.{routeOf};
 ghost use Rattle.csc.specs.Matrix.{ColumnsInside};
 ghost use Rattle.chordal_info.specs.Sizes.{rowsFit, entriesKept, routeSizes, Fitting};
 ghost use Rattle.chordal_info.specs.Routes.{Counted, routeTests};
+use constants::entry;
+use constants::limit;
+use constants::record;
+use constants::refusal;
+use constants::route;
 use covered_rows::entries_right;
 use csc::copy_numbers;
 
@@ -22,13 +27,13 @@ use csc::copy_numbers;
 pub fn rows_right(route: u32, m: u32, rows: u64, overlaps: u64) -> bool
     ensures { λ r. ⌜ r ≡ rowsFit (routeOf route) m rows overlaps ⌝ }
 {
-    if 262144 < rows {
+    if limit::AUGMENTED_ROWS < rows {
         return false;
     }
-    if route == 0 {
-        return m as u64 + rows <= 262144;
+    if route == route::STANDARD {
+        return m as u64 + rows <= limit::AUGMENTED_ROWS;
     }
-    overlaps <= 131072
+    overlaps <= limit::OVERLAPS
 }
 
 // ---- the route's checks in order
@@ -38,9 +43,9 @@ pub fn rows_refusal(route: u32, m: u32, rows: u64, overlaps: u64) -> u32
     ensures { λ r. ⌜ r ≡ cond (rowsFit (routeOf route) m rows overlaps) 0 10 ⌝ }
 {
     if rows_right(route, m, rows, overlaps) {
-        return 0;
+        return refusal::DONE;
     }
-    10
+    refusal::TOO_LARGE
 }
 
 // Checks 9 and 10 of a whole problem whose blocks' rows and overlaps are counted: the number of the first that fails.
@@ -60,11 +65,11 @@ pub fn check_route(
     requires { ⌜ Counted (parts (records (now cones)) (patterns count (now words))) rows overlaps ⌝ }
     ensures { λ r. ⌜ r ≡ firstFailing (routeTests (routeOf route) m (now («a_rows» .entry)) (now (b .entry)) (parts (records (now (cones .entry))) (patterns count (now (words .entry))))) ⌝ }
 {
-    if route == 0 {
+    if route == route::STANDARD {
         return rows_refusal(route, m, rows, overlaps);
     }
     if !entries_right(m, cones, count, words, a_rows, b) {
-        return 9;
+        return refusal::UNCOVERED;
     }
     rows_refusal(route, m, rows, overlaps)
 }
@@ -76,14 +81,15 @@ pub fn count_entries(route: u32, n: u32, starts: &[u32], rows: &[u32]) -> u32
     requires { ⌜ ColumnsInside n (now starts) (now rows) × (length (now rows) ≤ 262144) ⌝ }
     ensures { λ r. ⌜ r ≡ entriesKept (routeOf route) n (now (starts .entry)) (now (rows .entry)) ⌝ }
 {
-    if route == 0 {
+    if route == route::STANDARD {
         return rows.len() as u32;
     }
     csc::count_all_runs(n, starts, rows) as u32
 }
 
-// The words of an entry of the cone map.
-const ENTRY_WORDS: u32 = 5;
+const RECORD_WORDS: u32 = record::WORDS as u32;
+
+const ENTRY_WORDS: u32 = entry::WORDS as u32;
 
 // The length of each output of the cut, from the counts of parts' `get_decomposed_dim_and_overlaps`.
 pub fn write_sizes(
@@ -104,12 +110,12 @@ pub fn write_sizes(
 {
     let mut added = overlaps as u32;
     let mut b = rows as u32;
-    let mut cone_words = 3 * cones as u32;
+    let mut cone_words = RECORD_WORDS * cones as u32;
     let mut map_words = ENTRY_WORDS * cones as u32;
-    if route == 0 {
+    if route == route::STANDARD {
         added = b;
         b += m;
-        cone_words += 3;
+        cone_words += RECORD_WORDS;
         map_words = 0;
     }
     let columns = n + added;

@@ -11,6 +11,7 @@ ghost use Rattle.supernode_tree.specs.Reads.{patternAt, whole, Whole, cliquesFr
 ghost use Rattle.supernode_tree.specs.Offsets.{OffsetsEvery};
 ghost use Rattle.vertex_set.specs.OnceIn.{onceBelowIn};
 ghost use Rattle.clique_tree.specs.Trees.{parentOk, snodesOf, snodesFill, snodesOk, separatorsBelow};
+use constants::scratch;
 use supernode_tree::Clique;
 use supernode_tree::Pattern;
 
@@ -241,18 +242,22 @@ fn few_cliques_right(words: &[u32], at: usize) -> bool
     requires { ⌜ (whole (readPattern (drop at (now words))) ≡ true) × (treeRight (patternAt (now words) at) ≡ true) ⌝ }
     ensures { λ r. ⌜ r ≡ cliquesRight (patternAt (now (words .entry)) at) ⌝ }
 {
-    let mut marks = [false; 256];
-    let mut offsets = [0usize; 256];
+    let mut marks = [false; scratch::VERTICES];
+    let mut offsets = [0usize; scratch::VERTICES];
     cliques_right_by(words, at, &mut marks, &mut offsets)
 }
+
+const MANY_MARKS: usize = 65536;
+
+const MANY_OFFSETS: usize = 4096;
 
 // The same, with tables for many vertices.
 fn many_cliques_right(words: &[u32], at: usize) -> bool
     requires { ⌜ (whole (readPattern (drop at (now words))) ≡ true) × (treeRight (patternAt (now words) at) ≡ true) ⌝ }
     ensures { λ r. ⌜ r ≡ cliquesRight (patternAt (now (words .entry)) at) ⌝ }
 {
-    let mut marks = [false; 65536];
-    let mut offsets = [0usize; 4096];
+    let mut marks = [false; MANY_MARKS];
+    let mut offsets = [0usize; MANY_OFFSETS];
     cliques_right_by(words, at, &mut marks, &mut offsets)
 }
 
@@ -262,7 +267,7 @@ pub fn cliques_right(words: &[u32], at: usize) -> bool
     ensures { λ r. ⌜ r ≡ cliquesRight (patternAt (now (words .entry)) at) ⌝ }
 {
     let p = Pattern::here(words, at);
-    if p.vertex_count <= 256 {
+    if p.vertex_count <= scratch::VERTICES {
         return few_cliques_right(words, at);
     }
     many_cliques_right(words, at)

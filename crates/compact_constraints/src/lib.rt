@@ -14,6 +14,7 @@ ghost use Rattle.sparsevector.specs.Values.{codeValue};
 ghost use Rattle.augment_standard.specs.Beside.{besideStarts};
 ghost use Rattle.augment_standard.specs.Constraints.{constraints};
 ghost use Rattle.compact_constraints.specs.System.{system, SystemFits, HoldsSystem};
+use constants::scratch;
 use tables::Table;
 
 // Writes the starts of A with the k overlaps' columns, the codes of the `rows` augmented rows to their table, and b from these.
@@ -136,8 +137,8 @@ fn with_large_tables(
         let after = system (now («a_starts_out» .exit)) (now («a_rows_out» .exit)) (now («a_values_out» .exit)) (now («b_out» .exit)) in
         ⌜ HoldsSystem p before after ⌝ }
 {
-    let mut table = [0u32; 262144];
-    let mut place = [0u32; 65536];
+    let mut table = [0u32; scratch::AUGMENTED_ROWS];
+    let mut place = [0u32; scratch::ROWS];
     let mut chunks = [false; 4096];
     write_starts_and_b(
         n,

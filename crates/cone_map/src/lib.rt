@@ -3,11 +3,7 @@ ghost use mathlib.Core.Path.{_≡_};
 ghost use Prim.Native.Nat.{_+_, _*_, _≤_, _<_};
 ghost use lib.ListN.{length, getD};
 ghost use Rattle.cone_map.specs.Entries.{patternWord, cliqueWord, structWords, treeOf, structAt};
-
-// The mark for none where a map's words have a pattern's number, and the words of an entry.
-const NO_PATTERN: u32 = 4294967295;
-
-const ENTRY_WORDS: usize = 5;
+use constants::entry;
 
 // The pattern and the clique of a block; a whole cone has none.
 pub enum TreeAndClique {
@@ -28,7 +24,7 @@ impl TreeAndClique {
         ensures { λ r. ⌜ r ≡ patternWord self ⌝ }
     {
         match self {
-            TreeAndClique::None => NO_PATTERN,
+            TreeAndClique::None => entry::NO_PATTERN,
             TreeAndClique::In(pattern, _) => pattern,
         }
     }
@@ -40,7 +36,7 @@ impl TreeAndClique {
         match self {
             TreeAndClique::None => 0,
             TreeAndClique::In(pattern, clique) => {
-                if pattern == NO_PATTERN {
+                if pattern == entry::NO_PATTERN {
                     return 1;
                 }
                 clique
@@ -52,7 +48,7 @@ impl TreeAndClique {
     fn of(pattern: u32, clique: u32) -> TreeAndClique
         ensures { λ r. ⌜ r ≡ treeOf pattern clique ⌝ }
     {
-        if pattern == NO_PATTERN {
+        if pattern == entry::NO_PATTERN {
             return TreeAndClique::None;
         }
         TreeAndClique::In(pattern, clique)
@@ -66,16 +62,16 @@ impl ConeMapEntry {
         ensures { λ r. ⌜ r ≡ getD (structWords self) j 0 ⌝ }
     {
         let at = self.tree_and_clique;
-        if j == 0 {
+        if j == entry::ORIG_INDEX {
             return self.orig_index;
         }
-        if j == 1 {
+        if j == entry::PATTERN {
             return at.pattern();
         }
-        if j == 2 {
+        if j == entry::CLIQUE {
             return at.clique();
         }
-        if j == 3 {
+        if j == entry::FIRST_ROW {
             return self.first_row;
         }
         self.row_count
@@ -86,12 +82,15 @@ impl ConeMapEntry {
         requires { ⌜ k * 5 + 5 ≤ length (now words) ⌝ }
         ensures { λ r. ⌜ r ≡ structAt (now (words .entry)) k ⌝ }
     {
-        let at = k * ENTRY_WORDS;
+        let at = k * entry::WORDS;
         ConeMapEntry {
             orig_index: words[at],
-            tree_and_clique: TreeAndClique::of(words[at + 1], words[at + 2]),
-            first_row: words[at + 3],
-            row_count: words[at + 4],
+            tree_and_clique: TreeAndClique::of(
+                words[at + entry::PATTERN],
+                words[at + entry::CLIQUE],
+            ),
+            first_row: words[at + entry::FIRST_ROW],
+            row_count: words[at + entry::ROW_COUNT],
         }
     }
 }

@@ -1,4 +1,4 @@
--- What both walks by hand share: where element k of a slice lies, entries taken out of a row, and k += 1.
+-- What walks by hand over entries share: entries as data and as an array's elements, where element k of a slice lies, entries taken out of a row, and k += 1.
 use mathlib.Core.Path.{_≡_, refl, sym, ap}
 use Prim.Native.Nat.{ℕ, suc, _+_, _*_, _<_, _^_}
 use mathlib.Core.List.{List, [], _∷_}
@@ -14,16 +14,21 @@ use ghost.Atoms.{Atoms}
 use types.Kit.{Given, Item, ‵, nth, put, Post, Goal, runs, Seq, Step, step, _$_}
 use types.Run.{Opd, Rv, lit, bin}
 use denote.Laws.{Is, shows}
+use denote.Struct.Laws as LL
 use denote.Memory.{cellAt, shares as row-shares}
 use denote.Index.{row, others, place as place-of, place-is, elem-out}
 use Rattle.cone_map.specs.declared.ConeMapEntry.{ConeMapEntry}
 use Rattle.by_hand.proofs.Values.{Datum, structs, own-of}
+use Rattle.by_hand.proofs.Arrays.{Element}
 use Rattle.by_hand.proofs.Locals.{full, empty, equals, value, sets}
 use Rattle.cone_map.proofs.ConeMapEntry as T
 use Rattle.cone_map.proofs.ConeMapEntry.Laws as T′
 
 abbrev pub entries : Datum
 entries = structs T.the-type T′.the-laws T′.the-plain
+
+abbrev pub entry-elements : Element
+entry-elements = record { datum = entries; single = tt; copy = λ 𝓤 H A W. LL.copy T.the-type T′.the-copy 𝓤 H A W }
 
 module _ {M : Type 1} {𝓤 : URA M} {H : Heap 𝓤} {A : Atoms 𝓤} {K : Type 0} {W : Given 𝓤 H A} {Γ : List (Item 𝓤)} {E : Env 𝓤 H} {i : ℕ} where
   -- k + 1

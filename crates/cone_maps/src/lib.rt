@@ -6,6 +6,7 @@ ghost use lib.ListN.{length, take};
 ghost use Rattle.layout.specs.Lists.{below, written};
 ghost use Rattle.cone_map.specs.Entries.{allWords, structAt};
 use cone_map::ConeMapEntry;
+use constants::entry;
 
 // Writes the first `count` entries of a map's words.
 pub fn write_entries(words: &[u32], count: usize, entries: &mut [ConeMapEntry])
@@ -26,7 +27,7 @@ pub fn write_words(entries: &[ConeMapEntry], count: usize, out: &mut [u32])
 {
     let mut w = 0;
     while w < count {
-        out[w] = entries[w / 5].word(w % 5);
+        out[w] = entries[w / entry::WORDS].word(w % entry::WORDS);
         w += 1;
     }
 }

@@ -10,6 +10,7 @@ ghost use Rattle.layout.specs.Answers.{joinedParts, routeOf, augmented, addedCo
 ghost use Rattle.layout.specs.Calls.Cut.{constrained, constrainedOf, HoldsConstrained};
 ghost use Rattle.augment_standard.specs.Constraints.{constraints};
 ghost use Rattle.augment.specs.Fits.{ConstrainedFits};
+use constants::route;
 use tables::Table;
 
 // How many rows the blocks of a cut have, and how many columns the route adds.
@@ -23,7 +24,7 @@ pub fn count_added(route: u32, m: u32, cones: &[u32], count: u32, words: &[u32])
     ensures { λ r. ⌜ (r .rows ≡ blockRowCount (joinedParts (now (cones .entry)) count (now (words .entry)))) × (r .columns ≡ addedCount (routeOf route) (joinedParts (now (cones .entry)) count (now (words .entry)))) ⌝ }
 {
     let d = parts::get_decomposed_dim_and_overlaps(m, cones, count, words);
-    if route == 0 {
+    if route == route::STANDARD {
         return Added {
             rows: d.rows as usize,
             columns: d.rows as usize,
@@ -114,7 +115,7 @@ pub fn write_constraints(
         let new = augmented (routeOf route) p in
         ⌜ HoldsConstrained 0 (constrainedOf new) before after × (now («map_out» .exit) ≡ written (new .map) (now («map_out» .entry))) ⌝ }
 {
-    if route == 0 {
+    if route == route::STANDARD {
         augment::decomp_augment_standard(
             n,
             m,

@@ -16,6 +16,7 @@ ghost use Rattle.blocks.specs.Columns.{columnPairs, ColumnsFit};
 ghost use Rattle.blocks.specs.Cliques.{Stands as CliqueStands, Standing, rowsHere};
 ghost use Rattle.covered_rows.specs.Covered.{BlockFits, MarksPattern, rowsMarked, valuesMarked, sidesMarked, entriesRight, sidesOn};
 use blocks::clique_vertices;
+use constants::scratch;
 use parts::Met;
 use parts::Place;
 use supernode_tree::Pattern;
@@ -68,7 +69,7 @@ fn mark_clique(words: &[u32], ordering: &[u32], at: usize, base: u32, covered: &
     requires { ⌜ BlockFits base (length (now ordering)) (length (now covered)) ⌝ }
     ensures { λ _. ⌜ now (covered .exit) ≡ marked true (rowsHere base (now (words .entry)) (now (ordering .entry)) at) (now (covered .entry)) ⌝ }
 {
-    let mut vertices = [0u32; 256];
+    let mut vertices = [0u32; scratch::VERTICES];
     let k = clique_vertices(words, ordering, at, &mut vertices);
     mark_block(&vertices[..k], base, covered);
 }
@@ -93,7 +94,7 @@ fn mark_pattern(words: &[u32], at: usize, base: u32, covered: &mut [bool])
     ensures { λ _. ⌜ MarksPattern (patternAt (now (words .entry)) at) base (now (covered .entry)) (now (covered .exit)) ⌝ }
 {
     let p = Pattern::here(words, at);
-    let mut offsets = [0usize; 256];
+    let mut offsets = [0usize; scratch::VERTICES];
     clique_offsets(words, p.cliques, p.clique_count, &mut offsets);
     let a = p.ordering;
     let e = p.cliques;
@@ -255,7 +256,7 @@ pub fn sides_right(
             &mut covered,
         );
     }
-    let mut covered = [false; 65536];
+    let mut covered = [false; scratch::ROWS];
     sides_right_by(
         m,
         cones,

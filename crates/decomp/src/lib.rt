@@ -3,6 +3,9 @@ ghost use mathlib.Core.Path.{_≡_};
 ghost use Rattle.layout.specs.Problem.{problem};
 ghost use Rattle.layout.specs.Answers.{onRoute, cutRefusal};
 ghost use Rattle.layout.specs.Calls.Sizes.{Sizes};
+use constants::OUTPUTS;
+use constants::refusal;
+use constants::route;
 
 // The length of each output of the cut, after checks 1 to 11. The blocks are counted once for check 10 and the lengths.
 pub fn sizes(
@@ -27,8 +30,8 @@ pub fn sizes(
         let p = problem n m (now («p_starts» .entry)) (now («p_rows» .entry)) (now («p_values» .entry)) (now (q .entry)) (now («a_starts» .entry)) (now («a_rows» .entry)) (now («a_values» .entry)) (now (b .entry)) (now (cones .entry)) (now (alphas .entry)) count (now (words .entry)) in
         ⌜ Sizes route p (now (out .entry)) (now (out .exit)) r ⌝ }
 {
-    if 1 < route {
-        return 1;
+    if route::COMPACT < route {
+        return refusal::BOUND;
     }
     let r = checks::check_problem(
         n,
@@ -46,16 +49,16 @@ pub fn sizes(
         count,
         words,
     );
-    if r != 0 {
+    if r != refusal::DONE {
         return r;
     }
     let d = parts::get_decomposed_dim_and_overlaps(m, cones, count, words);
     let t = chordal_info::check_route(route, m, a_rows, b, cones, count, words, d.rows, d.overlaps);
-    if t != 0 {
+    if t != refusal::DONE {
         return t;
     }
-    if out.len() < 11 {
-        return 11;
+    if out.len() < OUTPUTS {
+        return refusal::SHORT;
     }
     let p_entries = p_values.len() as u32;
     let a_entries = chordal_info::count_entries(route, n, a_starts, a_rows);
@@ -72,7 +75,7 @@ pub fn sizes(
         d.cones,
         out,
     );
-    0
+    refusal::DONE
 }
 
 // Checks 1 to 11 of the cut in order: the number of the first that fails, or 0.
@@ -98,7 +101,7 @@ pub fn refuse_cut(
         let p = problem n m (now («p_starts» .entry)) (now («p_rows» .entry)) (now («p_values» .entry)) (now (q .entry)) (now («a_starts» .entry)) (now («a_rows» .entry)) (now («a_values» .entry)) (now (b .entry)) (now (cones .entry)) (now (alphas .entry)) count (now (words .entry)) in
         ⌜ r ≡ onRoute route (λ rt. cutRefusal rt p (now (rooms .entry))) ⌝ }
 {
-    let mut needs = [0u32; 11];
+    let mut needs = [0u32; OUTPUTS];
     let r = sizes(
         route,
         n,
@@ -117,7 +120,7 @@ pub fn refuse_cut(
         words,
         &mut needs,
     );
-    if r != 0 {
+    if r != refusal::DONE {
         return r;
     }
     utils::check_rooms(&needs, rooms)

@@ -16,16 +16,21 @@ ghost use Rattle.augment_standard.specs.Constraints.{constraints};
 ghost use Rattle.augment.specs.Fits.{extended, ObjectiveFits, ConstrainedFits};
 ghost use Rattle.decomp_augment_entries.specs.Rooms.{wordsOf, unlessRefused};
 use cone_map::ConeMapEntry;
+use constants::entry;
+use constants::limit;
+use constants::refusal;
+use constants::route;
+use constants::scratch;
 use tables::Table;
 
 // The words of so many entries, or of the most that a problem has, 16,384.
 fn words_of(entries: usize) -> usize
     ensures { λ r. ⌜ r ≡ wordsOf entries ⌝ }
 {
-    if 16384 < entries {
-        return 81920;
+    if limit::MAP_ENTRIES < entries {
+        return scratch::MAP_WORDS;
     }
-    entries * 5
+    entries * entry::WORDS
 }
 
 // Checks 1 to 11 in order, with room for so much in each output: the number of the first that fails, or 0.
@@ -74,7 +79,7 @@ fn refuse_cut_compact(
         words_of(map_room),
     ];
     decomp::refuse_cut(
-        1,
+        route::COMPACT,
         n,
         m,
         p_starts,
@@ -120,10 +125,10 @@ fn cut_constraints(
         let after = constrained (now («a_starts_out» .exit)) (now («a_rows_out» .exit)) (now («a_values_out» .exit)) (now («b_out» .exit)) (now («cones_out» .exit)) in
         ⌜ (refused ≡ 0 → r ≡ overlapCount (layout p)) × HoldsConstrained refused (constrainedOf (augmented compact p)) before after ⌝ }
 {
-    if refused != 0 {
+    if refused != refusal::DONE {
         return 0;
     }
-    let d = constraints::count_added(1, m, cones, count, words);
+    let d = constraints::count_added(route::COMPACT, m, cones, count, words);
     constraints::decomp_augment_compact(
         n,
         m,
@@ -170,7 +175,7 @@ fn cut_objective(
         let after = objective (now («p_starts_out» .exit)) (now («p_rows_out» .exit)) (now («p_values_out» .exit)) (now («q_out» .exit)) (now («alphas_out» .exit)) in
         ⌜ HoldsObjective refused (extended columns o) before after ⌝ }
 {
-    if refused != 0 {
+    if refused != refusal::DONE {
         return;
     }
     augment::write_objective(
@@ -203,10 +208,10 @@ fn map_table(
         let es = unlessRefused refused (coneMap (joinedParts (now (cones .entry)) count (now (words .entry)))) in
         ⌜ (r ≡ length es) × (now (table .exit) ≡ written (mapWords es) (now (table .entry))) ⌝ }
 {
-    if refused != 0 {
+    if refused != refusal::DONE {
         return 0;
     }
-    tables::write_table(Table::ConeMap, m, cones, count, words, table) / 5
+    tables::write_table(Table::ConeMap, m, cones, count, words, table) / entry::WORDS
 }
 
 // An accepted problem's cut at the front of the outputs.
@@ -302,7 +307,7 @@ pub fn cut_compact_entries(
         q_out,
         alphas_out,
     );
-    let mut table = [0u32; 81920];
+    let mut table = [0u32; scratch::MAP_WORDS];
     let entries = map_table(refused, m, cones, count, words, &mut table);
     cone_maps::write_entries(&table, entries, map_out);
     refused

@@ -17,16 +17,15 @@ ghost use Rattle.supernode_tree.specs.Sizes.{atMost, dimOf};
 ghost use Rattle.tables.specs.Tables.{entriesDown};
 ghost use Rattle.decomp_reverse.specs.Begins.{begins};
 ghost use Rattle.decomp_reverse.specs.Fits.{lengthsFit, countedRefusal, refusalBy};
+use constants::entry;
+use constants::entry::NO_PATTERN;
+use constants::refusal;
+use constants::route;
 use parts::Met;
 use parts::Place;
 use reverse_standard::Scalars;
 use supernode_tree::Clique;
 use supernode_tree::Pattern;
-
-// The mark for none where the cone map has a pattern's number, and the words of an entry.
-const NO_PATTERN: u32 = 4294967295;
-
-const ENTRY_WORDS: usize = 5;
 
 // ---- the cone map
 
@@ -43,22 +42,22 @@ fn entry_right(
     requires { ⌜ t ≤ length (now entries) ⌝ }
     ensures { λ r. ⌜ r ≡ begins (drop t (now (entries .entry))) (cone ∷ pattern ∷ clique ∷ first ∷ rows ∷ []) ⌝ }
 {
-    if entries.len() - t < ENTRY_WORDS {
+    if entries.len() - t < entry::WORDS {
         return false;
     }
     if entries[t] != cone {
         return false;
     }
-    if entries[t + 1] != pattern {
+    if entries[t + entry::PATTERN] != pattern {
         return false;
     }
-    if entries[t + 2] != clique {
+    if entries[t + entry::CLIQUE] != clique {
         return false;
     }
-    if entries[t + 3] != first {
+    if entries[t + entry::FIRST_ROW] != first {
         return false;
     }
-    entries[t + 4] == rows
+    entries[t + entry::ROW_COUNT] == rows
 }
 
 // Whether they begin with the entries of count cliques of one pattern, whose rows end at `end`, from the last to the first: the last entry is compared
@@ -78,7 +77,7 @@ fn blocks_right(
     requires { ⌜ sum (mapped dimOf (cliquesFrom (now words) first count)) ≤ end ⌝ }
     ensures { λ r. ⌜ r ≡ begins (drop t (now (entries .entry))) (mapWords (entriesDown cone pattern 0 (end - sum (mapped dimOf (cliquesFrom (now (words .entry)) first count))) (cliquesFrom (now (words .entry)) first count))) ⌝ }
 {
-    if entries.len() - t < count as usize * ENTRY_WORDS {
+    if entries.len() - t < count as usize * entry::WORDS {
         return false;
     }
     let mut at = first;
@@ -92,7 +91,7 @@ fn blocks_right(
         row -= rows;
         if !entry_right(
             entries,
-            t + left as usize * ENTRY_WORDS,
+            t + left as usize * entry::WORDS,
             cone,
             pattern,
             clique,
@@ -148,7 +147,7 @@ fn map_right(m: u32, cones: &[u32], count: u32, words: &[u32], entries: &[u32]) 
                 if !entry_right(entries, t, place.cone as u32, NO_PATTERN, 0, first, rows) {
                     return false;
                 }
-                t += ENTRY_WORDS;
+                t += entry::WORDS;
                 first += rows;
                 place = next;
             }
@@ -159,7 +158,7 @@ fn map_right(m: u32, cones: &[u32], count: u32, words: &[u32], entries: &[u32]) 
                 if !pattern_right(entries, t, place.cone as u32, place.pattern, words, at, end) {
                     return false;
                 }
-                t += ENTRY_WORDS * cliques as usize;
+                t += entry::WORDS * cliques as usize;
                 first = end;
                 place = next;
             }
@@ -171,6 +170,9 @@ fn map_right(m: u32, cones: &[u32], count: u32, words: &[u32], entries: &[u32]) 
 }
 
 // ---- the checks
+
+// The scalars of a solution, τ and κ.
+const SCALARS: usize = 2;
 
 // Check 11: whether the outputs have room for x, s, z and the two scalars.
 pub fn room_enough(n: u32, m: u32, x: usize, s: usize, z: usize, scalars: usize) -> bool
@@ -185,7 +187,7 @@ pub fn room_enough(n: u32, m: u32, x: usize, s: usize, z: usize, scalars: usize)
     if z < m as usize {
         return false;
     }
-    2 <= scalars
+    SCALARS <= scalars
 }
 
 // Whether x, s and z of a solution are so long.
@@ -216,7 +218,7 @@ pub fn lengths_fit(
     ensures { λ r. ⌜ r ≡ lengthsFit (routeOf route) n m rows overlaps x s z ⌝ }
 {
     let k = rows as usize;
-    if route == 0 {
+    if route == route::STANDARD {
         return lengths_are(x, s, z, n as usize + k, m as usize + k);
     }
     lengths_are(x, s, z, n as usize + overlaps as usize, k)
@@ -241,16 +243,16 @@ fn refuse_counted(
     ensures { λ r. ⌜ r ≡ countedRefusal (routeOf route) n m rows overlaps x s z («x_room» ∷ «s_room» ∷ «z_room» ∷ «scalars_room» ∷ []) ⌝ }
 {
     let r = chordal_info::rows_refusal(route, m, rows, overlaps);
-    if r != 0 {
+    if r != refusal::DONE {
         return r;
     }
     if !room_enough(n, m, x_room, s_room, z_room, scalars_room) {
-        return 11;
+        return refusal::SHORT;
     }
     if !lengths_fit(route, n, m, rows, overlaps, x, s, z) {
-        return 12;
+        return refusal::SOLUTION;
     }
-    0
+    refusal::DONE
 }
 
 // Checks 1 to 12 in order, with the lengths of x, s and z and the room of each output: the number of the first that fails, or 0. Any number but 0
@@ -274,7 +276,7 @@ fn refuse_join(
     ensures { λ r. ⌜ r ≡ refusalBy (routeOf route) n m (now (cones .entry)) count (now (words .entry)) x s z (now (entries .entry)) («x_room» ∷ «s_room» ∷ «z_room» ∷ «scalars_room» ∷ []) ⌝ }
 {
     let c = checks::check_joined(n, m, cones, count, words);
-    if c.refusal != 0 {
+    if c.refusal != refusal::DONE {
         return c.refusal;
     }
     let r = refuse_counted(
@@ -291,16 +293,16 @@ fn refuse_join(
         z_room,
         scalars_room,
     );
-    if r != 0 {
+    if r != refusal::DONE {
         return r;
     }
-    if route == 0 {
-        return 0;
+    if route == route::STANDARD {
+        return refusal::DONE;
     }
     if map_right(m, cones, count, words, entries) {
-        return 0;
+        return refusal::DONE;
     }
-    12
+    refusal::SOLUTION
 }
 
 // ---- the joining
@@ -338,8 +340,8 @@ pub fn join(
         let after = rejoined (now («x_out» .exit)) (now («s_out» .exit)) (now («z_out» .exit)) (now («scalars_out» .exit)) in
         ⌜ Join route n m (now (cones .entry)) count (now (words .entry)) sol (now (map .entry)) before after r ⌝ }
 {
-    if 1 < route {
-        return 1;
+    if route::COMPACT < route {
+        return refusal::BOUND;
     }
     let r = refuse_join(
         route,
@@ -357,15 +359,26 @@ pub fn join(
         z_out.len(),
         scalars_out.len(),
     );
-    if r != 0 {
+    if r != refusal::DONE {
         return r;
     }
     reverse::copy_x(n, x, x_out);
-    reverse::decomp_reverse(route == 0, m, cones, count, words, map, s, z, s_out, z_out);
+    reverse::decomp_reverse(
+        route == route::STANDARD,
+        m,
+        cones,
+        count,
+        words,
+        map,
+        s,
+        z,
+        s_out,
+        z_out,
+    );
     let scalars = Scalars {
         tau: tau,
         kappa: kappa,
     };
     write_scalars(scalars.joined(), scalars_out);
-    0
+    refusal::DONE
 }

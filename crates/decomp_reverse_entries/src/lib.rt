@@ -9,15 +9,19 @@ ghost use Rattle.layout.specs.Calls.JoinEntries.{JoinEntries};
 ghost use Rattle.cone_map.specs.Entries.{meant};
 ghost use Rattle.decomp_reverse_entries.specs.Refusals.{wordsOf};
 use cone_map::ConeMapEntry;
+use constants::entry;
+use constants::limit;
+use constants::route;
+use constants::scratch;
 
 // How many words of a map are compared: all, or one, which is no map, where it has more entries than any problem's.
 fn words_of(entries: usize) -> usize
     ensures { λ r. ⌜ r ≡ wordsOf entries ⌝ }
 {
-    if 16384 < entries {
+    if limit::MAP_ENTRIES < entries {
         return 1;
     }
-    entries * 5
+    entries * entry::WORDS
 }
 
 // The joining by a map whose words are the first of a table's.
@@ -47,7 +51,7 @@ fn join_words(
         ⌜ Join 1 n m (now (cones .entry)) count (now (words .entry)) sol (take taken (now (table .entry))) before after r ⌝ }
 {
     decomp_reverse::join(
-        1,
+        route::COMPACT,
         n,
         m,
         cones,
@@ -90,7 +94,7 @@ pub fn join_compact_entries(
         let after = rejoined (now («x_out» .exit)) (now («s_out» .exit)) (now («z_out» .exit)) (now («scalars_out» .exit)) in
         ⌜ JoinEntries n m (now (cones .entry)) count (now (words .entry)) sol (mapped meant (now (map .entry))) before after r ⌝ }
 {
-    let mut table = [0u32; 81920];
+    let mut table = [0u32; scratch::MAP_WORDS];
     let taken = words_of(map.len());
     cone_maps::write_words(map, taken, &mut table);
     join_words(

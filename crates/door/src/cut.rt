@@ -37,20 +37,7 @@ pub extern "C" fn chordal_cut(
         let after = outputs (now («p_starts_out» .exit)) (now («p_rows_out» .exit)) (now («p_values_out» .exit)) (now («q_out» .exit)) (now («a_starts_out» .exit)) (now («a_rows_out» .exit)) (now («a_values_out» .exit)) (now («b_out» .exit)) (now («cones_out» .exit)) (now («alphas_out» .exit)) (now («map_out» .exit)) in
         ⌜ Cut route p before after r ⌝ }
 {
-    let rooms = [
-        p_starts_out.len(),
-        p_rows_out.len(),
-        p_values_out.len(),
-        q_out.len(),
-        a_starts_out.len(),
-        a_rows_out.len(),
-        a_values_out.len(),
-        b_out.len(),
-        cones_out.len(),
-        alphas_out.len(),
-        map_out.len(),
-    ];
-    let refused = decomp::refuse_cut(
+    cut_on_route::cut(
         route,
         n,
         m,
@@ -66,45 +53,16 @@ pub extern "C" fn chordal_cut(
         alphas,
         pattern_count,
         pattern_words,
-        &rooms,
-    );
-    if refused != 0 {
-        return refused;
-    }
-    let d = constraints::count_added(route, m, cones, pattern_count, pattern_words);
-    augment::write_objective(
-        n,
-        p_starts,
-        p_rows,
-        p_values,
-        q,
-        alphas,
-        d.columns,
         p_starts_out,
         p_rows_out,
         p_values_out,
         q_out,
-        alphas_out,
-    );
-    constraints::write_constraints(
-        route,
-        n,
-        m,
-        a_starts,
-        a_rows,
-        a_values,
-        b,
-        cones,
-        pattern_count,
-        pattern_words,
-        d.rows,
-        d.columns,
         a_starts_out,
         a_rows_out,
         a_values_out,
         b_out,
         cones_out,
+        alphas_out,
         map_out,
-    );
-    0
+    )
 }

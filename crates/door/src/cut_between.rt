@@ -2,10 +2,6 @@
 ghost use Rattle.layout.specs.Problem.{problem};
 ghost use Rattle.layout.specs.Calls.Cut.{outputs};
 ghost use Rattle.layout.specs.Calls.CutBetween.{limits, CutBetween};
-use right_sides::write_sides;
-
-// The compact route.
-const COMPACT: u32 = 1;
 
 #[no_mangle]
 pub extern "C" fn chordal_cut_between(
@@ -43,21 +39,7 @@ pub extern "C" fn chordal_cut_between(
         let after = limits (outputs (now («p_starts_out» .exit)) (now («p_rows_out» .exit)) (now («p_values_out» .exit)) (now («q_out» .exit)) (now («a_starts_out» .exit)) (now («a_rows_out» .exit)) (now («a_values_out» .exit)) (now («b_low_out» .exit)) (now («cones_out» .exit)) (now («alphas_out» .exit)) (now («map_out» .exit))) (now («b_high_out» .exit)) in
         ⌜ CutBetween p (now (low .entry)) (now (high .entry)) before after r ⌝ }
 {
-    let rooms = [
-        p_starts_out.len(),
-        p_rows_out.len(),
-        p_values_out.len(),
-        q_out.len(),
-        a_starts_out.len(),
-        a_rows_out.len(),
-        a_values_out.len(),
-        b_low_out.len(),
-        cones_out.len(),
-        alphas_out.len(),
-        map_out.len(),
-    ];
-    let high_room = b_high_out.len();
-    let refused = right_sides::refuse_between(
+    cut_with_limits::cut_between(
         n,
         m,
         p_starts,
@@ -73,56 +55,17 @@ pub extern "C" fn chordal_cut_between(
         alphas,
         pattern_count,
         pattern_words,
-        &rooms,
-        high_room,
-    );
-    if refused != 0 {
-        return refused;
-    }
-    let d = constraints::count_added(COMPACT, m, cones, pattern_count, pattern_words);
-    augment::write_objective(
-        n,
-        p_starts,
-        p_rows,
-        p_values,
-        q,
-        alphas,
-        d.columns,
         p_starts_out,
         p_rows_out,
         p_values_out,
         q_out,
-        alphas_out,
-    );
-    constraints::write_constraints(
-        COMPACT,
-        n,
-        m,
-        a_starts,
-        a_rows,
-        a_values,
-        low,
-        cones,
-        pattern_count,
-        pattern_words,
-        d.rows,
-        d.columns,
         a_starts_out,
         a_rows_out,
         a_values_out,
         b_low_out,
-        cones_out,
-        map_out,
-    );
-    write_sides(
-        m,
-        cones,
-        pattern_count,
-        pattern_words,
-        d.rows,
-        high, // over the rows of low
-        1,
         b_high_out,
-    );
-    0
+        cones_out,
+        alphas_out,
+        map_out,
+    )
 }

@@ -3,9 +3,6 @@ ghost use Rattle.layout.specs.Problem.{problem};
 ghost use Rattle.layout.specs.Calls.Cut.{outputs};
 ghost use Rattle.layout.specs.Calls.CutMany.{CutMany};
 
-// The compact route.
-const COMPACT: u32 = 1;
-
 #[no_mangle]
 pub extern "C" fn chordal_cut_many(
     count: u32,
@@ -41,20 +38,7 @@ pub extern "C" fn chordal_cut_many(
         let after = outputs (now («p_starts_out» .exit)) (now («p_rows_out» .exit)) (now («p_values_out» .exit)) (now («q_out» .exit)) (now («a_starts_out» .exit)) (now («a_rows_out» .exit)) (now («a_values_out» .exit)) (now («b_out» .exit)) (now («cones_out» .exit)) (now («alphas_out» .exit)) (now («map_out» .exit)) in
         ⌜ CutMany count p before after r ⌝ }
 {
-    let rooms = [
-        p_starts_out.len(),
-        p_rows_out.len(),
-        p_values_out.len(),
-        q_out.len(),
-        a_starts_out.len(),
-        a_rows_out.len(),
-        a_values_out.len(),
-        b_out.len(),
-        cones_out.len(),
-        alphas_out.len(),
-        map_out.len(),
-    ];
-    let refused = right_sides::refuse_many(
+    cut_with_sides::cut_many(
         count,
         n,
         m,
@@ -70,55 +54,16 @@ pub extern "C" fn chordal_cut_many(
         alphas,
         pattern_count,
         pattern_words,
-        &rooms,
-    );
-    if refused != 0 {
-        return refused;
-    }
-    let d = constraints::count_added(COMPACT, m, cones, pattern_count, pattern_words);
-    augment::write_objective(
-        n,
-        p_starts,
-        p_rows,
-        p_values,
-        q,
-        alphas,
-        d.columns,
         p_starts_out,
         p_rows_out,
         p_values_out,
         q_out,
-        alphas_out,
-    );
-    constraints::write_constraints(
-        COMPACT,
-        n,
-        m,
-        a_starts,
-        a_rows,
-        a_values,
-        &b[..m as usize],
-        cones,
-        pattern_count,
-        pattern_words,
-        d.rows,
-        d.columns,
         a_starts_out,
         a_rows_out,
         a_values_out,
-        &mut *b_out,
-        cones_out,
-        map_out,
-    );
-    right_sides::write_sides(
-        m,
-        cones,
-        pattern_count,
-        pattern_words,
-        d.rows,
-        b,
-        count,
         b_out,
-    );
-    0
+        cones_out,
+        alphas_out,
+        map_out,
+    )
 }

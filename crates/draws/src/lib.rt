@@ -1,14 +1,10 @@
-// The generator's draws (Q-5): a draw, a drawn value, the ranges of its arguments, the ordering, and columns and a right side over
-// given rows. The state is a u64, which each function takes and hands on.
+// The generator's draws (Q-5): a draw, a drawn value, the ranges of its arguments, the ordering, and a right side over given rows. The
+// state is a u64, which each function takes and hands on.
 ghost use mathlib.Core.Path.{_≡_};
 ghost use Prim.Native.Nat.{_-_, _≤_, _<_};
-ghost use mathlib.Core.List.{map};
 ghost use lib.ListN.{length};
-ghost use lib.Ieee.{Float};
-ghost use Rattle.layout.specs.Lists.{below, written, Below};
-ghost use Rattle.layout.specs.Compact.{Entry, rowsOf};
-ghost use Rattle.layout.specs.Generator.{draw as drawOf, draws as drawsOf, isOdd, drawnValue, exchange, exchanges, drawnOrdering, afterEntry, drawnColumn, afterColumn, drawnSide, inRanges};
-ghost use Rattle.layout.proofs.Compressed.{valuesOf};
+ghost use Rattle.layout.specs.Lists.{below, Below};
+ghost use Rattle.layout.specs.Generator.{draw as drawOf, draws as drawsOf, drawnValue, exchange, exchanges, drawnOrdering, drawnSide, inRanges};
 
 // Changes the state: exclusive or with itself shifted left 13, then right 7, then left 17. A shift to the left loses the bits above
 // 64.
@@ -103,84 +99,6 @@ pub fn draw_ordering(seed: u64, out: &mut [u32]) -> u64
 {
     count_up(&mut *out);
     exchange_all(seed, out)
-}
-
-// ---- a column
-
-// What is drawn at a row: whether an entry is stored, and the state after it, whose value is the entry's.
-pub struct RowDraw {
-    pub stored: bool,
-    pub state: u64,
-}
-
-// Draws at one row: an odd draw stores an entry, and the next draw gives its value.
-fn draw_row(s: u64) -> RowDraw
-    ensures { λ r. ⌜ (r .stored ≡ isOdd (drawOf s)) × (r .state ≡ afterEntry s) ⌝ }
-{
-    let d = draw(s);
-    if d % 2 == 1 {
-        return RowDraw {
-            stored: true,
-            state: draw(d),
-        };
-    }
-    RowDraw {
-        stored: false,
-        state: d,
-    }
-}
-
-// What is drawn in a column: how many entries, and the state after them.
-pub struct ColumnDraw {
-    pub count: usize,
-    pub state: u64,
-}
-
-// Draws a column over `rows` and counts its entries.
-pub fn count_column(s: u64, rows: &[u32]) -> ColumnDraw
-    ensures { λ r. ⌜ (r .count ≡ length (drawnColumn s (now (rows .entry)))) × (r .state ≡ afterColumn s (now (rows .entry))) ⌝ }
-{
-    let mut state = s;
-    let mut count = 0;
-    let mut i = 0;
-    while i < rows.len() {
-        let d = draw_row(state);
-        state = d.state;
-        i += 1;
-        if d.stored {
-            count += 1;
-        }
-    }
-    ColumnDraw { count, state }
-}
-
-// Draws a column over `rows` and writes its entries to the front of the outputs.
-pub fn write_column(
-    s: u64,
-    rows: &[u32],
-    rows_out: &mut [u32],
-    values_out: &mut [f64],
-) -> ColumnDraw
-    requires { ⌜ (length (drawnColumn s (now rows)) ≤ length (now «rows_out»)) × (length (drawnColumn s (now rows)) ≤ length (now «values_out»)) ⌝ }
-    ensures { λ r. ⌜ (r .count ≡ length (drawnColumn s (now (rows .entry)))) × (r .state ≡ afterColumn s (now (rows .entry))) ⌝ }
-    ensures { λ _. ⌜ now («rows_out» .exit) ≡ written (rowsOf (drawnColumn s (now (rows .entry)))) (now («rows_out» .entry)) ⌝ }
-    ensures { λ _. ⌜ now («values_out» .exit) ≡ written (valuesOf (drawnColumn s (now (rows .entry)))) (now («values_out» .entry)) ⌝ }
-{
-    let mut state = s;
-    let mut count = 0;
-    let mut i = 0;
-    while i < rows.len() {
-        let row = rows[i];
-        let d = draw_row(state);
-        state = d.state;
-        i += 1;
-        if d.stored {
-            rows_out[count] = row;
-            values_out[count] = draw_value(state);
-            count += 1;
-        }
-    }
-    ColumnDraw { count, state }
 }
 
 // ---- the right side

@@ -9,16 +9,16 @@ use Rattle.layout.specs.Lists.{has, keep, below, written, Below}
 use Rattle.layout.specs.Triangle.{triangle}
 use Rattle.layout.specs.Patterns.{placeOf}
 use Rattle.layout.specs.Checks.{isPermutation, coveredRows}
-use Rattle.layout.specs.Answers.{output, inverse, inverseRefusal}
+use Rattle.layout.specs.Answers.{inverse}
 use Rattle.layout.specs.Generator.{drawnOrdering, bandParts, bandRows}
-use Rattle.layout.proofs.Tests.{passed}
 use Rattle.layout.proofs.Members.{place-found, has-keep, has-below, has-getD, length-below}
 use Rattle.layout.proofs.Distinct.{permutation-has, length-keep}
 use Rattle.layout.proofs.Buffers.{written-whole, take-written}
 use Rattle.layout.proofs.Triangles.{triangle-mono}
 use Rattle.layout.proofs.Orderings.{ordering-permutes}
 use Rattle.layout.proofs.BandRows.{inBandAt, band-rows-by}
-use Rattle.utils.proofs.Scattered.{accepted, length-inverse, inverse-at}
+use Rattle.utils.specs.Scattered.{scattered}
+use Rattle.utils.proofs.Scattered.{length-inverse, inverse-at, scattered-inverse, permutation-below}
 
 module _ (os : List ℕ) (v w : ℕ) where
   -- few, and each a row of the cone
@@ -35,27 +35,34 @@ module _ (os : List ℕ) (v w : ℕ) where
   pub rows-front : (rs old : List ℕ) (k : ℕ) → k ≡ length (bandRows os v w) → rs ≡ written (bandRows os v w) old → take k rs ≡ bandRows os v w
   rows-front rs old k e f = rw (e, f) (take-written (bandRows os v w) old)
 
--- a call wrote the inverse of a drawn ordering over old
+permutes : (seed v : ℕ) → 0 < v → (os : List ℕ) → os ≡ drawnOrdering seed v → T (isPermutation os) × (length os ≡ v)
+permutes seed v some os drawn = subst (λ (xs : List ℕ). T (isPermutation xs) × (length xs ≡ v)) (sym drawn) (ordering-permutes seed v some)
+
+-- the numbers of a drawn ordering are places of a table as long
+pub ordering-low : (seed v : ℕ) → 0 < v → (os : List ℕ) → os ≡ drawnOrdering seed v → (n : ℕ) → v ≤ n → Below n os
+ordering-low seed v some os drawn n h = let (ok, long) = permutes seed v some os drawn in permutation-below os n ok (omega arith)
+
+-- a call wrote the place of each number of a drawn ordering over old
 module _ (seed v : ℕ) (some : 0 < v) (os ps old : List ℕ) (drawn : os ≡ drawnOrdering seed v)
-    (put : ps ≡ output (inverseRefusal os (length old)) (inverse os) old) (size : length old ≡ v) where
-  permutes : T (isPermutation os) × (length os ≡ v)
-  permutes = subst (λ (xs : List ℕ). T (isPermutation xs) × (length xs ≡ v)) (sym drawn) (ordering-permutes seed v some)
+    (put : ps ≡ scattered 0 os old) (size : length old ≡ v) where
+  permuted : T (isPermutation os) × (length os ≡ v)
+  permuted = permutes seed v some os drawn
 
   pub places-are : ps ≡ inverse os
   places-are =
-      let ok = accepted os (length old) (passed (isPermutation os) (permutes .0)) (omega (arith, permutes .1)) in
-      put ∙ ap (λ (r : ℕ). output r (inverse os) old) ok ∙ written-whole (inverse os) old (omega (arith, permutes .1, length-inverse os))
+      put ∙ scattered-inverse os old (permuted .0) (omega (arith, permuted .1))
+      ∙ written-whole (inverse os) old (omega (arith, permuted .1, length-inverse os))
 
   pub places-long : length ps ≡ v
-  places-long = ap length places-are ∙ length-inverse os ∙ permutes .1
+  places-long = ap length places-are ∙ length-inverse os ∙ permuted .1
 
   pub places-low : v ≤ 64 → Below 64 ps
   places-low few i l =
-      let li : i < length os = omega (arith, places-long, permutes .1) in
-      let (at, e) = place-found i os 0 (permutation-has os (permutes .0) i .1 li) in
-      omega (arith, ap (λ (xs : List ℕ). getD xs i 0) places-are, inverse-at os i li, permutes .1)
+      let li : i < length os = omega (arith, places-long, permuted .1) in
+      let (at, e) = place-found i os 0 (permutation-has os (permuted .0) i .1 li) in
+      omega (arith, ap (λ (xs : List ℕ). getD xs i 0) places-are, inverse-at os i li, permuted .1)
 
   pub places-rows : (w : ℕ) → w < v → v ≤ 64 → keep (inBandAt ps w) (below (triangle (length ps))) ≡ bandRows (drawnOrdering seed v) v w
   places-rows w l few =
       rw (places-long, places-are)
-      (sym (band-rows-by os v w l (permutes .0) (permutes .1) (omega arith)) ∙ ap (λ (xs : List ℕ). bandRows xs v w) drawn)
+      (sym (band-rows-by os v w l (permuted .0) (permuted .1) (omega arith)) ∙ ap (λ (xs : List ℕ). bandRows xs v w) drawn)

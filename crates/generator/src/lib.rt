@@ -14,6 +14,7 @@ ghost use Rattle.generator.specs.Lengths.{lengthsOf};
 ghost use Rattle.layout.specs.Calls.Tables.{tables};
 ghost use Rattle.layout.specs.Calls.GenerateSizes.{GenerateSizes};
 ghost use Rattle.layout.specs.Calls.Generate.{Generate};
+use constants::refusal;
 
 const PSD_TRIANGLE: u32 = 6;
 
@@ -39,7 +40,7 @@ fn draw_band(
     ensures { λ _. ⌜ now (rows .exit) ≡ written (bandRows (drawnOrdering seed (length (now (ordering .entry)))) (length (now (ordering .entry))) w) (now (rows .entry)) ⌝ }
 {
     let state = draws::draw_ordering(seed, &mut *ordering);
-    utils::inverse(&*ordering, &mut *places);
+    utils::scatter(&*ordering, &mut *places);
     let count = band::cover_rows(&*places, w, rows);
     RowsDraw { count, state }
 }
@@ -67,7 +68,7 @@ fn count_columns(s: u64, rows: &[u32], n: u32) -> u32
     let mut entries = 0;
     let mut c = 0;
     while c < n {
-        let d = draws::count_column(state, rows);
+        let d = drawn_columns::count_column(state, rows);
         state = d.state;
         entries += d.count as u32;
         c += 1;
@@ -96,7 +97,12 @@ fn write_columns(
     let mut at = 0;
     let mut c = 0;
     while c < n {
-        let d = draws::write_column(state, rows, &mut rows_out[at..], &mut values_out[at..]);
+        let d = drawn_columns::write_column(
+            state,
+            rows,
+            &mut rows_out[at..],
+            &mut values_out[at..],
+        );
         state = d.state;
         at += d.count;
         c += 1;
@@ -142,10 +148,10 @@ pub fn generate_sizes(seed: u64, v: u32, w: u32, n: u32, out: &mut [u32]) -> u32
     ensures { λ r. ⌜ GenerateSizes seed v w n (now (out .entry)) (now (out .exit)) r ⌝ }
 {
     if !draws::in_ranges(seed, v, w, n) {
-        return 15;
+        return refusal::RANGES;
     }
     if out.len() < 11 {
-        return 11;
+        return refusal::SHORT;
     }
     let mut rows = [0u32; 2080];
     let entries = count_entries(seed, v, w, n, &mut rows);

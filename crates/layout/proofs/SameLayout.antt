@@ -1,5 +1,5 @@
--- Two problems with the same layout: what is compared is equal, and where a route accepts both, the augmented problems agree in
--- all but values.
+-- Two problems with the same layout: what is compared is equal, checks 1 to 7 read little besides, and where a route accepts both, the
+-- augmented problems agree in all but values.
 use Prim.Native.Nat.{ℕ, zero, suc}
 use mathlib.Core.Path.{_≡_, refl, sym, ap, subst, _∙_}
 use mathlib.Core.Bool.{Bool, _&&_}
@@ -8,15 +8,16 @@ use lib.ListN.{length, replicate}
 use lib.Dec.{T, eqb, eqb→eq}
 use lib.Ieee.{nan}
 use Rattle.layout.specs.Lists.{all, sameBy, sameNumbers, join}
-use Rattle.layout.specs.Problem.{Problem, Csc, Route, standard, compact}
+use Rattle.layout.specs.Problem.{Problem, Csc, Route, standard, compact, problem}
 use Rattle.layout.specs.Cones.{records}
 use Rattle.layout.specs.Patterns.{Pattern, Read, read, short, andThen, readPattern, readPatterns, endsRight, patterns}
 use Rattle.layout.specs.Blocks.{Part, parts, blockRowCount, overlapCount}
 use Rattle.layout.specs.Checks.{originsRise, namesItsCone, orderingsRight, layout, refusal}
 use Rattle.layout.specs.Compact.{summedA, compactPart, coneMap, mapWords, extendedP}
 use Rattle.layout.specs.Standard.{standardPart}
-use Rattle.layout.specs.Answers.{augmented, sameBits, samePlaces, sameLayout, SameAugmented}
+use Rattle.layout.specs.Answers.{augmented, problemRefusal, sameBits, samePlaces, sameLayout, SameAugmented}
 use Rattle.layout.proofs.Tests.{and-iff}
+use Rattle.layout.proofs.Lengths.{refusal-lengths}
 use Rattle.layout.proofs.Accepted.{accepted-sound}
 use Rattle.layout.proofs.Columns.{right-A, right-P}
 use Rattle.layout.proofs.Repeats.{right-summed}
@@ -30,6 +31,44 @@ pub places-equal : (M N : Csc) → T (samePlaces M N) → SamePlaces M N
 places-equal M N h =
     let (s, r) = and-iff (sameNumbers (M .starts) (N .starts)) (sameNumbers (M .rows) (N .rows)) .0 h in
     (numbers-equal (M .starts) (N .starts) s, numbers-equal (M .rows) (N .rows) r)
+
+module _ (p q : Problem) (same : T (sameLayout p q)) where
+  compared : (p .n ≡ q .n) × (p .m ≡ q .m) × (p .cones ≡ q .cones) × (p .patternWords ≡ q .patternWords)
+      × T (sameBy sameBits (p .alphas) (q .alphas)) × SamePlaces (p .A) (q .A) × SamePlaces (p .P) (q .P)
+  compared =
+      let n : Bool = eqb (p .n) (q .n) in
+      let m : Bool = eqb (p .m) (q .m) in
+      let cones : Bool = sameNumbers (p .cones) (q .cones) in
+      let words : Bool = sameNumbers (p .patternWords) (q .patternWords) in
+      let alphas : Bool = sameBy sameBits (p .alphas) (q .alphas) in
+      let (to-A, placesP) = and-iff (n && m && cones && words && alphas && samePlaces (p .A) (q .A)) (samePlaces (p .P) (q .P)) .0 same in
+      let (to-α, placesA) = and-iff (n && m && cones && words && alphas) (samePlaces (p .A) (q .A)) .0 to-A in
+      let (to-w, α) = and-iff (n && m && cones && words) alphas .0 to-α in
+      let (to-c, w) = and-iff (n && m && cones) words .0 to-w in
+      let (to-m, c) = and-iff (n && m) cones .0 to-c in
+      let (en, em) = and-iff n m .0 to-m in (
+        eqb→eq (p .n) (q .n) en,
+        eqb→eq (p .m) (q .m) em,
+        numbers-equal (p .cones) (q .cones) c,
+        numbers-equal (p .patternWords) (q .patternWords) w,
+        α,
+        places-equal (p .A) (q .A) placesA,
+        places-equal (p .P) (q .P) placesP,
+      )
+
+  α-count : length (p .alphas) ≡ length (q .alphas)
+  α-count = same-at sameBits nan (p .alphas) (q .alphas) .0 (compared .4) .0
+
+  -- as many patterns and values are all that checks 1 to 7 read besides
+  pub checked-alike : p .patternCount ≡ q .patternCount → length (p .P .values) ≡ length (q .P .values) → length (p .q) ≡ length (q .q)
+      → length (p .A .values) ≡ length (q .A .values) → length (p .b) ≡ length (q .b) → problemRefusal p ≡ problemRefusal q
+  checked-alike count valuesP costs valuesA sides =
+      let e = compared in
+      refusal-lengths (p .n) (p .m) (p .P .starts) (p .P .rows) (p .P .values) (q .P .values) (p .q) (q .q) (p .A .starts) (p .A .rows)
+      (p .A .values) (q .A .values) (p .b) (q .b) (p .cones) (p .alphas) (q .alphas) (p .patternCount) (p .patternWords)
+      valuesP costs valuesA sides α-count
+      ∙ (λ i. problemRefusal (problem (e .0 i) (e .1 i) (e .6 .0 i) (e .6 .1 i) (q .P .values) (q .q) (e .5 .0 i) (e .5 .1 i)
+      (q .A .values) (q .b) (e .2 i) (q .alphas) (count i) (e .3 i)))
 
 -- words that end right have one count of patterns
 ends : {A B : Type 0} (f : A → B) (r : Read A) → T (endsRight (andThen r (λ a left. read (f a) left))) → T (endsRight r)
@@ -56,29 +95,6 @@ count-told (suc j) (suc k) ws h l = ap suc (go (readPattern ws) h l (λ rest a b
 -- ---- the cuts of two problems with the same layout, both accepted
 
 module _ (route : Route) (p q : Problem) (same : T (sameLayout p q)) (okp : refusal route p ≡ 0) (okq : refusal route q ≡ 0) where
-  compared : (p .n ≡ q .n) × (p .m ≡ q .m) × (p .cones ≡ q .cones) × (p .patternWords ≡ q .patternWords)
-      × T (sameBy sameBits (p .alphas) (q .alphas)) × SamePlaces (p .A) (q .A) × SamePlaces (p .P) (q .P)
-  compared =
-      let n : Bool = eqb (p .n) (q .n) in
-      let m : Bool = eqb (p .m) (q .m) in
-      let cones : Bool = sameNumbers (p .cones) (q .cones) in
-      let words : Bool = sameNumbers (p .patternWords) (q .patternWords) in
-      let alphas : Bool = sameBy sameBits (p .alphas) (q .alphas) in
-      let (to-A, placesP) = and-iff (n && m && cones && words && alphas && samePlaces (p .A) (q .A)) (samePlaces (p .P) (q .P)) .0 same in
-      let (to-α, placesA) = and-iff (n && m && cones && words && alphas) (samePlaces (p .A) (q .A)) .0 to-A in
-      let (to-w, α) = and-iff (n && m && cones && words) alphas .0 to-α in
-      let (to-c, w) = and-iff (n && m && cones) words .0 to-w in
-      let (to-m, c) = and-iff (n && m) cones .0 to-c in
-      let (en, em) = and-iff n m .0 to-m in (
-        eqb→eq (p .n) (q .n) en,
-        eqb→eq (p .m) (q .m) em,
-        numbers-equal (p .cones) (q .cones) c,
-        numbers-equal (p .patternWords) (q .patternWords) w,
-        α,
-        places-equal (p .A) (q .A) placesA,
-        places-equal (p .P) (q .P) placesP,
-      )
-
   ended : (p : Problem) → refusal route p ≡ 0 → T (endsRight (readPatterns (p .patternCount) (p .patternWords)))
   ended p ok =
       let ps = patterns (p .patternCount) (p .patternWords) in
@@ -91,33 +107,30 @@ module _ (route : Route) (p q : Problem) (same : T (sameLayout p q)) (okp : refu
   counts : p .patternCount ≡ q .patternCount
   counts =
       count-told (p .patternCount) (q .patternCount) (p .patternWords) (ended p okp)
-      (subst (λ (ws : List ℕ). T (endsRight (readPatterns (q .patternCount) ws))) (sym (compared .3)) (ended q okq))
+      (subst (λ (ws : List ℕ). T (endsRight (readPatterns (q .patternCount) ws))) (sym (compared p q same .3)) (ended q okq))
 
   pub same-parts : layout p ≡ layout q
-  same-parts = λ i. parts (records (compared .2 i)) (patterns (counts i) (compared .3 i))
+  same-parts = λ i. parts (records (compared p q same .2 i)) (patterns (counts i) (compared p q same .3 i))
 
   -- as many entries: check 2 asks for as many values as rows
   entries : (length (p .A .values) ≡ length (q .A .values)) × (length (p .P .values) ≡ length (q .P .values))
   entries = (
-    sym (right-A route p okp .even) ∙ ap length (compared .5 .1) ∙ right-A route q okq .even,
-    sym (right-P route p okp .even) ∙ ap length (compared .6 .1) ∙ right-P route q okq .even,
+    sym (right-A route p okp .even) ∙ ap length (compared p q same .5 .1) ∙ right-A route q okq .even,
+    sym (right-P route p okp .even) ∙ ap length (compared p q same .6 .1) ∙ right-P route q okq .even,
   )
 
   summed-entries : length (summedA p .values) ≡ length (summedA q .values)
   summed-entries =
-      sym (right-summed p .even) ∙ ap length (summed-same p q (compared .0) (compared .5) .1) ∙ right-summed q .even
-
-  α-count : length (p .alphas) ≡ length (q .alphas)
-  α-count = same-at sameBits nan (p .alphas) (q .alphas) .0 (compared .4) .0
+      sym (right-summed p .even) ∙ ap length (summed-same p q (compared p q same .0) (compared p q same .5) .1) ∙ right-summed q .even
 
   -- P with as many empty columns more
   extended-same : (k : List Part → ℕ) → SamePlaces (extendedP (k (layout p)) (p .P)) (extendedP (k (layout q)) (q .P))
-  extended-same k = (λ i. compared .6 .0 i ++ replicate (k (same-parts i)) (entries .1 i), compared .6 .1)
+  extended-same k = (λ i. compared p q same .6 .0 i ++ replicate (k (same-parts i)) (entries .1 i), compared p q same .6 .1)
 
 same-compact : (p q : Problem) → T (sameLayout p q) → refusal compact p ≡ 0 → refusal compact q ≡ 0
     → SameAugmented (augmented compact p) (augmented compact q)
 same-compact p q same okp okq =
-    let e = compared compact p q same okp okq in
+    let e = compared p q same in
     let l = same-parts compact p q same okp okq in
     let k = entries compact p q same okp okq in
     let places = compact-same p q (e .0) l (e .5) in
@@ -132,14 +145,14 @@ same-compact p q same okp okq =
       rowsP = P .1;
       lengths =
           compact-sizes p okp
-          ∙ (λ i. compactSizes (e .0 i) (k .1 i) (summed-entries compact p q same okp okq i) (α-count compact p q same okp okq i) (l i))
+          ∙ (λ i. compactSizes (e .0 i) (k .1 i) (summed-entries compact p q same okp okq i) (α-count p q same i) (l i))
           ∙ sym (compact-sizes q okq);
     }
 
 same-standard : (p q : Problem) → T (sameLayout p q) → refusal standard p ≡ 0 → refusal standard q ≡ 0
     → SameAugmented (augmented standard p) (augmented standard q)
 same-standard p q same okp okq =
-    let e = compared standard p q same okp okq in
+    let e = compared p q same in
     let l = same-parts standard p q same okp okq in
     let k = entries standard p q same okp okq in
     let places = standard-same p q (e .0) l (e .5) (e .1) in
@@ -153,7 +166,7 @@ same-standard p q same okp okq =
       startsP = P .0;
       rowsP = P .1;
       lengths =
-          standard-sizes p okp ∙ (λ i. standardSizes (e .0 i) (e .1 i) (k .1 i) (k .0 i) (α-count standard p q same okp okq i) (l i))
+          standard-sizes p okp ∙ (λ i. standardSizes (e .0 i) (e .1 i) (k .1 i) (k .0 i) (α-count p q same i) (l i))
           ∙ sym (standard-sizes q okq);
     }
 

@@ -15,6 +15,7 @@ ghost use Rattle.codes.specs.Codes.{cutCode};
 ghost use Rattle.overlaps.specs.Tables.{AllFound, sizeHere, FirstRows, Tied, tiedHere, codesHere, Ready, Coded};
 use blocks::clique_rows;
 use blocks::clique_vertices;
+use constants::scratch;
 use parent_rows::code_block;
 use parent_rows::note_places;
 use supernode_tree::Clique;
@@ -67,9 +68,9 @@ fn tied_rows(
     ensures { λ r. ⌜ r ≡ length (tiedHere base start (now (words .entry)) (now (ordering .entry)) parent at) ⌝ }
     ensures { λ _. ⌜ now (out .exit) ≡ written (tiedHere base start (now (words .entry)) (now (ordering .entry)) parent at) (now (out .entry)) ⌝ }
 {
-    let mut vertices = [0u32; 256];
+    let mut vertices = [0u32; scratch::VERTICES];
     let n = clique_vertices(words, ordering, parent, &mut vertices);
-    let mut places = [0u32; 256];
+    let mut places = [0u32; scratch::VERTICES];
     note_places(&vertices[..n], &mut places);
     let k = clique_vertices(words, ordering, at, &mut vertices);
     code_block(out, &vertices[..k], &places, base, start)
@@ -155,7 +156,7 @@ fn block_codes(
     requires { ⌜ Ready base first (now words) (now ordering) (now offsets) (length (now out)) ⌝ }
     ensures { λ r. ⌜ Coded base first (now (words .entry)) (now (ordering .entry)) (now (offsets .entry)) r (now (out .entry)) (now (out .exit)) ⌝ }
 {
-    let mut starts = [0u32; 256];
+    let mut starts = [0u32; scratch::VERTICES];
     first_rows(words, offsets, first, &mut starts);
     codes_down(words, ordering, offsets, &starts, base, out)
 }
@@ -175,7 +176,7 @@ pub fn compact_pattern_rows(
     ensures { λ _. ⌜ now (out .exit) ≡ written (map cutCode (patternRows (patternAt (now (words .entry)) at) base first)) (now (out .entry)) ⌝ }
 {
     let p = Pattern::here(words, at);
-    let mut offsets = [0usize; 256];
+    let mut offsets = [0usize; scratch::VERTICES];
     clique_offsets(words, p.cliques, p.clique_count, &mut offsets);
     let a = p.ordering;
     let e = p.cliques;

@@ -12,6 +12,7 @@ ghost use Rattle.layout.specs.Blocks.{pairs};
 ghost use Rattle.blocks.specs.Columns.{columnPairs, ColumnsFit};
 ghost use Rattle.parent_rows.specs.Places.{Places, Climbing, placeCode, tiedEntry};
 use blocks::row_column;
+use codes::FIRST_OVERLAP;
 
 // ---- places in the parent's block
 
@@ -70,7 +71,7 @@ fn tied_column(out: &mut [u32], vertices: &[u32], places: &[u32], j: usize, base
     }
     let row = base + c * (c + 1) / 2;
     let place = noted - 1;
-    let tied = 65536 + start + place * (place + 1) / 2;
+    let tied = FIRST_OVERLAP + start + place * (place + 1) / 2;
     tied_entries(out, vertices, places, j, row, tied);
 }
 

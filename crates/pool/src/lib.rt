@@ -11,6 +11,8 @@ ghost use Rattle.layout.specs.Pool.{poolRefusal};
 ghost use Rattle.layout.specs.Calls.Tables.{tables};
 ghost use Rattle.layout.specs.Calls.Pool.{Pool};
 ghost use Rattle.pool.specs.Refusals.{secondRefusal, bothRefusal};
+use constants::limit;
+use constants::refusal;
 
 // ---- refusals
 
@@ -19,9 +21,9 @@ fn compare_unknowns(n: u32, n2: u32) -> u32
     ensures { λ r. ⌜ r ≡ cond (eqb n n2) 0 17 ⌝ }
 {
     if n != n2 {
-        return 17;
+        return refusal::UNKNOWNS;
     }
-    0
+    refusal::DONE
 }
 
 // Makes checks 1 to 7 of the second problem, then compares its unknowns with the `n` of the first. Returns the number of the first check
@@ -64,7 +66,7 @@ fn check_second(
         words2,
     );
     let compared = compare_unknowns(n, n2);
-    if checked != 0 {
+    if checked != refusal::DONE {
         return checked;
     }
     compared
@@ -123,7 +125,7 @@ fn check_both(
         count,
         words,
     );
-    if first != 0 {
+    if first != refusal::DONE {
         return first;
     }
     check_second(
@@ -158,13 +160,13 @@ fn bounded(
     requires { ⌜ (m ≤ 65536) × (m2 ≤ 65536) × (length (records (now cones)) ≤ 1024) × (length (records (now cones2)) ≤ 1024) ⌝ }
     ensures { λ r. ⌜ r ≡ (leb (m + m2) 65536 && leb (length (now («a_values» .entry)) + length (now («a_values2» .entry))) 262144 && leb (length (records (now (cones .entry))) + length (records (now (cones2 .entry)))) 1024) ⌝ }
 {
-    if 65536 < m + m2 {
+    if limit::ROWS < m + m2 {
         return false;
     }
-    if 262144 < a_values.len() + a_values2.len() {
+    if limit::ENTRIES < a_values.len() + a_values2.len() {
         return false;
     }
-    supportedcone::record_count(cones) + supportedcone::record_count(cones2) <= 1024
+    supportedcone::record_count(cones) + supportedcone::record_count(cones2) <= limit::CONES
 }
 
 // Adds up the lengths of `xs` and `ys`. Returns the sum.
@@ -188,14 +190,14 @@ fn check_rooms(needs: &[usize], rooms: &[usize]) -> u32
     let mut i = 0;
     while i < needs.len() {
         if rooms.len() <= i {
-            return 11;
+            return refusal::SHORT;
         }
         if rooms[i] < needs[i] {
-            return 11;
+            return refusal::SHORT;
         }
         i += 1;
     }
-    0
+    refusal::DONE
 }
 
 // Makes all checks of the call for outputs with these `rooms`; the pool is not written, since its sizes are sums. Returns the refusal
@@ -266,11 +268,11 @@ fn refuse(
         count2,
         words2,
     );
-    if both != 0 {
+    if both != refusal::DONE {
         return both;
     }
     if !bounded(m, a_values, cones, m2, a_values2, cones2) {
-        return 1;
+        return refusal::BOUND;
     }
     let needs = [
         p_starts.len(),
@@ -384,7 +386,7 @@ pub fn pool(
         words2,
         &rooms,
     );
-    if refused != 0 {
+    if refused != refusal::DONE {
         return refused;
     }
     pool_tables::copy_matrix(
@@ -424,5 +426,5 @@ pub fn pool(
         alphas_out,
         pattern_words_out,
     );
-    0
+    refusal::DONE
 }

@@ -562,7 +562,7 @@ fn tell_cut<'a>(
     let mut cones_out = [BEFORE; 32];
     let mut alphas_out = [BEFORE_VALUE; 32];
     let mut map_out = [BEFORE; 32];
-    let answer = door::chordal_cut(
+    let answer = cut_on_route::cut(
         route,
         N,
         M,

@@ -4,13 +4,15 @@
 //
 // A further family is a number with its call, a line of numbers_and_patterns or main and one of stdout, and a
 // function that makes its answers.
-use libc::STDOUT_FILENO;
+use stored::cut_answer;
+use stored::holds;
 use stored::item;
 use stored::load_values;
 use stored::load_words;
-use stored::same_values;
-use stored::same_words;
+use stored::report;
+use stored::value_item;
 use stored::values_at;
+use stored::values_hold;
 use stored::values_room;
 use stored::word;
 use stored::words_at;
@@ -21,34 +23,6 @@ use stored::words_room;
 // also says how much room the call is given.
 //
 // The lists that a function is lent have one lifetime, and a proof then follows one loan.
-
-// ---- the room of an output, and what it holds after a call
-
-// No call answers this number: an output does not hold what is stored.
-const DIFFERS: u32 = 4294967295;
-
-// A call's answer, where its output holds list k.
-fn holds(answer: u32, words: &[u32], k: u8, out: [u32; 4096]) -> u32 {
-    if same_words(&out, words_at(words, k)) {
-        answer
-    } else {
-        DIFFERS
-    }
-}
-
-fn values_hold<'a>(
-    answer: u32,
-    words: &'a [u32],
-    values: &'a [f64],
-    k: u8,
-    out: [f64; 4096],
-) -> u32 {
-    if same_values(&out, values_at(words, values, k)) {
-        answer
-    } else {
-        DIFFERS
-    }
-}
 
 // ---- the calls on numbers and patterns
 
@@ -179,127 +153,7 @@ fn sizes<'a>(
     holds(r, words, 8, out)
 }
 
-// The cut's answer, where the outputs hold what is stored.
-fn cut_answer<'a>(
-    answer: u32,
-    words: &'a [u32],
-    values: &'a [f64],
-    p_starts: [u32; 4096],
-    p_rows: [u32; 4096],
-    p_values: [f64; 4096],
-    q: [f64; 4096],
-    a_starts: [u32; 4096],
-    a_rows: [u32; 4096],
-    a_values: [f64; 4096],
-    b: [f64; 4096],
-    cones: [u32; 4096],
-    alphas: [f64; 4096],
-    map: [u32; 4096],
-) -> u32 {
-    let mut r = answer;
-    r = holds(r, words, 8, p_starts);
-    r = holds(r, words, 9, p_rows);
-    r = values_hold(r, words, values, 21, p_values);
-    r = values_hold(r, words, values, 22, q);
-    r = holds(r, words, 10, a_starts);
-    r = holds(r, words, 11, a_rows);
-    r = values_hold(r, words, values, 23, a_values);
-    r = values_hold(r, words, values, 24, b);
-    r = holds(r, words, 12, cones);
-    r = values_hold(r, words, values, 25, alphas);
-    r = holds(r, words, 13, map);
-    r
-}
-
-// The cut on a route, or of many sides.
-fn call_cut<'a>(
-    family: u8,
-    given: &'a [u32],
-    p_starts: &'a [u32],
-    p_rows: &'a [u32],
-    p_values: &'a [f64],
-    q: &'a [f64],
-    a_starts: &'a [u32],
-    a_rows: &'a [u32],
-    a_values: &'a [f64],
-    b: &'a [f64],
-    cones: &'a [u32],
-    alphas: &'a [f64],
-    pattern: &'a [u32],
-    p_starts_out: &mut [u32],
-    p_rows_out: &mut [u32],
-    p_values_out: &mut [f64],
-    q_out: &mut [f64],
-    a_starts_out: &mut [u32],
-    a_rows_out: &mut [u32],
-    a_values_out: &mut [f64],
-    b_out: &mut [f64],
-    cones_out: &mut [u32],
-    alphas_out: &mut [f64],
-    map_out: &mut [u32],
-) -> u32 {
-    match family {
-        CUT => door::chordal_cut(
-            item(given, 0),
-            item(given, 1),
-            item(given, 2),
-            p_starts,
-            p_rows,
-            p_values,
-            q,
-            a_starts,
-            a_rows,
-            a_values,
-            b,
-            cones,
-            alphas,
-            item(given, 3),
-            pattern,
-            p_starts_out,
-            p_rows_out,
-            p_values_out,
-            q_out,
-            a_starts_out,
-            a_rows_out,
-            a_values_out,
-            b_out,
-            cones_out,
-            alphas_out,
-            map_out,
-        ),
-        _ => door::chordal_cut_many(
-            item(given, 0),
-            item(given, 1),
-            item(given, 2),
-            p_starts,
-            p_rows,
-            p_values,
-            q,
-            a_starts,
-            a_rows,
-            a_values,
-            b,
-            cones,
-            alphas,
-            item(given, 3),
-            pattern,
-            p_starts_out,
-            p_rows_out,
-            p_values_out,
-            q_out,
-            a_starts_out,
-            a_rows_out,
-            a_values_out,
-            b_out,
-            cones_out,
-            alphas_out,
-            map_out,
-        ),
-    }
-}
-
 fn cut<'a>(
-    family: u8,
     given: &'a [u32],
     p_starts: &'a [u32],
     p_rows: &'a [u32],
@@ -326,9 +180,10 @@ fn cut<'a>(
     let mut cones_out = [0u32; 4096];
     let mut alphas_out = [0f64; 4096];
     let mut map_out = [0u32; 4096];
-    let r = call_cut(
-        family,
-        given,
+    let r = cut_on_route::cut(
+        item(given, 0),
+        item(given, 1),
+        item(given, 2),
         p_starts,
         p_rows,
         p_values,
@@ -339,6 +194,81 @@ fn cut<'a>(
         b,
         cones,
         alphas,
+        item(given, 3),
+        pattern,
+        words_room(&mut p_starts_out, words, 8),
+        words_room(&mut p_rows_out, words, 9),
+        values_room(&mut p_values_out, words, values, 21),
+        values_room(&mut q_out, words, values, 22),
+        words_room(&mut a_starts_out, words, 10),
+        words_room(&mut a_rows_out, words, 11),
+        values_room(&mut a_values_out, words, values, 23),
+        values_room(&mut b_out, words, values, 24),
+        words_room(&mut cones_out, words, 12),
+        values_room(&mut alphas_out, words, values, 25),
+        words_room(&mut map_out, words, 13),
+    );
+    cut_answer(
+        r,
+        words,
+        values,
+        p_starts_out,
+        p_rows_out,
+        p_values_out,
+        q_out,
+        a_starts_out,
+        a_rows_out,
+        a_values_out,
+        b_out,
+        cones_out,
+        alphas_out,
+        map_out,
+    )
+}
+
+// The first number is how many sides there are, and b has one after another.
+fn cut_many<'a>(
+    given: &'a [u32],
+    p_starts: &'a [u32],
+    p_rows: &'a [u32],
+    p_values: &'a [f64],
+    q: &'a [f64],
+    a_starts: &'a [u32],
+    a_rows: &'a [u32],
+    a_values: &'a [f64],
+    b: &'a [f64],
+    cones: &'a [u32],
+    alphas: &'a [f64],
+    pattern: &'a [u32],
+    words: &'a [u32],
+    values: &'a [f64],
+) -> u32 {
+    let mut p_starts_out = [0u32; 4096];
+    let mut p_rows_out = [0u32; 4096];
+    let mut p_values_out = [0f64; 4096];
+    let mut q_out = [0f64; 4096];
+    let mut a_starts_out = [0u32; 4096];
+    let mut a_rows_out = [0u32; 4096];
+    let mut a_values_out = [0f64; 4096];
+    let mut b_out = [0f64; 4096];
+    let mut cones_out = [0u32; 4096];
+    let mut alphas_out = [0f64; 4096];
+    let mut map_out = [0u32; 4096];
+    let r = cut_with_sides::cut_many(
+        item(given, 0),
+        item(given, 1),
+        item(given, 2),
+        p_starts,
+        p_rows,
+        p_values,
+        q,
+        a_starts,
+        a_rows,
+        a_values,
+        b,
+        cones,
+        alphas,
+        item(given, 3),
         pattern,
         words_room(&mut p_starts_out, words, 8),
         words_room(&mut p_rows_out, words, 9),
@@ -399,7 +329,7 @@ fn cut_between<'a>(
     let mut cones_out = [0u32; 4096];
     let mut alphas_out = [0f64; 4096];
     let mut map_out = [0u32; 4096];
-    let r = door::chordal_cut_between(
+    let r = cut_with_limits::cut_between(
         item(given, 0),
         item(given, 1),
         p_starts,
@@ -528,8 +458,23 @@ fn call_on_problem<'a>(
             words,
             values,
         ),
-        _ => cut(
-            family,
+        CUT => cut(
+            given,
+            p_starts,
+            p_rows,
+            p_values,
+            q,
+            a_starts,
+            a_rows,
+            a_values,
+            b,
+            cones,
+            alphas,
+            pattern,
+            words,
+            values,
+        ),
+        _ => cut_many(
             given,
             p_starts,
             p_rows,
@@ -569,34 +514,80 @@ fn on_problem<'a>(family: u8, words: &'a [u32], values: &'a [f64]) -> u32 {
     )
 }
 
-// ---- the joining
+// ---- the calls on a solution
 
 const JOIN: u8 = 8;
 
-// The number at a place of a list, or 0.
-fn value(list: &[f64], i: usize) -> f64 {
-    if i < list.len() { list[i] } else { 0.0 }
+const CHANGE_ROUTE: u8 = 12;
+
+// The joining on a route, or the change of route, which looks at no route and no map.
+fn call_on_solution<'a>(
+    family: u8,
+    given: &'a [u32],
+    cones: &'a [u32],
+    pattern: &'a [u32],
+    x: &'a [f64],
+    s: &'a [f64],
+    z: &'a [f64],
+    scalars: &'a [f64],
+    map: &'a [u32],
+    x_out: &mut [f64],
+    s_out: &mut [f64],
+    z_out: &mut [f64],
+    scalars_out: &mut [f64],
+) -> u32 {
+    match family {
+        JOIN => decomp_reverse::join(
+            item(given, 0),
+            item(given, 1),
+            item(given, 2),
+            cones,
+            item(given, 3),
+            pattern,
+            x,
+            s,
+            z,
+            value_item(scalars, 0),
+            value_item(scalars, 1),
+            map,
+            x_out,
+            s_out,
+            z_out,
+            scalars_out,
+        ),
+        _ => change_route::change_route(
+            item(given, 1),
+            item(given, 2),
+            cones,
+            item(given, 3),
+            pattern,
+            x,
+            s,
+            z,
+            value_item(scalars, 0),
+            value_item(scalars, 1),
+            x_out,
+            s_out,
+            z_out,
+            scalars_out,
+        ),
+    }
 }
 
-fn join<'a>(words: &'a [u32], values: &'a [f64]) -> u32 {
+fn on_solution<'a>(family: u8, words: &'a [u32], values: &'a [f64]) -> u32 {
     let mut x = [0f64; 4096];
     let mut s = [0f64; 4096];
     let mut z = [0f64; 4096];
     let mut both = [0f64; 4096];
-    let given = words_at(words, 0);
-    let scalars = values_at(words, values, 19);
-    let mut r = decomp_reverse::join(
-        item(given, 0),
-        item(given, 1),
-        item(given, 2),
+    let mut r = call_on_solution(
+        family,
+        words_at(words, 0),
         words_at(words, 2),
-        item(given, 3),
         words_at(words, 3),
         values_at(words, values, 16),
         values_at(words, values, 17),
         values_at(words, values, 18),
-        value(scalars, 0),
-        value(scalars, 1),
+        values_at(words, values, 19),
         words_at(words, 4),
         values_room(&mut x, words, values, 20),
         values_room(&mut s, words, values, 21),
@@ -628,7 +619,7 @@ fn pool<'a>(words: &'a [u32], values: &'a [f64], more: &'a [u32], more_values: &
     let mut alphas_out = [0f64; 4096];
     let mut pattern_out = [0u32; 4096];
     let given = words_at(words, 0);
-    let r = door::chordal_pool(
+    let r = pool::pool(
         item(given, 0),
         item(given, 1),
         words_at(words, 2),
@@ -693,8 +684,8 @@ fn pool<'a>(words: &'a [u32], values: &'a [f64], more: &'a [u32], more_values: &
 fn agrees<'a>(family: u8, answer: u8, words: &'a [u32], values: &'a [f64]) -> bool {
     let r = if family <= RENUMBER {
         on_pattern(family, words)
-    } else if family == JOIN {
-        join(words, values)
+    } else if family == JOIN || family == CHANGE_ROUTE {
+        on_solution(family, words, values)
     } else {
         on_problem(family, words, values)
     };
@@ -732,18 +723,6 @@ fn next_agrees(fd: i32, family: u8, answer: u8) -> bool {
     }
 }
 
-// A family's line: how many cases it has, or how many are equal before one that is not.
-fn report(name: &[u8], cases: u32, equal: u32) {
-    io::write_all(STDOUT_FILENO, name);
-    io::write_all(STDOUT_FILENO, b": ");
-    io::print_decimal(STDOUT_FILENO, equal as u64);
-    if equal == cases {
-        io::write_all(STDOUT_FILENO, b" cases, all equal\n");
-    } else {
-        io::write_all(STDOUT_FILENO, b" cases equal and the next one not\n");
-    }
-}
-
 // A family's cases up to the first that differs. Its answer is the first number of
 // a list of a case. A file that is missing has no case, which the line shows.
 fn replay(name: &[u8], family: u8, answer: u8) {
@@ -774,6 +753,7 @@ fn main() {
     replay(b"sizes", SIZES, 1);
     replay(b"cut", CUT, 1);
     replay(b"join", JOIN, 1);
+    replay(b"change_route", CHANGE_ROUTE, 1);
     replay(b"cut_between", CUT_BETWEEN, 1);
     replay(b"cut_many", CUT_MANY, 1);
     replay(b"pool", POOL, 1);

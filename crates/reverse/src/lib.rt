@@ -1,9 +1,9 @@
 // Whole solutions joined, on either route: the cones are walked in order, and each one's rows are joined by themselves.
 ghost use mathlib.Core.Path.{_≡_};
-ghost use mathlib.Core.Bool.{not, _||_};
+ghost use mathlib.Core.Bool.{not, _&&_, _||_};
 ghost use Prim.Native.Nat.{_≤_};
 ghost use lib.ListN.{length, take};
-ghost use lib.Dec.{leb};
+ghost use lib.Dec.{leb, ltb};
 ghost use Rattle.layout.specs.Lists.{written};
 ghost use Rattle.layout.specs.Answers.{joinedParts};
 ghost use Rattle.reverse_standard.specs.Routes.{Starts};
@@ -149,7 +149,67 @@ fn counts_few(standard: bool, m: u32) -> bool
     !standard || m <= 256
 }
 
+// Whether the standard route has more rows than 4,096 counts are for.
+fn many_rows(standard: bool, m: u32) -> bool
+    ensures { λ r. ⌜ r ≡ (standard && ltb 4096 m) ⌝ }
+{
+    standard && 4096 < m
+}
+
 // ---- s and z
+
+// s and z with counts for cones of any size. The compact route and small problems never enter the frame that these tables need: it is called from two
+// places, and does enough itself, so that the compiler gives it a frame of its own.
+fn with_more_counts(
+    standard: bool,
+    m: u32,
+    cones: &[u32],
+    count: u32,
+    words: &[u32],
+    map: &[u32],
+    s: &[f64],
+    z: &[f64],
+    s_out: &mut [f64],
+    z_out: &mut [f64],
+)
+    requires { ⌜ Joinable (routeOf standard) m (now cones) count (now words) (now s) (now z) ⌝ }
+    requires { ⌜ (m ≤ length (now «s_out»)) × (m ≤ length (now «z_out»)) ⌝ }
+    requires { ⌜ Starts standard (now map) 0 (firstOf standard m) (blockSizes (joinedParts (now cones) count (now words))) ⌝ }
+    ensures { λ _. ⌜ now («s_out» .exit) ≡ written (joinedOf (routeOf standard) m (now (cones .entry)) count (now (words .entry)) (now (s .entry)) (now (z .entry)) .s) (now («s_out» .entry)) ⌝ }
+    ensures { λ _. ⌜ now («z_out» .exit) ≡ written (joinedOf (routeOf standard) m (now (cones .entry)) count (now (words .entry)) (now (s .entry)) (now (z .entry)) .z) (now («z_out» .entry)) ⌝ }
+{
+    if rows_few(m, cones) {
+        let mut counts = [0u32; 4096];
+        join_parts(
+            standard,
+            m,
+            cones,
+            count,
+            words,
+            map,
+            s,
+            z,
+            s_out,
+            z_out,
+            &mut counts,
+        );
+        return;
+    }
+    let mut counts = [0u32; 32896];
+    join_parts(
+        standard,
+        m,
+        cones,
+        count,
+        words,
+        map,
+        s,
+        z,
+        s_out,
+        z_out,
+        &mut counts,
+    );
+}
 
 // Clarabel's `decomp_reverse_standard` and `decomp_reverse_compact`: s and z of a solution. The table of counts is as short as the cones allow, since it is
 // cleared first.
@@ -171,50 +231,26 @@ pub fn decomp_reverse(
     ensures { λ _. ⌜ now («s_out» .exit) ≡ written (joinedOf (routeOf standard) m (now (cones .entry)) count (now (words .entry)) (now (s .entry)) (now (z .entry)) .s) (now («s_out» .entry)) ⌝ }
     ensures { λ _. ⌜ now («z_out» .exit) ≡ written (joinedOf (routeOf standard) m (now (cones .entry)) count (now (words .entry)) (now (s .entry)) (now (z .entry)) .z) (now («z_out» .entry)) ⌝ }
 {
-    if counts_few(standard, m) {
-        let mut counts = [0u32; 256];
-        join_parts(
-            standard,
-            m,
-            cones,
-            count,
-            words,
-            map,
-            s,
-            z,
-            s_out,
-            z_out,
-            &mut counts,
-        );
-    } else if rows_few(m, cones) {
-        let mut counts = [0u32; 4096];
-        join_parts(
-            standard,
-            m,
-            cones,
-            count,
-            words,
-            map,
-            s,
-            z,
-            s_out,
-            z_out,
-            &mut counts,
-        );
-    } else {
-        let mut counts = [0u32; 32896];
-        join_parts(
-            standard,
-            m,
-            cones,
-            count,
-            words,
-            map,
-            s,
-            z,
-            s_out,
-            z_out,
-            &mut counts,
-        );
+    if many_rows(standard, m) {
+        with_more_counts(standard, m, cones, count, words, map, s, z, s_out, z_out);
+        return;
     }
+    if !counts_few(standard, m) {
+        with_more_counts(standard, m, cones, count, words, map, s, z, s_out, z_out);
+        return;
+    }
+    let mut counts = [0u32; 256];
+    join_parts(
+        standard,
+        m,
+        cones,
+        count,
+        words,
+        map,
+        s,
+        z,
+        s_out,
+        z_out,
+        &mut counts,
+    );
 }

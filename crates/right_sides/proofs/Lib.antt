@@ -1,4 +1,2 @@
 pub mod Laws
-pub mod Limits
-pub mod Many
 pub mod Written

@@ -33,13 +33,8 @@ use Rattle.codes.proofs.Rows.{accepted-inside}
 use Rattle.sparsevector.specs.Values.{codeValue}
 use Rattle.sparsevector.proofs.Rows.{compact-values}
 use Rattle.compact_constraints.proofs.Laws.{codes-count}
-use Rattle.right_sides.specs.Sides.{movedSides, withAnother}
-use Rattle.right_sides.proofs.Laws.{another-room}
-use Rattle.right_sides.proofs.Limits.{only-side}
-
-told : (t : Bool) (k : ℕ) → cond t 0 (suc k) ≡ 0 → T t
-told true k e = tt
-told false k e = absurd (omega arith)
+use Rattle.side_numbers.proofs.Laws.{told, another-room, only-side}
+use Rattle.right_sides.specs.Sides.{movedSides}
 
 -- ---- the rows of a problem that the compact route accepts
 

@@ -1,33 +1,10 @@
--- Right sides one after another, and the order of the checks with several of them. Definitions only.
-use Prim.Native.Nat.{ℕ, _+_, _*_, _≤_}
-use mathlib.Core.Bool.{cond}
-use mathlib.Core.List.{List, _∷_, _++_, map}
-use lib.ListN.{length, take, drop}
-use lib.Dec.{leb, eqb}
+-- Right sides one after another. Definitions only.
+use Prim.Native.Nat.{ℕ, _+_, _*_}
+use mathlib.Core.List.{List, map}
 use lib.Ieee.{Float}
 use Rattle.layout.specs.Lists.{below, join, part}
-use Rattle.layout.specs.Answers.{orElse}
-use Rattle.layout.specs.Between.{atMost}
-use Rattle.csc.specs.Matrix.{ColumnsInside}
 use Rattle.sparsevector.specs.Values.{codeValue}
 
 -- the values of each of count sides of m on the rows with these codes
 abbrev pub movedSides : ℕ → List ℕ → List Float → ℕ → List Float
 movedSides m codes sides count = join (λ k. map (codeValue (part (k * m) (k * m + m) sides)) codes) (below count)
-
--- the lengths or rooms of a cut's outputs, with those of another b after b's
-abbrev pub withAnother : ℕ → List ℕ → List ℕ
-withAnother k ks = take 8 ks ++ (k ∷ drop 8 ks)
-
--- what checks 1, 2 and 4 say of the entries of P, the α and A's columns
-abbrev pub TablesFew : ℕ → ℕ → ℕ → List ℕ → List ℕ → Type 0
-TablesFew n p alphas starts rows = (p ≤ 262144) × (alphas ≤ 65536) × ColumnsInside n starts rows × (length rows ≤ 262144)
-
--- checks 1 to 7 with limits, where those with low alone gave r
-abbrev pub limitsOrder : ℕ → ℕ → List Float → List Float → ℕ
-limitsOrder r m low high =
-    orElse (cond (leb r 4) r 0) (orElse (cond (eqb (length high) m) 0 4) (orElse (cond (atMost low high) 0 16) r))
-
--- checks 1 to 7 of count sides in a list of this size, where those of the first side alone gave r
-abbrev pub sidesOrder : ℕ → ℕ → ℕ → ℕ → ℕ
-sidesOrder r m count size = orElse (cond (leb r 3) r 0) (orElse (cond (eqb size (count * m)) 0 4) r)

@@ -7,6 +7,7 @@ ghost use Rattle.layout.specs.Problem.{problem};
 ghost use Rattle.layout.specs.Answers.{sameBits, sameLayout};
 ghost use Rattle.layout.specs.Calls.SameLayout.{SameLayout};
 ghost use Rattle.same_layout.specs.Compared.{compared};
+use constants::refusal;
 
 // The same numbers in the same order.
 pub fn same_numbers(xs: &[u32], ys: &[u32]) -> bool
@@ -139,7 +140,42 @@ pub fn word_of(yes: bool) -> u32
     0
 }
 
-// Writes 1 or 0. Checks 1 to 7 are made on the first problem wholly before the second, then 11.
+// Whether checks 1 to 7 answer the same of two problems by what they read: the `same` layout, and as many patterns and values.
+fn checked_alike(
+    same: bool,
+    count: u32,
+    p_values: usize,
+    q: usize,
+    a_values: usize,
+    b: usize,
+    count2: u32,
+    p_values2: usize,
+    q2: usize,
+    a_values2: usize,
+    b2: usize,
+) -> bool
+    ensures { λ r. ⌜ r ≡ (same && eqb count count2 && eqb «p_values» «p_values2» && eqb q q2 && eqb «a_values» «a_values2» && eqb b b2) ⌝ }
+{
+    if !same {
+        return false;
+    }
+    if count != count2 {
+        return false;
+    }
+    if p_values != p_values2 {
+        return false;
+    }
+    if q != q2 {
+        return false;
+    }
+    if a_values != a_values2 {
+        return false;
+    }
+    b == b2
+}
+
+// Writes 1 or 0. Checks 1 to 7 are made on the first problem wholly before the second, which need not be checked where they would read
+// what they read of the first; then 11.
 pub fn same_layout(
     n: u32,
     m: u32,
@@ -176,7 +212,7 @@ pub fn same_layout(
         let other = problem n2 m2 (now («p_starts2» .entry)) (now («p_rows2» .entry)) (now («p_values2» .entry)) (now (q2 .entry)) (now («a_starts2» .entry)) (now («a_rows2» .entry)) (now («a_values2» .entry)) (now (b2 .entry)) (now (cones2 .entry)) (now (alphas2 .entry)) count2 (now (words2 .entry)) in
         ⌜ SameLayout p other (now (out .entry)) (now (out .exit)) r ⌝ }
 {
-    let mut refusal = checks::check_problem(
+    let first = checks::check_problem(
         n,
         m,
         p_starts,
@@ -192,7 +228,43 @@ pub fn same_layout(
         count,
         words,
     );
-    if refusal == 0 {
+    if first != 0 {
+        return first;
+    }
+    let same = layouts_agree(
+        n,
+        m,
+        p_starts,
+        p_rows,
+        a_starts,
+        a_rows,
+        cones,
+        alphas,
+        words,
+        n2,
+        m2,
+        p_starts2,
+        p_rows2,
+        a_starts2,
+        a_rows2,
+        cones2,
+        alphas2,
+        words2,
+    );
+    let mut refusal = 0;
+    if !checked_alike(
+        same,
+        count,
+        p_values.len(),
+        q.len(),
+        a_values.len(),
+        b.len(),
+        count2,
+        p_values2.len(),
+        q2.len(),
+        a_values2.len(),
+        b2.len(),
+    ) {
         refusal = checks::check_problem(
             n2,
             m2,
@@ -210,31 +282,12 @@ pub fn same_layout(
             words2,
         );
     }
-    if refusal == 0 {
-        if out.len() < 1 {
-            refusal = 11;
-        } else {
-            out[0] = word_of(layouts_agree(
-                n,
-                m,
-                p_starts,
-                p_rows,
-                a_starts,
-                a_rows,
-                cones,
-                alphas,
-                words,
-                n2,
-                m2,
-                p_starts2,
-                p_rows2,
-                a_starts2,
-                a_rows2,
-                cones2,
-                alphas2,
-                words2,
-            ));
-        }
+    if refusal != 0 {
+        return refusal;
     }
-    refusal
+    if out.len() < 1 {
+        return refusal::SHORT;
+    }
+    out[0] = word_of(same);
+    0
 }

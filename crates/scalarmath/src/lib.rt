@@ -8,6 +8,8 @@ ghost use Prim.Native.Nat.{_+_, _*_, _≤_, _<_};
 ghost use Rattle.layout.specs.Triangle.{triangle, pairIndex, indexRow, indexColumn};
 ghost use Rattle.layout.specs.Calls.PairIndex.{PairIndex};
 ghost use Rattle.layout.specs.Calls.PairBack.{PairBack};
+use constants::limit;
+use constants::refusal;
 
 // The number of pairs i <= j < k, which is also where column k starts.
 pub fn triangular_number(k: u32) -> u32
@@ -67,31 +69,31 @@ pub fn upper_triangular_index_to_coord(index: u32) -> Coord
 pub fn pair_index(i: u32, j: u32, out: &mut [u32]) -> u32
     ensures { λ r. ⌜ PairIndex i j (now (out .entry)) (now (out .exit)) r ⌝ }
 {
-    if 255 < i {
-        return 1;
+    if limit::INDEX < i {
+        return refusal::BOUND;
     }
-    if 255 < j {
-        return 1;
+    if limit::INDEX < j {
+        return refusal::BOUND;
     }
     if out.len() < 1 {
-        return 11;
+        return refusal::SHORT;
     }
     out[0] = coord_to_upper_triangular_index(i, j);
-    0
+    refusal::DONE
 }
 
 // The public call: the row of the place index to out[0], its column to out[1].
 pub fn pair_back(index: u32, out: &mut [u32]) -> u32
     ensures { λ r. ⌜ PairBack index (now (out .entry)) (now (out .exit)) r ⌝ }
 {
-    if 32895 < index {
-        return 1;
+    if limit::PLACE < index {
+        return refusal::BOUND;
     }
     if out.len() < 2 {
-        return 11;
+        return refusal::SHORT;
     }
     let at = upper_triangular_index_to_coord(index);
     out[0] = at.row;
     out[1] = at.col;
-    0
+    refusal::DONE
 }

@@ -6,13 +6,14 @@ ghost use lib.ListN.{length};
 ghost use Rattle.layout.specs.Lists.{written};
 ghost use Rattle.codes.specs.Codes.{RowInside, RowsInside};
 ghost use Rattle.sparsevector.specs.Values.{codeValue};
+use codes::FIRST_OVERLAP;
 
 // The value on a row with this code: a zero of either sign becomes +0.0, a NaN is kept.
 pub fn code_value(code: u32, b: &[f64]) -> f64
     requires { ⌜ RowInside (length (now b)) code ⌝ }
     ensures { λ r. ⌜ r ≡ codeValue (now (b .entry)) code ⌝ }
 {
-    if code >= 65536 {
+    if code >= FIRST_OVERLAP {
         return 0.0;
     }
     let v = b[code as usize];

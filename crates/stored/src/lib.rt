@@ -14,6 +14,7 @@ ghost use lib.Ieee.{binary64, ofBits};
 ghost use Rattle.stored.specs.Lists.{listFrom, listEnd, listAt, wordsBefore, valuesBefore, CaseRoom};
 ghost use Rattle.layout.specs.Lists.{sameBy};
 ghost use Rattle.stored.specs.Same.{alikeValues};
+use libc::STDOUT_FILENO;
 
 // The number that all bytes but the last spell, up to 16 digits.
 fn number(text: &[u8]) -> u64 {
@@ -105,6 +106,11 @@ pub fn item(list: &[u32], i: usize) -> u32
     ensures { λ r. ⌜ r ≡ getD (now (list .entry)) i 0 ⌝ }
 {
     if i < list.len() { list[i] } else { 0 }
+}
+
+// The i-th number of a list of f64; 0 where there is none.
+pub fn value_item(list: &[f64], i: usize) -> f64 {
+    if i < list.len() { list[i] } else { 0.0 }
 }
 
 struct Span {
@@ -217,4 +223,76 @@ pub fn same_values(out: &[f64], list: &[f64]) -> bool
         k += 1;
     }
     true
+}
+
+// ---- whether a call leaves what is stored
+
+// No call answers this number: an output does not hold what is stored.
+const DIFFERS: u32 = 4294967295;
+
+// A call's answer, where its output holds list k.
+pub fn holds(answer: u32, words: &[u32], k: u8, out: [u32; 4096]) -> u32 {
+    if same_words(&out, words_at(words, k)) {
+        answer
+    } else {
+        DIFFERS
+    }
+}
+
+pub fn values_hold<'a>(
+    answer: u32,
+    words: &'a [u32],
+    values: &'a [f64],
+    k: u8,
+    out: [f64; 4096],
+) -> u32 {
+    if same_values(&out, values_at(words, values, k)) {
+        answer
+    } else {
+        DIFFERS
+    }
+}
+
+// The cut's answer, where the outputs hold what is stored.
+pub fn cut_answer<'a>(
+    answer: u32,
+    words: &'a [u32],
+    values: &'a [f64],
+    p_starts: [u32; 4096],
+    p_rows: [u32; 4096],
+    p_values: [f64; 4096],
+    q: [f64; 4096],
+    a_starts: [u32; 4096],
+    a_rows: [u32; 4096],
+    a_values: [f64; 4096],
+    b: [f64; 4096],
+    cones: [u32; 4096],
+    alphas: [f64; 4096],
+    map: [u32; 4096],
+) -> u32 {
+    let mut r = answer;
+    r = holds(r, words, 8, p_starts);
+    r = holds(r, words, 9, p_rows);
+    r = values_hold(r, words, values, 21, p_values);
+    r = values_hold(r, words, values, 22, q);
+    r = holds(r, words, 10, a_starts);
+    r = holds(r, words, 11, a_rows);
+    r = values_hold(r, words, values, 23, a_values);
+    r = values_hold(r, words, values, 24, b);
+    r = holds(r, words, 12, cones);
+    r = values_hold(r, words, values, 25, alphas);
+    r = holds(r, words, 13, map);
+    r
+}
+
+// A family's line: how many cases it has, or how many are equal before one that is not.
+pub fn report(name: &[u8], cases: u32, equal: u32) {
+    io::write_all(STDOUT_FILENO, name);
+    io::write_all(STDOUT_FILENO, b": ");
+    io::print_decimal(STDOUT_FILENO, equal as u64);
+    if equal == cases {
+        io::write_all(STDOUT_FILENO, b" cases, all equal\n");
+    } else {
+        io::write_all(STDOUT_FILENO, b" cases equal and the next one not\n");
+    }
 }

@@ -34,6 +34,9 @@ fn has_room(words: &[u32], at: usize, size: usize) -> bool
     at <= words.len() && size <= words.len() - at
 }
 
+// The words before a clique's members: its parent and two counts; and before a pattern's ordering: its cone and two counts.
+pub const HEAD_WORDS: usize = 3;
+
 // ---- cliques and patterns at an offset
 
 // A clique of a pattern's words, by offsets into them.
@@ -52,16 +55,20 @@ pub enum CliqueRead {
 }
 
 impl Clique {
-    pub const NO_PARENT: u32 = 4294967295;
+    pub const NO_PARENT: u32 = constants::NONE;
 
     // Whether the words at an offset hold a clique to its end.
     fn stands(words: &[u32], at: usize) -> bool
         ensures { λ r. ⌜ r ≡ whole (readClique (drop at (now (words .entry)))) ⌝ }
     {
-        if !has_room(words, at, 3) {
+        if !has_room(words, at, HEAD_WORDS) {
             return false;
         }
-        has_room(words, at + 3, word(words, at + 1) + word(words, at + 2))
+        has_room(
+            words,
+            at + HEAD_WORDS,
+            word(words, at + 1) + word(words, at + 2),
+        )
     }
 
     // The clique at an offset, if its words do not end early.
@@ -84,7 +91,7 @@ impl Clique {
         let parent = words[at];
         let snode_count = word(words, at + 1);
         let separator_count = word(words, at + 2);
-        let snode = at + 3;
+        let snode = at + HEAD_WORDS;
         let separator = snode + snode_count;
         Clique {
             parent: parent,
@@ -124,10 +131,10 @@ impl Pattern {
     fn stands(words: &[u32], at: usize) -> bool
         ensures { λ r. ⌜ r ≡ whole (readHead (drop at (now (words .entry)))) ⌝ }
     {
-        if !has_room(words, at, 3) {
+        if !has_room(words, at, HEAD_WORDS) {
             return false;
         }
-        has_room(words, at + 3, word(words, at + 1))
+        has_room(words, at + HEAD_WORDS, word(words, at + 1))
     }
 
     // All of the pattern at an offset but its cliques, if these words do not end early.
@@ -150,7 +157,7 @@ impl Pattern {
         let orig_index = words[at];
         let vertex_count = word(words, at + 1);
         let clique_count = words[at + 2];
-        let ordering = at + 3;
+        let ordering = at + HEAD_WORDS;
         Pattern {
             orig_index: orig_index,
             vertex_count: vertex_count,

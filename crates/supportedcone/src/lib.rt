@@ -7,6 +7,9 @@ ghost use Rattle.layout.specs.Cones.{records, reads, rowCount, alphaCount};
 ghost use Rattle.layout.specs.Checks.{sizesBounded, conesBounded, conesRead, alphasAsMany};
 ghost use Rattle.supportedcone.specs.Cases.{coneRecord, recordOf, told, readsAs, readsWith, recordAt};
 ghost use Rattle.supportedcone.specs.Ranges.{isPsdOf};
+use constants::limit;
+use constants::record;
+use constants::refusal;
 
 // A cone by value: its dimension, or its exponent, or its two counts. GenPower has its count of α first; the α stay in their table.
 pub enum SupportedCone {
@@ -101,7 +104,7 @@ impl SupportedCone {
 pub fn record_count(cones: &[u32]) -> usize
     ensures { λ r. ⌜ r ≡ length (records (now (cones .entry))) ⌝ }
 {
-    cones.len() / 3
+    cones.len() / record::WORDS
 }
 
 // Record i, with the exponent that a power cone carries; bad where there is none of that number. A joining is not given the α:
@@ -112,7 +115,7 @@ pub fn cone_at(cones: &[u32], i: usize, alpha: f64) -> ReadCone
     if record_count(cones) <= i {
         return ReadCone::Bad;
     }
-    let at = i * 3;
+    let at = i * record::WORDS;
     SupportedCone::read(cones[at], cones[at + 1], cones[at + 2], alpha)
 }
 
@@ -137,13 +140,13 @@ pub fn read_with_alpha(cones: &[u32], i: usize, alphas: &[f64]) -> ReadCone
 fn sizes_bounded(kind: u32, first: u32, second: u32) -> bool
     ensures { λ r. ⌜ r ≡ sizesBounded (coneRecord kind first second) ⌝ }
 {
-    if 65536 < first {
+    if limit::SIZE < first {
         return false;
     }
-    if 65536 < second {
+    if limit::SIZE < second {
         return false;
     }
-    kind != SupportedCone::PSD_TRIANGLE || first <= 256
+    kind != SupportedCone::PSD_TRIANGLE || first <= limit::PSD_SIZE
 }
 
 // Check 1 of the cones: at most 1,024 whole records, and their sizes. A part record at the end is passed over.
@@ -151,12 +154,12 @@ pub fn cones_bounded(cones: &[u32]) -> bool
     ensures { λ r. ⌜ r ≡ conesBounded (now (cones .entry)) ⌝ }
 {
     let count = record_count(cones);
-    if 1024 < count {
+    if limit::CONES < count {
         return false;
     }
     let mut i = 0;
     while i < count {
-        let at = i * 3;
+        let at = i * record::WORDS;
         if !sizes_bounded(cones[at], cones[at + 1], cones[at + 2]) {
             return false;
         }
@@ -171,22 +174,22 @@ pub fn check_cones(m: u32, cones: &[u32]) -> u32
     ensures { λ r. ⌜ r ≡ cond (conesRead m (now (cones .entry))) 0 4 ⌝ }
 {
     let count = record_count(cones);
-    if count * 3 != cones.len() {
-        return 4;
+    if count * record::WORDS != cones.len() {
+        return refusal::CONES;
     }
     let mut rows = 0;
     let mut i = 0;
     while i < count {
         let ReadCone::Is(cone) = cone_at(cones, i, 0.0) else {
-            return 4;
+            return refusal::CONES;
         };
         rows += cone.nvars();
         i += 1;
     }
     if rows != m {
-        return 4;
+        return refusal::CONES;
     }
-    0
+    refusal::DONE
 }
 
 // The table of α has as many values as the cones take.
@@ -226,6 +229,6 @@ pub fn is_psd_of(cones: &[u32], i: usize, v: usize) -> bool
     if record_count(cones) <= i {
         return false;
     }
-    let at = i * 3;
+    let at = i * record::WORDS;
     cones[at] == SupportedCone::PSD_TRIANGLE && cones[at + 1] as usize == v
 }

@@ -14,14 +14,14 @@ ghost use Rattle.layout.specs.Compact.{coneWords, mapPart, mapWords, psdWords};
 ghost use Rattle.supernode_tree.specs.Reads.{patternAt, Whole, cliquesFrom};
 ghost use Rattle.supernode_tree.specs.Sizes.{atMost, dimOf};
 ghost use Rattle.tables.specs.Tables.{tableOf, routePart, wholeCodes, cutCodes, entriesDown, Few};
+use constants::entry;
+use constants::entry::NO_PATTERN;
+use constants::record;
 use parts::Met;
 use parts::Place;
 use supernode_tree::Clique;
 use supernode_tree::Pattern;
 use supportedcone::SupportedCone;
-
-// The mark for none where the cone map has a pattern's number.
-const NO_PATTERN: u32 = 4294967295;
 
 // The rows of H; the compact route's rows, coded for its cut; the cones of either route; the cone map.
 pub enum Table {
@@ -64,8 +64,8 @@ fn put_entry(out: &mut [u32], t: usize, cone: u32, pattern: u32, clique: u32, fi
     ensures { λ _. ⌜ now (out .exit) ≡ set (set (set (set (set (now (out .entry)) t cone) (t + 1) pattern) (t + 2) clique) (t + 3) first) (t + 4) rows ⌝ }
 {
     put(&mut *out, t, cone, pattern, clique);
-    out[t + 3] = first;
-    out[t + 4] = rows;
+    out[t + entry::FIRST_ROW] = first;
+    out[t + entry::ROW_COUNT] = rows;
 }
 
 // Record i; how many words.
@@ -74,9 +74,9 @@ fn copy_record(cones: &[u32], i: usize, out: &mut [u32]) -> usize
     ensures { λ r. ⌜ r ≡ 3 ⌝ }
     ensures { λ _. ⌜ now (out .exit) ≡ written (coneWords (getD (records (now (cones .entry))) i noCone)) (now (out .entry)) ⌝ }
 {
-    let at = i * 3;
+    let at = i * record::WORDS;
     let mut j = 0;
-    while j < 3 {
+    while j < record::WORDS {
         out[j] = cones[at + j];
         j += 1;
     }
@@ -103,7 +103,7 @@ fn write_whole(
         Table::StandardCones | Table::CompactCones => copy_record(cones, place.cone, out),
         Table::ConeMap => {
             put_entry(out, 0, place.cone as u32, NO_PATTERN, 0, first as u32, rows);
-            5
+            entry::WORDS
         }
     }
 }
@@ -130,7 +130,7 @@ fn cones_up(words: &[u32], first: usize, count: u32, out: &mut [u32]) -> usize
             0,
         );
         at = q.next;
-        t += 3;
+        t += record::WORDS;
         left -= 1;
     }
     t
@@ -150,14 +150,14 @@ fn cones_down(words: &[u32], first: usize, count: u32, out: &mut [u32]) -> usize
         left -= 1;
         put(
             &mut *out,
-            left as usize * 3,
+            left as usize * record::WORDS,
             SupportedCone::PSD_TRIANGLE,
             q.get_nblk() as u32,
             0,
         );
         at = q.next;
     }
-    count as usize * 3
+    count as usize * record::WORDS
 }
 
 // A route's cones of the pattern at an offset, cliques from first to last or from last to first; how many words.
@@ -202,7 +202,7 @@ fn entries_down(
         row -= rows;
         put_entry(
             &mut *out,
-            left as usize * 5,
+            left as usize * entry::WORDS,
             cone,
             pattern,
             clique,
@@ -211,7 +211,7 @@ fn entries_down(
         );
         at = q.next;
     }
-    count as usize * 5
+    count as usize * entry::WORDS
 }
 
 // The map entries of the pattern at an offset, with `first` augmented rows before them; how many words.

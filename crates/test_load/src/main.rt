@@ -125,7 +125,7 @@ fn tell_cut<'a>(
     pattern: &'a [u32],
 ) {
     let mut lengths = [0u32; 11];
-    door::chordal_sizes(
+    decomp::sizes(
         route,
         n,
         m,
@@ -154,7 +154,7 @@ fn tell_cut<'a>(
     let mut cones_out = [0u32; 32768];
     let mut alphas_out = [0f64; 32768];
     let mut map_out = [0u32; 32768];
-    let answer = door::chordal_cut(
+    let answer = cut_on_route::cut(
         route,
         n,
         m,
@@ -328,7 +328,7 @@ fn tell_load(seed: u64, v: u32, w: u32, n: u32) {
     tell(b", n ", n as u64);
     say(b"\n");
     let mut lengths = [0u32; 11];
-    door::chordal_generate_sizes(seed, v, w, n, &mut lengths);
+    generator::generate_sizes(seed, v, w, n, &mut lengths);
     let mut p_starts = [0u32; 8192];
     let mut p_rows = [0u32; 8192];
     let mut p_values = [0f64; 8192];
@@ -340,7 +340,7 @@ fn tell_load(seed: u64, v: u32, w: u32, n: u32) {
     let mut cones = [0u32; 8192];
     let mut alphas = [0f64; 8192];
     let mut pattern = [0u32; 8192];
-    let answer = door::chordal_generate(
+    let answer = generator::generate(
         seed,
         v,
         w,

@@ -10,6 +10,7 @@ ghost use Rattle.layout.specs.Answers.{roomy};
 ghost use Rattle.layout.specs.Calls.Inverse.{Inverse};
 ghost use Rattle.utils.specs.Windows.{MarksMore};
 ghost use Rattle.utils.specs.Scattered.{scattered};
+use constants::refusal;
 
 // ---- each number below the length once
 
@@ -84,11 +85,18 @@ fn permutation_by(words: &[u32], marks: &mut [bool]) -> bool
     }
 }
 
+// The windows by which few, some and many numbers are marked.
+const FEW: usize = 256;
+
+const SOME: usize = 8192;
+
+const MANY: usize = 262144;
+
 // The same, in little stack: at most 256 numbers are one window, and longer words go in windows of that size.
 pub fn is_short_permutation(words: &[u32]) -> bool
     ensures { λ r. ⌜ r ≡ isPermutation (now (words .entry)) ⌝ }
 {
-    let mut marks = [false; 256];
+    let mut marks = [false; FEW];
     permutation_by(words, &mut marks)
 }
 
@@ -97,21 +105,21 @@ pub fn is_short_permutation(words: &[u32]) -> bool
 pub fn is_permutation(words: &[u32]) -> bool
     ensures { λ r. ⌜ r ≡ isPermutation (now (words .entry)) ⌝ }
 {
-    if words.len() <= 256 {
+    if words.len() <= FEW {
         return is_short_permutation(words);
     }
-    if words.len() <= 8192 {
-        let mut some = [false; 8192];
+    if words.len() <= SOME {
+        let mut some = [false; SOME];
         return permutation_by(words, &mut some);
     }
-    let mut marks = [false; 262144];
+    let mut marks = [false; MANY];
     permutation_by(words, &mut marks)
 }
 
 // ---- the inverse
 
 // 0, 1, .. written where the words say, in order.
-fn scatter(words: &[u32], out: &mut [u32])
+pub fn scatter(words: &[u32], out: &mut [u32])
     requires { ⌜ Below (length (now out)) (now words) ⌝ }
     requires { ⌜ length (now words) ≤ 4294967296 ⌝ }
     ensures { λ _. ⌜ now (out .exit) ≡ scattered 0 (now (words .entry)) (now (out .entry)) ⌝ }
@@ -130,13 +138,13 @@ pub fn inverse(p: &[u32], out: &mut [u32]) -> u32
     ensures { λ r. ⌜ Inverse (now (p .entry)) (now (out .entry)) (now (out .exit)) r ⌝ }
 {
     if !is_permutation(p) {
-        return 5;
+        return refusal::PATTERNS;
     }
     if out.len() < p.len() {
-        return 11;
+        return refusal::SHORT;
     }
     scatter(p, out);
-    0
+    refusal::DONE
 }
 
 // ---- check 11
@@ -148,12 +156,12 @@ pub fn check_rooms(needs: &[u32], rooms: &[usize]) -> u32
     let mut i = 0;
     while i < needs.len() {
         if rooms.len() <= i {
-            return 11;
+            return refusal::SHORT;
         }
         if rooms[i] < needs[i] as usize {
-            return 11;
+            return refusal::SHORT;
         }
         i += 1;
     }
-    0
+    refusal::DONE
 }

@@ -11,7 +11,7 @@ use lib.Seq.{drop-cons}
 use lib.Dec.{T, leb, ltb, leb→le}
 use borrow.Author.Tests.{eq-eqb, ne-eqb, lt-ltb, le-ltb, le-leb, lt-leb}
 use Rattle.layout.specs.Lists.{has, all, distinct}
-use Rattle.layout.proofs.Tests.{and-iff, and-true, and-false, and-right, differ}
+use Rattle.layout.proofs.Tests.{and-iff, and-true, and-false, and-right, differ, passed, passes}
 use Rattle.layout.proofs.Members.{has-cons}
 use Rattle.layout.proofs.Distinct.{distinct-cons}
 use Rattle.vertex_set.specs.OnceIn.{risesBelow, onceBelow, onceBelowIn}
@@ -80,3 +80,7 @@ once-in-rest n ms us = go (all (λ x. ltb x n) us) (distinct us) (all (λ u. has
     go : (a d h : Bool) → (a && d) ≡ true → (a && (d && h)) ≡ h
     go true d h e = and-true d h e
     go false d h e = absurd (differ false e refl)
+
+-- members that rise need only be in ms
+pub rising-in : (n : ℕ) (ms us : List ℕ) → risesBelow 0 n us ≡ true → onceBelowIn n ms us ≡ all (λ u. has u ms) us
+rising-in n ms us h = once-in-rest n ms us (passed _ (rises-once 0 n us (passes _ h) .0))

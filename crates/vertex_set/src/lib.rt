@@ -40,7 +40,7 @@ pub fn is_distinct(a: &[u32]) -> bool
 }
 
 // Each number is above the one before it, and below n: a clique's members are as a rule.
-fn rises_below(us: &[u32], n: usize) -> bool
+pub fn rises_below(us: &[u32], n: usize) -> bool
     ensures { λ r. ⌜ r ≡ risesBelow 0 n (now (us .entry)) ⌝ }
 {
     let mut least = 0;
@@ -179,13 +179,16 @@ fn once_in_by(us: &[u32], ms: &[u32], n: usize, marks: &mut [bool]) -> bool
     }
 }
 
+// So many numbers are walked over; a right pattern's cliques have no more.
+const FEW: usize = constants::scratch::VERTICES;
+
 // No number of us stands twice, and each is below n and in ms: by walks over both where they are short, else by marks.
 pub fn once_in(us: &[u32], ms: &[u32], n: usize, marks: &mut [bool]) -> bool
     requires { ⌜ 0 < length (now marks) ⌝ }
     ensures { λ r. ⌜ r ≡ onceBelowIn n (now (ms .entry)) (now (us .entry)) ⌝ }
 {
-    if us.len() <= 256 {
-        if ms.len() <= 256 {
+    if us.len() <= FEW {
+        if ms.len() <= FEW {
             return once_in_walk(us, ms, n);
         }
     }

@@ -130,22 +130,18 @@ triangular-number-requires c κs = omega (arith, small (c .before), c .get-nblk 
 sub-to : tie.Need-sub-to Inv-loop μ-loop
 sub-to c = omega (arith, left-rows c)
 
-move-values-requires : tie.Need-move-values-requires Inv-loop μ-loop
-move-values-requires c κs =
-    let t = c .before in
+move-both-requires : tie.Need-move-both-requires Inv-loop μ-loop
+move-both-requires c κs =
+    let t = c .before .before in
     let l = read t .before .before in
-    (omega (arith, left-rows t, l .loop .inv .3), omega (arith, left-rows t, l .loop .inv .3, l .loop .inv .4 .0))
-
-move-values-requires-2 : tie.Need-move-values-requires-2 Inv-loop μ-loop
-move-values-requires-2 c κs =
-    let t = c .before .before .before .before .before in
-    let l = read t .before .before in
-    let z-long = start l .pre .1 .0 .1 in
-    (omega (arith, left-rows t, l .loop .inv .3, z-long), omega (arith, left-rows t, l .loop .inv .3, l .loop .inv .5 .0, z-long))
+    let z-long = start l .pre .1 .0 .1 in (
+      (omega (arith, left-rows t, l .loop .inv .3), omega (arith, left-rows t, l .loop .inv .3, z-long)),
+      (omega (arith, left-rows t, l .loop .inv .3, l .loop .inv .4 .0), omega (arith, left-rows t, l .loop .inv .3, l .loop .inv .5 .0, z-long)),
+    )
 
 -- both were moved
 abbrev counted : tie.After-slice-known4 Inv-loop μ-loop → tie.After-triangular-number Inv-loop μ-loop
-counted c = c .before .before .before .before .before .before .before .before
+counted c = c .before .before .before .before .before .before .before
 
 add-from : tie.Need-add-from Inv-loop μ-loop
 add-from c =
@@ -160,8 +156,7 @@ loop-less c = omega (arith, read (counted c) .before .loop-test .taken)
 
 loop-again : tie.Need-loop-again Inv-loop μ-loop
 loop-again c =
-    let w = c .before .before in
-    let v = w .before .before .before .before in
+    let w = c .before .before .before .before in
     let t = counted c in
     let k = read t in
     let l = k .before .before in
@@ -181,10 +176,10 @@ loop-again c =
       all-cons (atMost 256) (cliqueOf ws q) others _ (first-of k) (l .loop .inv .1) .1,
       omega (arith, left-rows t),
       omega (arith, left-rows t, l .loop .inv .3),
-      moves n ks js all-ks (a .s .now) (l .loop .s-out) (v .move-values .last .1 .1 .1 .1 .0) from to e (l .loop .inv .3) few
-          (v .move-values .kept .1 .1 .1 .1 .0) (v .move-values .ensures) (l .loop .inv .4),
-      moves n ks js all-ks (a .z .now) (l .loop .z-out) (w .move-values2 .last .1 .1 .1 .1 .0) from to e
-          (l .loop .inv .3 ∙ sym (start l .pre .1 .0 .1)) few (w .move-values2 .kept .1 .1 .1 .1 .0) (w .move-values2 .ensures) (l .loop .inv .5),
+      moves n ks js all-ks (a .s .now) (l .loop .s-out) (w .move-both .last .1 .1 .1 .1 .1 .0) from to e (l .loop .inv .3) few
+          (w .move-both .kept .1 .1 .1 .1 .1 .0) (w .move-both .ensures .0) (l .loop .inv .4),
+      moves n ks js all-ks (a .z .now) (l .loop .z-out) (w .move-both .last .1 .1 .1 .1 .1 .1 .0) from to e
+          (l .loop .inv .3 ∙ sym (start l .pre .1 .0 .1)) few (w .move-both .kept .1 .1 .1 .1 .1 .1 .0) (w .move-both .ensures .1) (l .loop .inv .5),
     )
 
 same-length : tie.Need-same-length Inv-loop μ-loop
@@ -219,8 +214,7 @@ move-blocks-spec =
     get-nblk-requires
     triangular-number-requires
     sub-to
-    move-values-requires
-    move-values-requires-2
+    move-both-requires
     add-from
     sub-left
     loop-less

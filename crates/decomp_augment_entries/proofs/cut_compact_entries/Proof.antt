@@ -16,7 +16,7 @@ use base.Fml.{GName, Fml}
 use contract.Lifetimes.{Lfts, Shares}
 use types.Kit.{Item, ‵, ⋆, _$_, _∵_, !, qed, by, move, fsplit, feqL, done}
 use types.Part.{agg}
-use types.Run.{look, addr, and-then, no-more, from, stop, of-opd, returns}
+use types.Run.{look, lit, addr, and-then, no-more, from, stop, of-opd, returns}
 use denote.Ref.{RefT}
 use denote.Signature.{plain}
 use denote.Builtin.{u32, f64}
@@ -39,7 +39,7 @@ use Rattle.by_hand.proofs.Locals.{block-of, value, sets, lands-in, lands-over, 
 use Rattle.by_hand.proofs.Operands.{loads}
 use Rattle.by_hand.proofs.Lending.{lends, measures}
 use Rattle.by_hand.proofs.Calling.{Ends, says-ends, calls-handing, Arg, plain-arg, lent-arg, length-args, denoted, vals, passing, calls-lent}
-use Rattle.by_hand.proofs.Arrays.{ref, big, fills, lends-out, comes-back, shares-out, comes-home, room-again}
+use Rattle.by_hand.proofs.Arrays.{u32-elements, ref, big, fills, lends-out, comes-back, shares-out, comes-home, room-again}
 use Rattle.by_hand.proofs.Walking.{Walked, Here, toks, outs, arg, known-of, args-at, vals-at, owned-at, En, Whole, Returned, ends-in, taken-apart, to-call, walks, stands}
 use Rattle.cone_map.specs.declared.ConeMapEntry.{ConeMapEntry}
 use Rattle.cone_map.specs.Entries.{structAt}
@@ -263,8 +263,8 @@ module _ (h : Here this) where
       move ! (span 17 5 ++ (span 33 5 ++ (0 ∷ 1 ∷ 2 ∷ (span 22 5 ++ span 27 5)))) $
       calls-handing (h .w) cut-objective (to-objective r k) ! (h .cited .1 .1 .0) (toks h (p-lifetimes r)) (p-owned r k) (refl, refl) (fact-of 𝓤 (λ z. objective-fits given old (sym e ∙ z) k (told .0 z))) nothings (λ _ vs. Extends r k (after 8 vs)) refl (loads ! 17 tt refl) (λ _ vs extended _.
       -- [its tokens; what it says; the tokens of `cut_constraints`; what that says; cones; words; the map; its token; _0; …]: local i at 27 + 2 * i
-      lands-in ! nothings tt refl 129 refl refl $ fills ! N 83 refl refl refl $
-      lends-out ! tt (named 2) N 83 b (replicate N 0) long room refl refl (λ α γ.
+      lands-in ! nothings tt refl 129 refl refl $ fills ! u32-elements 0 (refl, lit< tt) (lit ! tt) N 83 refl refl refl $
+      lends-out ! tt u32 (named 2) N 83 b (replicate N 0) long room refl refl (λ α γ.
       -- [its token; the table's slice; the tokens of `cut_objective`; what it says; the tokens of `cut_constraints`; what that says; cones; words; the map; its token; _0; …]: local i at 29 + 2 * i
       sets ! (addr ! (from ! (stop !))) 153 refl (tt, tt) $ sets ! (agg ! (and-then ! (value ! 153 refl) (and-then ! (big ! (record { fits = lit< tt })) (no-more !)))) 155 refl (fitting (lit< tt)) $
       number ! (arg h 12) (known-of h 12 .1) $ number ! (arg h 1) (known-of h 1 .1) $ number ! r (is .1) $ move ! (20 ∷ 21 ∷ 3 ∷ 0 ∷ 1 ∷ 28 ∷ 2 ∷ 29 ∷ 4 ∷ []) $
@@ -275,8 +275,8 @@ module _ (h : Here this) where
       lands-in ! usizes j jis 85 refl refl $
       move ! (3 ∷ []) $ parts-said _ ! ((5, left u32 (zeros r b α γ) ws ∷ []) ∷ []) $ fsplit ! $ move ! (1 ∷ []) $ feqL ! (λ l.
       let all : length ws ≡ N = l ∙ long in
-      move ! (3 ∷ 0 ∷ []) $ comes-back ! tt N 81 b α γ ws refl refl $
-      shares-out ! tt (named 0) N 81 b ws all room refl refl (λ β δ.
+      move ! (3 ∷ 0 ∷ []) $ comes-back ! tt u32 N 81 b α γ ws refl refl $
+      shares-out ! tt u32 (named 0) N 81 b ws all room refl refl (λ β δ.
       -- [its token; the table's slice; the tokens of cones and words; the other tokens; what was said; the map; its token; _0; …]: local i at 27 + 2 * i
       sets ! (addr ! (from ! (stop !))) 155 refl (tt, tt) $ sets ! (agg ! (and-then ! (value ! 155 refl) (and-then ! (big ! (record { fits = lit< tt })) (no-more !)))) 157 refl (fitting (lit< tt)) $
       lends ! 27 (drop 10 (outs h)) 25 66 refl refl $ size ! j (jis .1) $ move ! (1 ∷ 27 ∷ 2 ∷ 0 ∷ 26 ∷ []) $
@@ -284,7 +284,7 @@ module _ (h : Here this) where
       (fact-of 𝓤 (table-fits r (λ z. map-fits given old (sym e ∙ z) .0) j ws (tabled .0) all, room-for r (coneMap (layout given)) (length (map-out .now)) (λ z. entries-fit given old (sym e ∙ z)) j (tabled .0))) nothings (λ _ ws′. Written r j b β δ ws (after 2 ws′)) refl (loads ! 24 tt refl) (λ _ vs′ written-map _.
       -- [its tokens; what it says; the tokens of cones and words; the other tokens; what was said; _0; …]: local i at 26 + 2 * i
       lands-over ! nothings tt refl 128 refl refl $ sets ! (of-opd ! (value ! 78 refl)) 26 refl (tt, record { fits = is .1 }) $
-      comes-home ! tt N 81 b β ws all refl refl $ room-again ! N 81 b ws refl $
+      comes-home ! tt u32 N 81 b β ws all refl refl $ room-again ! u32 N 81 b ws refl $
       returns ! (look ! 25 refl) $ free-all ! (Done r us k vs j b β δ ws vs′) (En h bs) refl $ by ! (exits r us k vs j b β δ ws vs′ (is .1) e told extended tabled written-map)))))))))
 
 pub cut-compact-entries-spec : {M : Type 1} → stated.statement M

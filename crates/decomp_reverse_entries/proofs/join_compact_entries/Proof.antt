@@ -15,7 +15,7 @@ use base.Fml.{Lft, GName, Fml, ftrue}
 use contract.Lifetimes.{Lfts, Shares}
 use types.Kit.{Item, ‵, ⋆, _$_, _∵_, !, qed, by, move, drop as drop-item, fsplit, feqL, done}
 use types.Part.{agg}
-use types.Run.{look, addr, and-then, no-more, from, stop, of-opd, returns}
+use types.Run.{look, lit, addr, and-then, no-more, from, stop, of-opd, returns}
 use denote.Ref.{RefT}
 use denote.Signature.{plain}
 use denote.Builtin.{u32, f64}
@@ -36,7 +36,7 @@ use Rattle.by_hand.proofs.Locals.{block-of, value, len, sets, lands-in, free-al
 use Rattle.by_hand.proofs.Operands.{loads}
 use Rattle.by_hand.proofs.Lending.{lends}
 use Rattle.by_hand.proofs.Calling.{Ends, says-ends, calls-handing, Arg, plain-arg, denoted, vals, passing, calls-lent}
-use Rattle.by_hand.proofs.Arrays.{ref, big, fills, lends-out, comes-back, shares-out, comes-home, room-again}
+use Rattle.by_hand.proofs.Arrays.{u32-elements, ref, big, fills, lends-out, comes-back, shares-out, comes-home, room-again}
 use Rattle.by_hand.proofs.Walking.{Walked, Here, args, Owned, toks, outs, arg, known-of, En, Whole, Returned, ends-in, taken-apart, to-call, walks, stands}
 use Rattle.cone_map.specs.declared.ConeMapEntry.{ConeMapEntry}
 use Rattle.cone_map.specs.Entries.{meant, allWords}
@@ -188,10 +188,10 @@ module _ (h : Here this) where
       let b : ℕ = block-of (code.function .locals) bs 16 in
       taken-apart h _ ! $
       -- [n; m; cones; count; words; x; s; z; tau; kappa; map; the outputs; the tokens; _0; …]: local i at 25 + 2 * i
-      fills ! N 57 refl refl refl $ sets ! (of-opd ! (len ! 47 refl refl)) 61 refl (tt, record { fits = known-of h 10 .0 .1 .0 }) $
+      fills ! u32-elements 0 (refl, lit< tt) (lit ! tt) N 57 refl refl refl $ sets ! (of-opd ! (len ! 47 refl refl)) 61 refl (tt, record { fits = known-of h 10 .0 .1 .0 }) $
       calls-lent (h .w) words-of (to-call h [] (denoted count-args) (vals count-args), tt) [] count-args _ ! (h .cited .0) (refl, refl) (id⊢ 𝓤 _) usizes (λ k. k ≡ wordsOf (length ys)) refl (loads ! 26 tt refl) (λ k e is.
       lands-in ! usizes k is 59 refl refl $
-      lends-out ! tt (named 1) N 57 b (replicate N 0) long room refl refl (λ α γ.
+      lends-out ! tt u32 (named 1) N 57 b (replicate N 0) long room refl refl (λ α γ.
       -- [its token; the table's slice; n; m; cones; count; words; x; s; z; tau; kappa; map; the outputs; the tokens; _0; …]: local i at 27 + 2 * i
       sets ! (addr ! (from ! (stop !))) 67 refl (tt, tt) $ sets ! (agg ! (and-then ! (value ! 67 refl) (and-then ! (big ! (record { fits = lit< tt })) (no-more !)))) 69 refl (fitting (lit< tt)) $
       size ! k (is .1) $ move ! (23 ∷ 1 ∷ 13 ∷ 0 ∷ 2 ∷ []) $
@@ -203,8 +203,8 @@ module _ (h : Here this) where
       move ! (2 ∷ []) $ parts-said _ ! ((2, left u32 (zeros k b α γ) ws ∷ []) ∷ []) $ fsplit ! $ move ! (1 ∷ []) $ feqL ! (λ l.
       let full : length ws ≡ N = l ∙ long in
       -- [what is last in the table; the map's token; its token; …]
-      move ! (2 ∷ 0 ∷ []) $ comes-back ! tt N 56 b α γ ws refl refl $
-      shares-out ! tt (named 5) N 56 b ws full room refl refl (λ β δ.
+      move ! (2 ∷ 0 ∷ []) $ comes-back ! tt u32 N 56 b α γ ws refl refl $
+      shares-out ! tt u32 (named 5) N 56 b ws full room refl refl (λ β δ.
       -- [its token; the table's slice; the map's token; n; m; cones; count; words; x; s; z; tau; kappa; the outputs; the other tokens; _0; …]: local i at 26 + 2 * i
       sets ! (addr ! (from ! (stop !))) 70 refl (tt, tt) $ sets ! (agg ! (and-then ! (value ! 70 refl) (and-then ! (big ! (record { fits = lit< tt })) (no-more !)))) 72 refl (fitting (lit< tt)) $
       lends ! 26 (outs h) 12 24 refl refl $ size ! k (is .1) $
@@ -212,7 +212,7 @@ module _ (h : Here this) where
       calls-handing (h .w) join-words (to-core k b β δ ws) ! (h .cited .1 .1 .0) (tokens-at (β ∷ []) (core-tokens k b β δ ws)) (core-owned k b β δ ws) (refl, refl) (fact-of 𝓤 (subst (λ (j : ℕ). k ≤ j) (sym full) (few-taken (length ys) k e .0))) u32s (λ w us. Joined k b β δ ws w (after 12 us)) refl (loads ! 2 tt refl) (λ w vs told wis.
       -- [the tokens, that of the table the sixth; the outputs' last values; the map's token; _0; …]: local i at 12 + 2 * i
       lands-in ! u32s w wis 12 refl refl $
-      move ! (5 ∷ []) $ comes-home ! tt N 43 b β ws full refl refl $ room-again ! N 43 b ws refl $
+      move ! (5 ∷ []) $ comes-home ! tt u32 N 43 b β ws full refl refl $ room-again ! u32 N 43 b ws refl $
       returns ! (look ! 11 refl) $ free-all ! (Done k b β δ ws vs) (En h bs) refl $ by ! (exits k b β δ ws vs w (wis .1) e wrote told)))))))
 
 pub join-compact-entries-spec : {M : Type 1} → stated.statement M

@@ -7,27 +7,20 @@ use borrow.Author.Needs.{needs}
 use lib.ListN.{length, replicate, take, length-replicate}
 use Rattle.layout.specs.Lists.{written}
 use Rattle.layout.specs.Triangle.{triangle}
-use Rattle.layout.specs.Answers.{output, inverse, inverseRefusal}
 use Rattle.layout.proofs.Triangles.{triangle-mono}
-use Rattle.generator.proofs.Rows.{places-long, places-low, places-rows}
+use Rattle.generator.proofs.Rows.{ordering-low, places-long, places-low, places-rows}
 use Rattle.generator.proofs.draw_band.Statement.{statement}
 use Rattle.generator.proofs.draw_band.Tie as tie
 
 draw-ordering-requires : tie.Need-draw-ordering-requires
 draw-ordering-requires c κs = search needs
 
-inverse-requires : tie.Need-inverse-requires
-inverse-requires c κs = search needs
-
--- what the inverse left in the places
-placed : (i : tie.After-inverse)
-    → let old = i .before .before .before .before .before .before .before .before .before .before .args .places .now in
-    let os = i .before .before .before .before .before .draw-ordering .last .1 .0 in
-    i .inverse .last .1 .0 ≡ output (inverseRefusal os (length old)) (inverse os) old
-placed i =
-    let d = i .before .before .before .before .before in
-    let old = d .before .before .before .before .before .args .places .now in
-    i .inverse .ensures .out ∙ ap (λ (r : ℕ). output r (inverse (d .draw-ordering .last .1 .0)) old) (i .inverse .ensures .number)
+scatter-requires : tie.Need-scatter-requires
+scatter-requires c κs =
+    let d = c .before .before .before .before in
+    let s = d .before .before .before .before .before in
+    let v = length (s .args .ordering .now) in
+    (ordering-low (s .args .seed) v (omega arith) (d .draw-ordering .last .1 .0) (d .draw-ordering .ensures .1) (length (s .args .places .now)) (omega arith), omega arith)
 
 cover-rows-requires : tie.Need-cover-rows-requires
 cover-rows-requires c κs =
@@ -36,9 +29,9 @@ cover-rows-requires c κs =
     let s = d .before .before .before .before .before in
     let v = length (s .args .ordering .now) in
     let os = d .draw-ordering .last .1 .0 in
-    let ps = i .inverse .last .1 .0 in
-    let long = places-long (s .args .seed) v (omega arith) os ps (s .args .places .now) (d .draw-ordering .ensures .1) (placed i) (s .pre .2) in
-    let low = places-low (s .args .seed) v (omega arith) os ps (s .args .places .now) (d .draw-ordering .ensures .1) (placed i) (s .pre .2) in
+    let ps = i .scatter .last .1 .0 in
+    let long = places-long (s .args .seed) v (omega arith) os ps (s .args .places .now) (d .draw-ordering .ensures .1) (i .scatter .ensures) (s .pre .2) in
+    let low = places-low (s .args .seed) v (omega arith) os ps (s .args .places .now) (d .draw-ordering .ensures .1) (i .scatter .ensures) (s .pre .2) in
     (omega (arith, long), low (omega arith), omega arith, omega (arith, ap triangle long, triangle-mono v 64 (omega arith), s .pre .3))
 
 same-length : tie.Need-same-length
@@ -58,8 +51,8 @@ returns c =
     let s = d .before .before .before .before .before in
     let v = length (s .args .ordering .now) in
     let os = d .draw-ordering .last .1 .0 in
-    let ps = i .inverse .last .1 .0 in
-    let rows = places-rows (s .args .seed) v (omega arith) os ps (s .args .places .now) (d .draw-ordering .ensures .1) (placed i) (s .pre .2)
+    let ps = i .scatter .last .1 .0 in
+    let rows = places-rows (s .args .seed) v (omega arith) os ps (s .args .places .now) (d .draw-ordering .ensures .1) (i .scatter .ensures) (s .pre .2)
     (s .args .w) (s .pre .0) (s .pre .1) in (
       (d .draw-ordering .ensures .0, k .cover-rows .ensures .0 ∙ ap length rows),
       k .cover-rows .ensures .1 ∙ ap (λ (xs : List ℕ). written xs (s .args .rows .now)) rows,
@@ -70,7 +63,7 @@ draw-band-spec =
     tie.close
     (tie.spec
     draw-ordering-requires
-    inverse-requires
+    scatter-requires
     cover-rows-requires
     same-length
     same-length-2

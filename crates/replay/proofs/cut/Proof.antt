@@ -5,6 +5,18 @@ use lib.Ieee.{Float, binary64, ofBits}
 use Rattle.replay.proofs.cut.Statement.{statement}
 use Rattle.replay.proofs.cut.Tie as tie
 
+item-requires : tie.Need-item-requires
+item-requires c κs = tt
+
+item-requires-2 : tie.Need-item-requires-2
+item-requires-2 c κs = tt
+
+item-requires-3 : tie.Need-item-requires-3
+item-requires-3 c κs = tt
+
+item-requires-4 : tie.Need-item-requires-4
+item-requires-4 c κs = tt
+
 slice-aggregate-words-room : tie.Need-slice-aggregate-words-room
 slice-aggregate-words-room c = sym (length-replicate {A = ℕ} 4096 0)
 
@@ -71,8 +83,8 @@ slice-aggregate-words-room-6 c = sym (length-replicate {A = ℕ} 4096 0)
 words-room-requires-6 : tie.Need-words-room-requires-6
 words-room-requires-6 c κs = tt
 
-call-cut-requires : tie.Need-call-cut-requires
-call-cut-requires c κs = tt
+cut-requires : tie.Need-cut-requires
+cut-requires c κs = tt
 
 cut-answer-requires : tie.Need-cut-answer-requires
 cut-answer-requires c κs = tt
@@ -84,6 +96,10 @@ pub cut-spec : {M : Type 1} → statement M
 cut-spec =
     tie.close
     (tie.spec
+    item-requires
+    item-requires-2
+    item-requires-3
+    item-requires-4
     slice-aggregate-words-room
     words-room-requires
     slice-aggregate-words-room-2
@@ -106,6 +122,6 @@ cut-spec =
     values-room-requires-5
     slice-aggregate-words-room-6
     words-room-requires-6
-    call-cut-requires
+    cut-requires
     cut-answer-requires
     returns)

@@ -89,8 +89,8 @@ slice-aggregate-words-room-6 c = sym (length-replicate {A = ℕ} 4096 0)
 words-room-requires-6 : tie.Need-words-room-requires-6
 words-room-requires-6 c κs = tt
 
-chordal-cut-between-requires : tie.Need-chordal-cut-between-requires
-chordal-cut-between-requires c κs = tt
+cut-between-requires : tie.Need-cut-between-requires
+cut-between-requires c κs = tt
 
 cut-answer-requires : tie.Need-cut-answer-requires
 cut-answer-requires c κs = tt
@@ -133,7 +133,7 @@ cut-between-spec =
     values-room-requires-6
     slice-aggregate-words-room-6
     words-room-requires-6
-    chordal-cut-between-requires
+    cut-between-requires
     cut-answer-requires
     values-hold-requires
     returns)

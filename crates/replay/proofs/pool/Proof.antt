@@ -158,8 +158,8 @@ slice-aggregate-words-room-6 c = sym (length-replicate {A = ℕ} 4096 0)
 words-room-requires-6 : tie.Need-words-room-requires-6
 words-room-requires-6 c κs = tt
 
-chordal-pool-requires : tie.Need-chordal-pool-requires
-chordal-pool-requires c κs = tt
+pool-requires : tie.Need-pool-requires
+pool-requires c κs = tt
 
 cut-answer-requires : tie.Need-cut-answer-requires
 cut-answer-requires c κs = tt
@@ -222,6 +222,6 @@ pool-spec =
     values-room-requires-5
     slice-aggregate-words-room-6
     words-room-requires-6
-    chordal-pool-requires
+    pool-requires
     cut-answer-requires
     returns)

@@ -1,10 +1,12 @@
-use mathlib.Core.Path.{_≡_, ap, _∙_}
+use Prim.Native.Nat.{ℕ}
+use mathlib.Core.Path.{_≡_, refl, sym, ap, _∙_}
 use mathlib.Core.Bool.{Bool, cond}
 use lib.ListN.{length-set}
+use borrow.Author.Tests.{not-false}
 use Rattle.layout.specs.Problem.{Problem, problem}
 use mathlib.Core.Logic.{⊎-elim}
-use Rattle.layout.specs.Answers.{orElse, problemRefusal}
-use Rattle.same_layout.proofs.Agreement.{second-checked, first-refused, refused, no-room, answered}
+use Rattle.layout.specs.Answers.{orElse, problemRefusal, sameLayout}
+use Rattle.same_layout.proofs.Agreement.{unchecked, second-checked, first-refused, refused, no-room, answered}
 use Rattle.same_layout.proofs.same_layout.Statement.{statement}
 use Rattle.same_layout.proofs.same_layout.Tie as tie
 
@@ -24,63 +26,98 @@ given2 s =
 abbrev start : tie.After-check-problem → tie.Start
 start c = c .before .before .before .before .before .before .before .before .before .before .before .before .before .before .before .before .before .before .before .before .before .before .before .before
 
+-- the first problem passes, and so the second decides: k is what its checks answer
+decides : (c : tie.Else1) (k : ℕ) → let s = start (c .before) in
+    k ≡ problemRefusal (given2 s) → k ≡ orElse (problemRefusal (given s)) (problemRefusal (given2 s))
+decides c k e =
+    let s = start (c .before) in
+    second-checked (problemRefusal (given s)) (problemRefusal (given2 s)) (c .before .check-problem .result) k
+    (c .before .check-problem .ensures) (c .if1 .left) e
+
+-- what the comparison answered
+agreed : (c : tie.After-layouts-agree) → let s = start (c .before .before) in c .layouts-agree .result ≡ sameLayout (given s) (given2 s)
+agreed c = c .layouts-agree .ensures
+
+-- what the second problem's checks answer, made or not
+second : (c : tie.Joined2) → let s = start (c .before .before .before .before) in c .if2 .refusal ≡ problemRefusal (given2 s)
+second c =
+    let a = c .before in
+    let f = a .before .before in
+    let s = start (f .before) in
+    ⊎-elim
+    (λ w. w .2 ∙ w .1 .ensures)
+    (λ w. w .1 ∙ unchecked (given s) (given2 s) (a .before .layouts-agree .result) (agreed (a .before))
+    (sym (a .checked-alike .ensures) ∙ not-false _ (w .0 .left)) (sym (f .before .check-problem .ensures) ∙ f .if1 .left))
+    (c .if2 .came)
+
 check-problem-requires : tie.Need-check-problem-requires
 check-problem-requires c κs = tt
+
+returns : tie.Need-returns
+returns c =
+    let f = c .before in
+    let s = start f in
+    refused (given s) (given2 s) (s .args .out .now) (f .check-problem .result)
+    (first-refused (problemRefusal (given s)) (problemRefusal (given2 s)) (f .check-problem .result) (f .check-problem .ensures) (c .if1 .taken))
+    (c .if1 .taken)
+
+layouts-agree-requires : tie.Need-layouts-agree-requires
+layouts-agree-requires c κs = tt
+
+checked-alike-requires : tie.Need-checked-alike-requires
+checked-alike-requires c κs = tt
 
 check-problem-requires-2 : tie.Need-check-problem-requires-2
 check-problem-requires-2 c κs = tt
 
-layouts-agree-requires : tie.Need-layouts-agree-requires
-layouts-agree-requires c κs = tt
+returns-2 : tie.Need-returns-2
+returns-2 c =
+    let j = c .before in
+    let f = j .before .before .before in
+    let s = start (f .before) in
+    refused (given s) (given2 s) (s .args .out .now) (j .if2 .refusal) (decides f (j .if2 .refusal) (second j)) (c .if3 .taken)
+
+-- both problems pass
+both : (c : tie.Else3) → let s = start (c .before .before .before .before .before) in
+    0 ≡ orElse (problemRefusal (given s)) (problemRefusal (given2 s))
+both c =
+    let j = c .before in
+    decides (j .before .before .before) 0 (sym (c .if3 .left) ∙ second j)
+
+returns-3 : tie.Need-returns-3
+returns-3 c =
+    let s = start (c .before .before .before .before .before .before) in
+    no-room (given s) (given2 s) (s .args .out .now) 0 (both (c .before)) refl (c .if4 .taken)
 
 word-of-requires : tie.Need-word-of-requires
 word-of-requires c κs = tt
 
 slice-write-out : tie.Need-slice-write-out
-slice-write-out c = c .before .before .if3 .left
-
--- both problems were checked
-both : (c : tie.Joined1) → let s = start (c .before) in c .if1 .refusal ≡ orElse (problemRefusal (given s)) (problemRefusal (given2 s))
-both c =
-    let f = c .before in
-    let s = start f in
-    ⊎-elim
-    (λ w. second-checked (problemRefusal (given s)) (problemRefusal (given2 s)) (f .check-problem .result) _ (c .if1 .refusal) (f .check-problem .ensures) (w .0 .taken) (w .1 .ensures) (w .2))
-    (λ w. first-refused (problemRefusal (given s)) (problemRefusal (given2 s)) (f .check-problem .result) (c .if1 .refusal) (f .check-problem .ensures) (w .0 .left) (w .1))
-    (c .if1 .came)
-
-returns : tie.Need-returns
-returns c =
-    let j = c .before .before in
-    let s = start (j .before) in
-    no-room (given s) (given2 s) (s .args .out .now) (j .if1 .refusal) (both j) (c .before .if2 .taken) (c .if3 .taken)
+slice-write-out c = c .before .if4 .left
 
 same-length : tie.Need-same-length
-same-length c = length-set (start (c .before .before .before .before .before) .args .out .now) 0 (c .word-of .result)
+same-length c = length-set (start (c .before .before .before .before .before .before .before) .args .out .now) 0 (c .word-of .result)
 
-returns-2 : tie.Need-returns-2
-returns-2 c =
-    let j = c .before .before .before .before in
-    let s = start (j .before) in
-    answered (given s) (given2 s) (s .args .out .now) (j .if1 .refusal) (both j) (c .before .before .before .if2 .taken) (c .before .before .if3 .left)
-    (c .word-of .result) (c .word-of .ensures ∙ ap (λ (b : Bool). cond b 1 0) (c .before .layouts-agree .ensures))
-
-returns-3 : tie.Need-returns-3
-returns-3 c =
-    let j = c .before in
-    let s = start (j .before) in
-    refused (given s) (given2 s) (s .args .out .now) (j .if1 .refusal) (both j) (c .if2 .left)
+returns-4 : tie.Need-returns-4
+returns-4 c =
+    let e = c .before .before in
+    let g = e .before .before .before in
+    let s = start (g .before .before) in
+    answered (given s) (given2 s) (s .args .out .now) 0 (both e) refl (c .before .if4 .left)
+    (c .word-of .result) (c .word-of .ensures ∙ ap (λ (b : Bool). cond b 1 0) (agreed g))
 
 pub same-layout-spec : {M : Type 1} → statement M
 same-layout-spec =
     tie.close
     (tie.spec
     check-problem-requires
-    check-problem-requires-2
+    returns
     layouts-agree-requires
+    checked-alike-requires
+    check-problem-requires-2
+    returns-2
+    returns-3
     word-of-requires
     slice-write-out
-    returns
     same-length
-    returns-2
-    returns-3)
+    returns-4)

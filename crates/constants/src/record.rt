@@ -1,0 +1,2 @@
+// A cone record: its kind and two sizes.
+pub const WORDS: usize = 3;

@@ -1,0 +1,149 @@
+use mathlib.Core.Path.{_≡_, refl, sym, _∙_}
+use lib.Dec.{lit≤}
+use Rattle.layout.specs.Problem.{Problem, problem, compact}
+use Rattle.layout.specs.Answers.{Augmented, lengths}
+use Rattle.layout.specs.Calls.Cut.{outputs}
+use Rattle.layout.proofs.Accepted.{accepted-sound}
+use Rattle.layout.proofs.Promises.{Taken}
+use Rattle.layout.specs.Between.{limitsRefusal}
+use Rattle.layout.specs.Calls.CutBetween.{Limits, limits, limitsRooms}
+use Rattle.decomp_augment.proofs.Rooms.{objective-fits, constrained-fits, map-fits, objective-cut, constrained-cut, map-cut}
+use Rattle.right_sides.proofs.Written.{between-refused, low-accepted, low-taken, high-asked, high-written}
+use Rattle.cut_with_limits.proofs.cut_between.Statement.{statement}
+use Rattle.cut_with_limits.proofs.cut_between.Tie as tie
+
+abbrev given : tie.Start → Problem
+given s =
+    let a = s .args in
+    problem (a .n) (a .m) (a .p-starts .now) (a .p-rows .now) (a .p-values .now) (a .q .now) (a .a-starts .now) (a .a-rows .now)
+    (a .a-values .now) (a .low .now) (a .cones .now) (a .alphas .now) (a .pattern-count) (a .pattern-words .now)
+
+-- the outputs as they were lent
+abbrev lent : tie.Start → Limits
+lent s =
+    let a = s .args in
+    limits (outputs (a .p-starts-out .now) (a .p-rows-out .now) (a .p-values-out .now) (a .q-out .now) (a .a-starts-out .now) (a .a-rows-out .now)
+    (a .a-values-out .now) (a .b-low-out .now) (a .cones-out .now) (a .alphas-out .now) (a .map-out .now)) (a .b-high-out .now)
+
+abbrev start : tie.After-refuse-between → tie.Start
+start c = c .before .before .before .before .before .before .before .before .before .before .before .before .before .before .before .before .before .before .before .before .before .before .before .before .before .before
+
+slice-aggregate-refuse-between : tie.Need-slice-aggregate-refuse-between
+slice-aggregate-refuse-between c = refl
+
+refuse-between-requires : tie.Need-refuse-between-requires
+refuse-between-requires c κs = lit≤ tt
+
+returns : tie.Need-returns
+returns c =
+    let s = start (c .before) in
+    between-refused (c .before .refuse-between .result) (c .if1 .taken) (given s) (s .args .low .now) (s .args .high .now) (lent s) (c .before .refuse-between .ensures)
+
+-- nothing is refused
+number : (c : tie.Else1) → let s = start (c .before) in 0 ≡ limitsRefusal (given s) (s .args .low .now) (s .args .high .now) (limitsRooms (lent s))
+number c = sym (c .if1 .left) ∙ c .before .refuse-between .ensures
+
+taken : (c : tie.Else1) → let s = start (c .before) in Taken compact (given s) (lengths (lent s .cut))
+taken c = let s = start (c .before) in low-taken (given s) (s .args .low .now) (s .args .high .now) (lent s) (sym (number c))
+
+count-added-requires : tie.Need-count-added-requires
+count-added-requires c κs =
+    let s = start (c .before) in
+    accepted-sound compact (given s) (low-accepted (given s) (s .args .low .now) (s .args .high .now) (lent s) (sym (number c)))
+
+write-objective-requires : tie.Need-write-objective-requires
+write-objective-requires c κs =
+    let d = c .before .before .before .before .before in
+    let s = start (d .before .before) in
+    objective-fits (given s) (lent s .cut) compact (taken (d .before)) (d .count-added .result .columns) (d .count-added .ensures .1)
+
+write-constraints-requires : tie.Need-write-constraints-requires
+write-constraints-requires c κs =
+    let d = c .before .before .before .before .before .before .before .before .before .before .before .before .before .before .before .before .before .before .before .before .before .before in
+    let s = start (d .before .before) in
+    let k = d .count-added .result .columns in
+    (constrained-fits (given s) (lent s .cut) compact (taken (d .before)) k (d .count-added .ensures .1), d .count-added .ensures .0, map-fits (given s) (lent s .cut) compact (taken (d .before)) k (d .count-added .ensures .1))
+
+write-sides-requires : tie.Need-write-sides-requires
+write-sides-requires c κs =
+    let d = c .before .before .before .before .before .before .before .before .before .before .before .before .before .before .before .before .before .before .before .before .before .before .before .before .before .before .before .before .before .before .before .before .before .before .before .before in
+    let s = start (d .before .before) in
+    let e = d .count-added .ensures .0 in
+    let ask = high-asked (given s) (s .args .low .now) (s .args .high .now) (lent s) (sym (number (d .before))) (d .count-added .result .rows) e in
+    (accepted-sound compact (given s) (low-accepted (given s) (s .args .low .now) (s .args .high .now) (lent s) (sym (number (d .before)))), ((e, ask .0), ask .1))
+
+same-length : tie.Need-same-length
+same-length c = c .before .before .before .before .before .before .before .before .before .before .before .before .before .before .before .before .before .before .before .before .before .before .before .before .before .before .before .before .before .before .before .before .before .write-objective .kept .1 .1 .1 .1 .1 .1 .1 .0
+
+same-length-2 : tie.Need-same-length-2
+same-length-2 c = c .before .before .before .before .before .before .before .before .before .before .before .before .before .before .before .before .before .before .before .before .before .before .before .before .before .before .before .before .before .before .before .before .before .write-objective .kept .1 .1 .1 .1 .1 .1 .1 .1 .0
+
+same-length-3 : tie.Need-same-length-3
+same-length-3 c = c .before .before .before .before .before .before .before .before .before .before .before .before .before .before .before .before .before .before .before .before .before .before .before .before .before .before .before .before .before .before .before .before .before .write-objective .kept .1 .1 .1 .1 .1 .1 .1 .1 .1 .0
+
+same-length-4 : tie.Need-same-length-4
+same-length-4 c = c .before .before .before .before .before .before .before .before .before .before .before .before .before .before .before .before .before .before .before .before .before .before .before .before .before .before .before .before .before .before .before .before .before .write-objective .kept .1 .1 .1 .1 .1 .1 .1 .1 .1 .1 .0
+
+same-length-5 : tie.Need-same-length-5
+same-length-5 c = c .before .before .before .before .before .before .before .before .before .before .before .before .before .before .before .before .write-constraints .kept .1 .1 .1 .1 .1 .1 .1 .1 .1 .1 .1 .1 .0
+
+same-length-6 : tie.Need-same-length-6
+same-length-6 c = c .before .before .before .before .before .before .before .before .before .before .before .before .before .before .before .before .write-constraints .kept .1 .1 .1 .1 .1 .1 .1 .1 .1 .1 .1 .1 .1 .0
+
+same-length-7 : tie.Need-same-length-7
+same-length-7 c = c .before .before .before .before .before .before .before .before .before .before .before .before .before .before .before .before .write-constraints .kept .1 .1 .1 .1 .1 .1 .1 .1 .1 .1 .1 .1 .1 .1 .0
+
+same-length-8 : tie.Need-same-length-8
+same-length-8 c = c .before .before .before .before .before .before .before .before .before .before .before .before .before .before .before .before .write-constraints .kept .1 .1 .1 .1 .1 .1 .1 .1 .1 .1 .1 .1 .1 .1 .1 .0
+
+same-length-9 : tie.Need-same-length-9
+same-length-9 c = c .before .before .write-sides .kept .1 .1 .1 .1 .1 .1 .1 .0
+
+same-length-10 : tie.Need-same-length-10
+same-length-10 c = c .before .before .before .before .before .before .before .before .before .before .before .before .before .before .before .before .write-constraints .kept .1 .1 .1 .1 .1 .1 .1 .1 .1 .1 .1 .1 .1 .1 .1 .1 .0
+
+same-length-11 : tie.Need-same-length-11
+same-length-11 c = c .before .before .before .before .before .before .before .before .before .before .before .before .before .before .before .before .before .before .before .before .before .before .before .before .before .before .before .before .before .before .before .before .before .write-objective .kept .1 .1 .1 .1 .1 .1 .1 .1 .1 .1 .1 .0
+
+same-length-12 : tie.Need-same-length-12
+same-length-12 c = c .before .before .before .before .before .before .before .before .before .before .before .before .before .before .before .before .write-constraints .kept .1 .1 .1 .1 .1 .1 .1 .1 .1 .1 .1 .1 .1 .1 .1 .1 .1 .0
+
+returns-2 : tie.Need-returns-2
+returns-2 c =
+    let d = c .before .before .before .before .before .before .before .before .before .before .before .before .before .before .before .before .before .before .before .before .before .before .before .before .before .before .before .before .before .before .before .before .before .before .before .before .before .before .before in
+    let s = start (d .before .before) in
+    let p = given s in
+    let w = c .before .before .before .before .before .before .before .before .before .before .before .before .before .before .before .before .write-constraints .ensures in record {
+      number = number (d .before);
+      tables = record {
+        objective = objective-cut p compact (d .count-added .result .columns) (d .count-added .ensures .1) (c .before .before .before .before .before .before .before .before .before .before .before .before .before .before .before .before .before .before .before .before .before .before .before .before .before .before .before .before .before .before .before .before .before .write-objective .ensures);
+        constrained = constrained-cut p compact (w .0);
+        map = map-cut p compact (s .args .map-out .now) (w .1);
+      };
+      b-high = high-written p (s .args .low .now) (s .args .high .now) (lent s) (sym (number (d .before))) (s .args .b-high-out .now) (c .before .before .write-sides .ensures);
+    }
+
+pub cut-between-spec : {M : Type 1} → statement M
+cut-between-spec =
+    tie.close
+    (tie.spec
+    slice-aggregate-refuse-between
+    refuse-between-requires
+    returns
+    count-added-requires
+    write-objective-requires
+    write-constraints-requires
+    write-sides-requires
+    same-length
+    same-length-2
+    same-length-3
+    same-length-4
+    same-length-5
+    same-length-6
+    same-length-7
+    same-length-8
+    same-length-9
+    same-length-10
+    same-length-11
+    same-length-12
+    returns-2)
