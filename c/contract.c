@@ -218,6 +218,71 @@ static void joining(void) {
     CHECK("tau and kappa are copied, blocks move", o.tau == 2 && o.kappa == 3 && same_values(compact_s, blocks, 6));
 }
 
+/* three projectors read back from their file, in the tables of `two` */
+static uint32_t read_back(const uint8_t *file, size_t length, uint32_t *word_room, uint32_t *pattern_room,
+                          struct chordal_problem *read) {
+    struct chordal_words words = words_of(word_room, length / 4);
+    size_t len[11];
+    uint32_t number = chordal_file_words(file, length, word_room, length / 4);
+    if (number != CHORDAL_DONE) return number;
+    chordal_file_table_lengths(words, len);
+    for (int k = 0; k < 11; k++) len[k] = len[k] < MOST ? len[k] : MOST;
+    struct chordal_tables room;
+    room.p_starts.at = two.p_starts, room.p_starts.len = len[0], room.p_rows.at = two.p_rows, room.p_rows.len = len[1];
+    room.p_values.at = two.p_values, room.p_values.len = len[2], room.q.at = two.q, room.q.len = len[3];
+    room.a_starts.at = two.a_starts, room.a_starts.len = len[4], room.a_rows.at = two.a_rows, room.a_rows.len = len[5];
+    room.a_values.at = two.a_values, room.a_values.len = len[6], room.b.at = two.b, room.b.len = len[7];
+    room.cones.at = two.cones, room.cones.len = len[8], room.alphas.at = two.alphas, room.alphas.len = len[9];
+    room.pattern_words.at = pattern_room, room.pattern_words.len = len[10];
+    return chordal_problem_read_file(words, length, &room, read);
+}
+
+static void files(void) {
+    struct chordal_problem p = three_projectors(), read;
+    static uint8_t file[400], again[400];
+    static uint32_t words[100], patterns[MOST];
+    /* a NaN with bits of its own */
+    static const uint64_t bits[] = {UINT64_C(0x7ff00000deadbeef)};
+    double nan_q[1];
+    uint32_t same = 0;
+    memcpy(nan_q, bits, sizeof bits);
+    p.q = VALUES(nan_q);
+
+    size_t length = chordal_file_length(&p);
+    memset(file, 7, sizeof file);
+    CHECK("three projectors' file has 296 bytes", length == 296);
+    CHECK("a room that is too short", chordal_problem_write_file(&p, file, length - 1) == CHORDAL_SHORT && file[0] == 7);
+    CHECK("writing", chordal_problem_write_file(&p, file, sizeof file) == CHORDAL_DONE);
+    CHECK("it ends where its last table does", file[length - 4] == 2 && file[length] == 7);
+    CHECK("little-endian: n, m, and the length", file[0] == 1 && file[4] == 6 && file[76] == 40 && file[77] == 1);
+
+    CHECK("reading", read_back(file, length, words, patterns, &read) == CHORDAL_DONE);
+    CHECK("the same layout", chordal_problem_same_layout(&p, &read, &same) == CHORDAL_DONE && same == 1);
+    CHECK("the same values", same_values(read.a_values.at, a_values, 5) && same_values(read.b.at, b, M));
+    CHECK("a NaN keeps its bits", memcmp(read.q.at, bits, sizeof bits) == 0);
+    CHECK("written again", chordal_problem_write_file(&read, again, length) == CHORDAL_DONE);
+    CHECK("the same bytes", memcmp(file, again, length) == 0);
+
+    two.b[0] = 9;
+    CHECK("a byte less: 13", read_back(file, length - 1, words, patterns, &read) == CHORDAL_FILE_LENGTH);
+    CHECK("fewer words than length / 4: 13",
+          chordal_read_file(words, length / 4 - 1, length, words, 0, words, 0, words, 0, (uint64_t *)two.q, 0,
+                            (uint64_t *)two.q, 0, words, 0, words, 0, (uint64_t *)two.q, 0, (uint64_t *)two.q, 0, words, 0,
+                            (uint64_t *)two.q, 0, words, 0) == CHORDAL_FILE_LENGTH);
+    file[124] = 1;
+    CHECK("a gap that is not zero: 14", read_back(file, length, words, patterns, &read) == CHORDAL_FILE_TABLES);
+    file[124] = 0, file[31] = 255;
+    CHECK("a huge count: 14", read_back(file, length, words, patterns, &read) == CHORDAL_FILE_TABLES);
+    file[31] = 0, file[80] = 1;
+    CHECK("then what the tables hold", read_back(file, length, words, patterns, &read) == CHORDAL_STARTS);
+    CHECK("a refused reader has written nothing", two.b[0] == 9);
+
+    CHECK("the cut of what was read", cut_into(&one, COMPACT, &p, 0) == CHORDAL_DONE);
+    struct chordal_problem compact = chordal_augmented_problem(&one.length, &one.out);
+    CHECK("a compact problem's file", chordal_file_length(&compact) == 288);
+    CHECK("is written", chordal_problem_write_file(&compact, again, 288) == CHORDAL_DONE && again[24] == 0 && again[28] == 0);
+}
+
 static void the_rest(void) {
     struct chordal_problem p = three_projectors(), other = p;
     static const double low[] = {0, 1, 2, 0, 3, 4};
@@ -245,7 +310,7 @@ static void the_rest(void) {
         for (uint32_t l = 0; l < k; l++)
             CHECK("each number has its own text", strcmp(chordal_refusal_text(k), chordal_refusal_text(l)) != 0);
     CHECK("and one that no call answers has one too", strcmp(chordal_refusal_text(8), chordal_refusal_text(99)) == 0);
-    CHECK("the version is a number", CHORDAL_VERSION >= 100);
+    CHECK("the version is a number", CHORDAL_VERSION >= 200);
 }
 
 int main(void) {
@@ -256,6 +321,7 @@ int main(void) {
     repeats();
     covering();
     joining();
+    files();
     the_rest();
     printf("the header's contract: %d tried, %d failed\n", tried, failed);
     return failed ? EXIT_FAILURE : EXIT_SUCCESS;

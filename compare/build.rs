@@ -2,7 +2,7 @@
 use std::path::PathBuf;
 use std::{env, fs};
 
-const CALLS: [&str; 14] = [
+const CALLS: [&str; 17] = [
     "chordal_pair_index",
     "chordal_pair_back",
     "chordal_inverse",
@@ -17,6 +17,9 @@ const CALLS: [&str; 14] = [
     "chordal_pool",
     "chordal_generate_sizes",
     "chordal_generate",
+    "chordal_file_words",
+    "chordal_read_file",
+    "chordal_write_file",
 ];
 
 fn main() {

@@ -84,6 +84,8 @@ enum chordal_refusal {
     CHORDAL_TOO_LARGE = 10,  /* more than 262,144 augmented rows or, compact, 131,072 overlaps */
     CHORDAL_SHORT = 11,      /* an output is too short */
     CHORDAL_SOLUTION = 12,   /* a solution's lengths, or the cone map, are not those that the problem gives */
+    CHORDAL_FILE_LENGTH = 13, /* a problem file shorter than its header, or whose length is not the one in it; comes first */
+    CHORDAL_FILE_TABLES = 14, /* a problem file's offsets, gaps or end other than its counts give; comes before 1 */
     CHORDAL_RANGES = 15,     /* the seed of a problem to be generated is 0, or its vertex count, band or column count is out of its
                                 range; comes before anything else */
     CHORDAL_LIMITS = 16,     /* a low limit above its high one, or a NaN in either; comes after 4 */
@@ -241,6 +243,37 @@ uint32_t chordal_generate(
     uint32_t *cones_out, size_t cones_out_len, double *alphas_out, size_t alphas_out_len,
     uint32_t *pattern_words_out, size_t pattern_words_out_len);
 
+/* The whole little-endian words of a file, file_len / 4 of them; a caller on a little-endian machine whose bytes are
+ * aligned may read them in place instead. Refusal 11. */
+uint32_t chordal_file_words(const uint8_t *file, size_t file_len, uint32_t *out, size_t out_len);
+
+/* The tables of a problem file (docs/FILE.md) of `length` bytes, of which words are the whole words: counts, which are n, m,
+ * entries of P, entries of A, cones, alphas, patterns and pattern words, then each table. A double is its 64-bit pattern, so
+ * that every NaN keeps its bits; lend the doubles' memory. The first eight words tell how long each output has to be: 8,
+ * n + 1, the entries of P twice, n, n + 1, the entries of A twice, m, three for each cone, alphas, pattern words. Refusals 13,
+ * 14, 1 to 7, 11; 13 too where the words are not length / 4 many. */
+uint32_t chordal_read_file(
+    const uint32_t *words, size_t words_len, size_t length, uint32_t *counts_out, size_t counts_out_len,
+    uint32_t *p_starts_out, size_t p_starts_out_len, uint32_t *p_rows_out, size_t p_rows_out_len,
+    uint64_t *p_values_out, size_t p_values_out_len, uint64_t *q_out, size_t q_out_len,
+    uint32_t *a_starts_out, size_t a_starts_out_len, uint32_t *a_rows_out, size_t a_rows_out_len,
+    uint64_t *a_values_out, size_t a_values_out_len, uint64_t *b_out, size_t b_out_len,
+    uint32_t *cones_out, size_t cones_out_len, uint64_t *alphas_out, size_t alphas_out_len,
+    uint32_t *pattern_words_out, size_t pattern_words_out_len);
+
+/* The file of a problem, doubles given as their 64-bit patterns. It ends where its last table does: each begins at the
+ * lowest multiple of 8 not below the end of the one before, the first at byte 80. A file that was read, written again, has
+ * the same bytes. Refusals 1 to 7, 11. */
+uint32_t chordal_write_file(
+    uint32_t n, uint32_t m,
+    const uint32_t *p_starts, size_t p_starts_len, const uint32_t *p_rows, size_t p_rows_len,
+    const uint64_t *p_values, size_t p_values_len, const uint64_t *q, size_t q_len,
+    const uint32_t *a_starts, size_t a_starts_len, const uint32_t *a_rows, size_t a_rows_len,
+    const uint64_t *a_values, size_t a_values_len, const uint64_t *b, size_t b_len,
+    const uint32_t *cones, size_t cones_len, const uint64_t *alphas, size_t alphas_len,
+    uint32_t pattern_count, const uint32_t *pattern_words, size_t pattern_words_len,
+    uint8_t *out, size_t out_len);
+
 /* out[0]: 1 where two problems agree in n, m, cone records, pattern words, alphas, and the starts and rows of A and of P, else 0.
  * Alphas are compared bit by bit: +0.0 and -0.0 differ; one NaN is not told from another. Where it is 1 and a route accepts both
  * problems, their cuts on it have the same starts and rows of A and P, cones and map, and outputs of one length serve both.
@@ -264,7 +297,7 @@ uint32_t chordal_same_layout(
 
 /* ---- Structs and inline functions over the calls. Nothing here is in libdoor.a. */
 
-#define CHORDAL_VERSION 100 /* 0.1.0 */
+#define CHORDAL_VERSION 200 /* 0.2.0 */
 
 /* What a refusal number means, in a few words; a number that no call answers has a text too. */
 static inline const char *chordal_refusal_text(uint32_t number) {
@@ -281,12 +314,11 @@ static inline const char *chordal_refusal_text(uint32_t number) {
     case CHORDAL_TOO_LARGE: return "there are too many augmented rows or overlaps";
     case CHORDAL_SHORT: return "an output is too short";
     case CHORDAL_SOLUTION: return "the solution's lengths or the cone map are not those of this problem";
+    case CHORDAL_FILE_LENGTH: return "a problem file's header is short, or its length is not the file's";
+    case CHORDAL_FILE_TABLES: return "a problem file's offsets, gaps or end are not those of its counts";
+    case CHORDAL_RANGES: return "a seed is 0, or a count of the generator is outside its range";
     case CHORDAL_LIMITS: return "a low limit is above its high one, or one of them is a NaN";
-    /* of problem files, of the generator and of pooling */
-    case 13: return "a problem file's header is short, or its length is not the file's";
-    case 14: return "a problem file's offsets, gaps or end are not those of its counts";
-    case 15: return "a seed is 0, or a count of the generator is outside its range";
-    case 17: return "two problems to be pooled have different n";
+    case CHORDAL_UNKNOWNS: return "two problems to be pooled have different n";
     default: return "a number that this header does not name";
     }
 }
@@ -324,6 +356,17 @@ struct chordal_augmented {
     struct chordal_words_out map;
 };
 
+/* The rooms for the tables of a file that is read, each with its length. */
+struct chordal_tables {
+    struct chordal_words_out p_starts, p_rows;
+    struct chordal_values_out p_values, q;
+    struct chordal_words_out a_starts, a_rows;
+    struct chordal_values_out a_values, b;
+    struct chordal_words_out cones;
+    struct chordal_values_out alphas;
+    struct chordal_words_out pattern_words;
+};
+
 /* A solution that is read, and the room for one that is written. */
 struct chordal_solution { struct chordal_values x, s, z; double tau, kappa; };
 struct chordal_joined { struct chordal_values_out x, s, z; double tau, kappa; };
@@ -345,10 +388,16 @@ static inline double *chordal_values_room(struct chordal_values_out t) {
     return t.at ? t.at : none;
 }
 
+/* A double's memory as that of its 64-bit pattern: the calls on files move patterns, and are no code that a compiler sees. */
+static inline const uint64_t *chordal_bits_at(struct chordal_values t) { return (const uint64_t *)chordal_values_at(t); }
+static inline uint64_t *chordal_bits_room(struct chordal_values_out t) { return (uint64_t *)chordal_values_room(t); }
+
 #define CHORDAL_W(t) chordal_words_at(t), (t).len
 #define CHORDAL_V(t) chordal_values_at(t), (t).len
 #define CHORDAL_WO(t) chordal_words_room(t), (t).len
 #define CHORDAL_VO(t) chordal_values_room(t), (t).len
+#define CHORDAL_B(t) chordal_bits_at(t), (t).len
+#define CHORDAL_BO(t) chordal_bits_room(t), (t).len
 #define CHORDAL_BEFORE_B(p) \
     (p)->n, (p)->m, CHORDAL_W((p)->p_starts), CHORDAL_W((p)->p_rows), CHORDAL_V((p)->p_values), CHORDAL_V((p)->q), \
     CHORDAL_W((p)->a_starts), CHORDAL_W((p)->a_rows), CHORDAL_V((p)->a_values)
@@ -430,6 +479,83 @@ static inline uint32_t chordal_problem_same_layout(const struct chordal_problem 
     return chordal_same_layout(CHORDAL_PROBLEM(first), CHORDAL_PROBLEM(second), same, 1);
 }
 
+/* The augmented problem that a cut has written, which has no patterns; the lengths are those of chordal_problem_sizes. */
+static inline struct chordal_problem chordal_augmented_problem(const struct chordal_lengths *lengths,
+                                                               const struct chordal_augmented *augmented) {
+    struct chordal_problem p;
+    p.n = lengths->q, p.m = lengths->b;
+    p.p_starts.at = augmented->p_starts.at, p.p_starts.len = lengths->p_starts;
+    p.p_rows.at = augmented->p_rows.at, p.p_rows.len = lengths->p_rows;
+    p.p_values.at = augmented->p_values.at, p.p_values.len = lengths->p_values;
+    p.q.at = augmented->q.at, p.q.len = lengths->q;
+    p.a_starts.at = augmented->a_starts.at, p.a_starts.len = lengths->a_starts;
+    p.a_rows.at = augmented->a_rows.at, p.a_rows.len = lengths->a_rows;
+    p.a_values.at = augmented->a_values.at, p.a_values.len = lengths->a_values;
+    p.b.at = augmented->b.at, p.b.len = lengths->b;
+    p.cones.at = augmented->cones.at, p.cones.len = lengths->cones;
+    p.alphas.at = augmented->alphas.at, p.alphas.len = lengths->alphas;
+    p.pattern_count = 0, p.pattern_words.at = 0, p.pattern_words.len = 0;
+    return p;
+}
+
+/* The lengths of the tables of a file with these words, in its order: p starts, p rows, p values, q, a starts, a rows,
+ * a values, b, cones, alphas, pattern words. A count beyond the words is taken as theirs, so that a caller makes no more room
+ * than a few times the file; the reader refuses such a file. */
+static inline void chordal_file_table_lengths(struct chordal_words words, size_t out[11]) {
+    size_t count[8];
+    for (size_t k = 0; k < 8; k++) {
+        size_t given = k < words.len ? words.at[k] : 0;
+        count[k] = given < words.len ? given : words.len;
+    }
+    out[0] = out[4] = count[0] + 1, out[1] = out[2] = count[2], out[3] = count[0], out[5] = out[6] = count[3];
+    out[7] = count[1], out[8] = 3 * count[4], out[9] = count[5], out[10] = count[7];
+}
+
+/* chordal_read_file: the tables go to their rooms, and *out is the problem that stands there. The words are those of
+ * chordal_file_words, the length is the file's in bytes. */
+static inline uint32_t chordal_problem_read_file(struct chordal_words words, size_t length, const struct chordal_tables *room,
+                                                 struct chordal_problem *out) {
+    uint32_t count[8];
+    uint32_t number = chordal_read_file(
+        CHORDAL_W(words), length, count, 8, CHORDAL_WO(room->p_starts), CHORDAL_WO(room->p_rows), CHORDAL_BO(room->p_values),
+        CHORDAL_BO(room->q), CHORDAL_WO(room->a_starts), CHORDAL_WO(room->a_rows), CHORDAL_BO(room->a_values),
+        CHORDAL_BO(room->b), CHORDAL_WO(room->cones), CHORDAL_BO(room->alphas), CHORDAL_WO(room->pattern_words));
+    if (number != CHORDAL_DONE) return number;
+    out->n = count[0], out->m = count[1], out->pattern_count = count[6];
+    out->p_starts.at = room->p_starts.at, out->p_starts.len = (size_t)count[0] + 1;
+    out->p_rows.at = room->p_rows.at, out->p_rows.len = count[2];
+    out->p_values.at = room->p_values.at, out->p_values.len = count[2];
+    out->q.at = room->q.at, out->q.len = count[0];
+    out->a_starts.at = room->a_starts.at, out->a_starts.len = (size_t)count[0] + 1;
+    out->a_rows.at = room->a_rows.at, out->a_rows.len = count[3];
+    out->a_values.at = room->a_values.at, out->a_values.len = count[3];
+    out->b.at = room->b.at, out->b.len = count[1];
+    out->cones.at = room->cones.at, out->cones.len = (size_t)3 * count[4];
+    out->alphas.at = room->alphas.at, out->alphas.len = count[5];
+    out->pattern_words.at = room->pattern_words.at, out->pattern_words.len = count[7];
+    return CHORDAL_DONE;
+}
+
+/* The bytes of a problem's file: the header, then each table at a multiple of 8. */
+static inline size_t chordal_file_length(const struct chordal_problem *problem) {
+    const struct chordal_problem *p = problem;
+    const size_t bytes[11] = {4 * p->p_starts.len, 4 * p->p_rows.len, 8 * p->p_values.len, 8 * p->q.len,
+                              4 * p->a_starts.len, 4 * p->a_rows.len, 8 * p->a_values.len, 8 * p->b.len,
+                              4 * p->cones.len,    8 * p->alphas.len, 4 * p->pattern_words.len};
+    size_t end = 80;
+    for (size_t k = 0; k < 11; k++) end = (end + 7) / 8 * 8 + bytes[k];
+    return end;
+}
+
+/* chordal_write_file: chordal_file_length says how many bytes of out are written. */
+static inline uint32_t chordal_problem_write_file(const struct chordal_problem *problem, uint8_t *out, size_t out_len) {
+    const struct chordal_problem *p = problem;
+    return chordal_write_file(p->n, p->m, CHORDAL_W(p->p_starts), CHORDAL_W(p->p_rows), CHORDAL_B(p->p_values), CHORDAL_B(p->q),
+                              CHORDAL_W(p->a_starts), CHORDAL_W(p->a_rows), CHORDAL_B(p->a_values), CHORDAL_B(p->b),
+                              CHORDAL_W(p->cones), CHORDAL_B(p->alphas), p->pattern_count, CHORDAL_W(p->pattern_words), out,
+                              out_len);
+}
+
 /* The largest |Ax + s - b| of a joined solution in the original rows, or a NaN where one is; rows gets Ax + s - b. The
  * problem is one that a cut has accepted, x has n values, s and rows have m. */
 static inline double chordal_original_residual(const struct chordal_problem *problem, const double *x, const double *s,
@@ -451,6 +577,8 @@ static inline double chordal_original_residual(const struct chordal_problem *pro
 #undef CHORDAL_V
 #undef CHORDAL_WO
 #undef CHORDAL_VO
+#undef CHORDAL_B
+#undef CHORDAL_BO
 #undef CHORDAL_BEFORE_B
 #undef CHORDAL_AFTER_B
 #undef CHORDAL_PROBLEM

@@ -4,7 +4,7 @@ use std::path::{Path, PathBuf};
 use std::process::Command;
 use std::{env, fs};
 
-const CALLS: [&str; 14] = [
+const CALLS: [&str; 17] = [
     "chordal_pair_index",
     "chordal_pair_back",
     "chordal_inverse",
@@ -19,6 +19,9 @@ const CALLS: [&str; 14] = [
     "chordal_pool",
     "chordal_generate_sizes",
     "chordal_generate",
+    "chordal_file_words",
+    "chordal_read_file",
+    "chordal_write_file",
 ];
 
 fn main() {

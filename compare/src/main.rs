@@ -10,11 +10,13 @@ mod door;
 mod exact;
 mod exhaustive;
 mod expected;
+mod files;
 mod generated;
 mod loads;
 mod malformed;
 mod pool;
 mod problem;
+mod problem_file;
 mod random;
 mod report;
 mod rounding;
@@ -39,11 +41,15 @@ compare/run --both-routes [--cases N]  solutions held against both routes' writt
 compare/run --loads [--cases N]        generated problems (Q-5): every vertex count with every band through both routes,
                                        then N at random
 compare/run --test-load            what crate test_load prints, from the plain reading
+compare/run --files [--cases N]    files, most of them damaged, through reader and writer (Q-2)
+compare/run --program FILE [--cases N]   the same through the program cut_file (Q-2)
 compare/run --vectors FILE         stored cases (JSON, one a line), told by the file's name: cases.jsonl, q-N.jsonl
 compare/run --differences          clarabel on the inputs of docs/DIFFERENCES.md
 compare/run --malformed            time a word of refused calls, at 10,000, 100,000 and 1,000,000 words
 compare/run --speed                times, with ratios where the door is linked
 compare/run --store FOLDER --cases N --seed S    writes stored answers of each family, for crate replay
+compare/run --file-answers FILE --cases N --seed S   writes files with the reader's answers, for crate file_answers
+compare/run --samples FOLDER       writes the sample files of crate cut_samples, with what the program makes of them
 The door is the libdoor.a in the folder that CHORDAL_DOOR_LIB names, or else the one that rt makes.";
 
 /// The draws of one case, which can so be made again alone.
@@ -286,8 +292,12 @@ fn compare() -> i32 {
             "--loads" => mode = "loads",
             "--test-load" => mode = "test load",
             "--malformed" => mode = "malformed",
+            "--files" => mode = "files",
+            "--program" => (mode, file) = ("program", Some(value())),
             "--speed" => mode = "speed",
             "--vectors" => (mode, file) = ("vectors", Some(value())),
+            "--samples" => (mode, file) = ("samples", Some(value())),
+            "--file-answers" => (mode, file) = ("file answers", Some(value())),
             "--store" => (mode, file) = ("store", Some(value())),
             "--case" => (mode, one) = ("one", value().parse().expect("a case's number")),
             _ => {
@@ -313,6 +323,14 @@ fn compare() -> i32 {
             println!("{} cases of each family stored in {folder}", o.cases);
             return 0;
         }
+        "file answers" => {
+            files::write_answers(file.unwrap().as_ref(), o.cases, o.seed).expect("writing");
+            return 0;
+        }
+        "samples" => {
+            files::write_samples(file.unwrap().as_ref()).expect("writing");
+            return 0;
+        }
         "vectors" => {
             let mut d = case_draws(o.seed, 0);
             if let Err(e) = vectors::compare(&mut report, &mut d, file.unwrap().as_ref()) {
@@ -327,6 +345,8 @@ fn compare() -> i32 {
             print!("{}", loads::test_load_text());
             return 0;
         }
+        "files" => files::compare(&mut report, o.cases, o.seed, None),
+        "program" => files::compare(&mut report, o.cases, o.seed, file.as_deref().map(str::as_ref)),
         "exhaustive" => exhaustive_cases(&mut report, &o),
         "one" => {
             for scale in [random::TINY, random::SMALL, random::LARGE] {

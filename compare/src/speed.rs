@@ -8,10 +8,12 @@ use crate::against::{join_input, tables};
 use crate::change_route;
 use crate::door;
 use crate::expected::{self, Clique, Pattern};
+use crate::files;
 use crate::generated::Load;
 use crate::loads;
 use crate::pool;
 use crate::problem::*;
+use crate::problem_file;
 use crate::random::{self, band_pattern, Draws};
 use crate::sides;
 use reference::door::{Prepared, Vars};
@@ -505,6 +507,59 @@ fn generated(load: Load) {
     beside_line(&name, "generated problem", "the plain reading, in Rust", times);
 }
 
+// a file of some megabytes beside copying its bytes
+fn files(name: &str, p: &Problem) {
+    let file = problem_file::laid_out(p, 8);
+    let mut words = vec![0; file.len() / 4];
+    let mut read = files::outputs(files::needed(&problem_file::counts(p)));
+    let mut written = vec![0; file.len()];
+    let mut copy = file.clone();
+    assert_eq!(files::file_words(&file, &mut words), 0);
+    assert_eq!(files::read_file(&words, file.len(), &mut read), 0, "the door refuses {name}");
+    let (lent, given) = (words.clone(), read.clone());
+    assert_eq!(files::write_file(&given, &mut written), 0, "the door refuses {name}");
+    assert!(written == file);
+    let [to_words, to_tables, to_bytes, copied] = medians([
+        &mut || {
+            black_box(files::file_words(&file, &mut words));
+        },
+        &mut || {
+            black_box(files::read_file(&lent, file.len(), &mut read));
+        },
+        &mut || {
+            black_box(files::write_file(&given, &mut written));
+        },
+        &mut || {
+            copy.copy_from_slice(black_box(&file));
+            black_box(&mut copy);
+        },
+    ]);
+    let name = format!("{name}: a file of {:.1} MB", file.len() as f64 / 1e6);
+    let measure = "its bytes copied (memcpy)";
+    beside_line(&name, "words of the file", measure, [to_words, copied]);
+    beside_line(&name, "reading its words", measure, [to_tables, copied]);
+    beside_line(&name, "both", measure, [to_words + to_tables, copied]);
+    beside_line(&name, "writing it", measure, [to_bytes, copied]);
+}
+
+// a file that is nearly as large as it can be: as many entries of P as of A
+fn large_files() {
+    let d = &mut Draws::new(13);
+    let band = shuffled(d, band_pattern(0, 256, 10));
+    for (name, cones, patterns) in
+        [("PSD 256, band 10", vec![6, 256, 0], vec![band]), ("undecomposed, m 65,536", vec![1, 65_536, 0], vec![])]
+    {
+        let (n, entries) = (1_000, 262);
+        let mut p = made(d, n, entries, cones, patterns);
+        p.p = Columns {
+            starts: (0..=n).map(|c| (c * entries) as u32).collect(),
+            rows: (0..n).flat_map(|_| 0..entries as u32).collect(),
+            values: (0..n * entries).map(|_| d.below(201) as f64 - 100.0).collect(),
+        };
+        files(name, &p);
+    }
+}
+
 fn requests() {
     println!("\n| input | call | door | beside | time | door / beside |");
     println!("|---|---|---|---|---|---|");
@@ -521,6 +576,7 @@ fn requests() {
     for (v, w, n) in [(2, 1, 1), (8, 2, 4), (16, 5, 8), (64, 1, 64), (64, 10, 64), (64, 63, 64)] {
         generated(Load { seed: 1, v, w, n });
     }
+    large_files();
 }
 
 pub fn print() {

@@ -7,10 +7,12 @@ use crate::against::{self, cut_difference, join_difference, join_input};
 use crate::change_route;
 use crate::door;
 use crate::expected;
+use crate::files;
 use crate::generated::Load;
 use crate::loads;
 use crate::pool;
 use crate::problem::*;
+use crate::problem_file;
 use crate::random::Draws;
 use crate::report::*;
 use crate::sides;
@@ -152,6 +154,11 @@ impl Json {
             Json::Text(t) if t.len() == 16 => u64::from_str_radix(t, 16).map(f64::from_bits).map_err(|e| e.to_string()),
             _ => Err(format!("no float: {self:?}")),
         }
+    }
+    fn bytes(&self) -> Result<Vec<u8>, String> {
+        let Json::Text(t) = self else { return Err(format!("no bytes: {self:?}")) };
+        let byte = |k| t.get(k..k + 2).and_then(|two| u8::from_str_radix(two, 16).ok());
+        (0..t.len()).step_by(2).map(|k| byte(k).ok_or_else(|| format!("no byte at {k}"))).collect()
     }
     fn floats(&self) -> Result<Vec<f64>, String> {
         self.list()?.iter().map(Json::float).collect()
@@ -486,10 +493,36 @@ fn loads(run: &mut Run, case: &Json) -> Result<(), String> {
     Ok(())
 }
 
+// a file, what is read, and what the program writes
+fn handed_over(run: &mut Run, case: &Json) -> Result<(), String> {
+    let (file, stored) = (case.get("file")?.bytes()?, case.get("program")?.bytes()?);
+    let p = problem_file::read(&file).map(|(_, p)| p);
+    let shown = p.clone().unwrap_or_default();
+    run.answered("reading a file", &shown, &p, case.get("read")?, |ours, stored| {
+        let stored = problem(stored)?;
+        let same = problem_file::counts(ours) == problem_file::counts(&stored);
+        Ok((!same || problem_file::laid_out(ours, 8) != problem_file::laid_out(&stored, 8)).then(|| "differs".into()))
+    })?;
+    // which NaN stands in A and b is left free
+    let one_nan = |bytes: Vec<u8>| match problem_file::read(&bytes) {
+        Ok((_, p)) => problem_file::laid_out(&problem_file::with_one_nan(p), 8),
+        Err(_) => bytes,
+    };
+    let program = problem_file::program(&file).0;
+    run.judge("program", (program != one_nan(stored)).then(|| "differs".into()), &shown);
+    if door::LINKED {
+        for _ in 0..TIMES {
+            files::compare_read(run.report, run.draws, &file);
+            files::compare_write(run.report, run.draws, &shown);
+        }
+    }
+    Ok(())
+}
+
 // what reads and compares a case of a file
 type Form = fn(&mut Run, &Json) -> Result<(), String>;
 
-const FORMS: [(&str, Form); 10] = [
+const FORMS: [(&str, Form); 11] = [
     ("cases", base),
     ("q-7", |run, case| cuts(run, case, 3)),
     ("q-10", same_layout),
@@ -500,6 +533,7 @@ const FORMS: [(&str, Form); 10] = [
     ("q-1", exposures),
     ("q-11", passes),
     ("q-5", loads),
+    ("q-2", handed_over),
 ];
 
 /// Compares each case of the file, whose name without its ending is one of `FORMS`.

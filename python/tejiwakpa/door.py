@@ -62,7 +62,7 @@ def call(name, *arguments):
             passed += [ctypes.c_void_p(argument.ctypes.data), ctypes.c_size_t(length)]
         elif isinstance(argument, float):
             passed.append(ctypes.c_double(argument))
-        elif isinstance(argument, ctypes.c_uint64):
+        elif isinstance(argument, (ctypes.c_uint64, ctypes.c_size_t)):
             passed.append(argument)
         else:
             passed.append(ctypes.c_uint32(argument))

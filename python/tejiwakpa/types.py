@@ -215,6 +215,39 @@ class Problem:
             [Pattern(0, [0, 1, 2], [Clique(1, [0], [1]), Clique(None, [1, 2])])],
         )
 
+    @staticmethod
+    def from_bytes(data):
+        """The problem of a problem file's bytes; docs/FILE.md says how a file is laid out.
+
+        >>> Problem.from_bytes(Problem.three_projectors().to_bytes()).b.tolist()
+        [1.0, 2.0, 3.0, 0.0, 4.0, 5.0]
+        """
+        from . import file  # stands over the calls, and these over the types
+
+        return file.from_bytes(data)
+
+    @staticmethod
+    def from_file(path):
+        """Reads a problem file, as other tools hand it over. What is read passes checks 1 to 7; a cut may still refuse it."""
+        with open(path, "rb") as file:
+            return Problem.from_bytes(file.read())
+
+    def to_bytes(self):
+        """The bytes of the problem's file. Those of a file that was read are the same again, whatever NaNs it holds.
+
+        >>> len(Problem.three_projectors().to_bytes())
+        296
+        """
+        from . import file
+
+        return file.to_bytes(self)
+
+    def to_file(self, path):
+        """Writes the problem as a file, for other tools. A problem that is refused writes none."""
+        data = self.to_bytes()
+        with open(path, "wb") as file:
+            file.write(data)
+
     def cone_words(self):
         """The cones' records and their exponents."""
         return (door.words([w for cone in self.cones for w in cone.record()]),

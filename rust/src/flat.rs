@@ -15,6 +15,10 @@
 //! # Ok::<(), Refusal>(())
 //! ```
 
+mod file;
+
+pub use file::{file_length, file_words, read_file, write_file, FileOutputs, FileTables};
+
 use crate::Refusal;
 
 /// The mark for no parent in a pattern's words, and for no pattern in a cone map's words.

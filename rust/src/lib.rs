@@ -16,6 +16,7 @@
 //! | [`pool`] | one problem of two passes that share their unknowns |
 //! | [`change_route`] | a compact solution from a standard one |
 //! | [`generate`] | a problem that any site can make again |
+//! | [`Problem::from_file_bytes`], [`Problem::to_file_bytes`] | a problem file read and written, for other tools |
 //! | [`same_layout`] | whether what was worked out from one problem's places serves another |
 //!
 //! Beside the calls, in Rust alone: [`original_residual`] is what to watch after a joining, [`covers`] and [`cut_covered`] ask
@@ -68,6 +69,7 @@ mod change_route;
 mod cone;
 pub mod contract;
 mod diagnosis;
+mod file;
 pub mod flat;
 mod generate;
 mod pattern;

@@ -46,6 +46,11 @@ pub enum Refusal {
     Short = 11,
     /// 12: the lengths of a solution, or the cone map, are not those that the problem gives.
     Solution = 12,
+    /// 13: a file is shorter than its header, or the length in its header is not its own. A reader checks this first.
+    FileLength = 13,
+    /// 14: a file's offsets, a gap between its tables or the end of its last table are not those that its counts give. This
+    /// check comes before 1.
+    FileTables = 14,
     /// 15: the seed of a problem to be generated is 0, or its vertex count, band or column count is out of its range. This
     /// check comes before any other.
     Ranges = 15,
@@ -63,7 +68,7 @@ impl Refusal {
     ///
     /// assert!(Refusal::ALL.windows(2).all(|two| two[0].number() < two[1].number()));
     /// ```
-    pub const ALL: [Refusal; 15] = [
+    pub const ALL: [Refusal; 17] = [
         Refusal::Bound,
         Refusal::Starts,
         Refusal::Rows,
@@ -76,6 +81,8 @@ impl Refusal {
         Refusal::TooLarge,
         Refusal::Short,
         Refusal::Solution,
+        Refusal::FileLength,
+        Refusal::FileTables,
         Refusal::Ranges,
         Refusal::Limits,
         Refusal::Unknowns,
@@ -123,6 +130,8 @@ impl Refusal {
             Refusal::TooLarge => "there are too many augmented rows or overlaps",
             Refusal::Short => "an output is too short",
             Refusal::Solution => "the solution's lengths or the cone map are not those of this problem",
+            Refusal::FileLength => "the file is shorter than its header, or the length in it is not its own",
+            Refusal::FileTables => "the file's offsets, gaps or end are not those that its counts give",
             Refusal::Ranges => "the seed is 0, or a vertex count, band or column count is out of its range",
             Refusal::Limits => "a low limit is above its high one, or one of them is a NaN",
             Refusal::Unknowns => "the two problems have different numbers of unknowns",

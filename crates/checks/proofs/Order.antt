@@ -1,19 +1,19 @@
 -- The first failing check, group by group.
 use Prim.Native.Nat.{ℕ, zero, suc, _≤_}
 use native.Mathlib.Omega.{arith}
-use mathlib.Core.Path.{_≡_, refl, ap, _∙_}
+use mathlib.Core.Path.{_≡_, refl, sym, ap, _∙_}
 use mathlib.Core.Bool.{Bool, true, false, cond, _&&_}
 use mathlib.Core.List.{List, [], _∷_, _++_}
 use lib.ListN.{length}
 use lib.Dec.{T, leb, eqb}
 use lib.Ieee.{Float}
-use Rattle.layout.specs.Problem.{Problem, Route}
+use Rattle.layout.specs.Problem.{Csc, Problem, Route}
 use Rattle.layout.specs.Patterns.{readPatterns, endsRight}
 use Rattle.layout.specs.Checks.{conesBounded, conesRead, alphasAsMany, patternsRead, check1, check2, check3, check4, check10, Check, check, firstFailing, patternChecks, problemChecks, routeChecks, refusal}
 use Rattle.layout.proofs.Tests.{and-iff, leb-iff, passed, passes, differ}
-use Rattle.layout.proofs.Order.{failing-append}
+use Rattle.layout.proofs.Order.{failing-append, orElse-assoc}
 use Rattle.layout.specs.Answers.{joinBounded, orElse, problemRefusal, joinChecks, joinedParts}
-use Rattle.checks.specs.Order.{matricesRefusal, recordsRefusal, patternsRefusal, joinedChecks, joinedRefusal}
+use Rattle.checks.specs.Order.{bounds, matricesRefusal, recordsRefusal, tablesRefusal, patternsRefusal, joinedChecks, joinedRefusal}
 
 -- checks 1 to 10 of a problem: 1 to 7, then those of the route
 pub problem-then-route : (route : Route) (p : Problem) → refusal route p ≡ orElse (problemRefusal p) (firstFailing (routeChecks route p))
@@ -26,20 +26,38 @@ pub joined-then-route : (route : Route) (n m : ℕ) (cones : List ℕ) (count : 
 joined-then-route route n m cones count words =
     failing-append (joinedChecks n m cones count words) (check 10 (check10 route m (joinedParts cones count words)) ∷ []) tt
 
+-- α apart from the rest of check 4: each part of it gives 4
+alphas-apart : (p : Problem) (x : ℕ)
+    → orElse (cond (check4 p) 0 4) x
+    ≡ orElse (recordsRefusal (p .n) (p .m) (p .q) (p .b) (p .cones)) (orElse (cond (alphasAsMany (p .cones) (p .alphas)) 0 4) x)
+alphas-apart p x = go (conesRead (p .m) (p .cones)) (alphasAsMany (p .cones) (p .alphas)) (eqb (length (p .q)) (p .n)) (eqb (length (p .b)) (p .m))
+  where
+    go : (a b c d : Bool) → orElse (cond (a && b && c && d) 0 4) x ≡ orElse (cond (a && c && d) 0 4) (orElse (cond b 0 4) x)
+    go false b c d = refl
+    go true true c d = refl
+    go true false false d = refl
+    go true false true false = refl
+    go true false true true = refl
+
 -- checks 1 to 7 in their groups
 pub in-groups : (p : Problem)
     → problemRefusal p
-    ≡ orElse (cond (check1 p) 0 1)
-    (orElse (matricesRefusal (p .n) (p .m) (p .P) (p .A))
-    (orElse (recordsRefusal (p .n) (p .m) (p .q) (p .b) (p .cones) (p .alphas))
-    (patternsRefusal (p .cones) (p .patternCount) (p .patternWords))))
+    ≡ orElse (tablesRefusal (p .n) (p .m) (p .P) (p .q) (p .A) (p .b) (p .cones))
+    (orElse (cond (alphasAsMany (p .cones) (p .alphas)) 0 4) (patternsRefusal (p .cones) (p .patternCount) (p .patternWords)))
 in-groups p =
     let matrices : List Check = check 2 (check2 p) ∷ check 3 (check3 p) ∷ [] in
     let records : List Check = check 4 (check4 p) ∷ [] in
+    let x : ℕ = cond (check1 p) 0 1 in
+    let y = matricesRefusal (p .n) (p .m) (p .P) (p .A) in
+    let z = recordsRefusal (p .n) (p .m) (p .q) (p .b) (p .cones) in
+    let rest = patternsRefusal (p .cones) (p .patternCount) (p .patternWords) in
+    let last : ℕ = orElse (cond (alphasAsMany (p .cones) (p .alphas)) 0 4) rest in
     failing-append (check 1 (check1 p) ∷ []) (matrices ++ records ++ patternChecks p) tt
-    ∙ ap (orElse (cond (check1 p) 0 1))
+    ∙ ap (orElse x)
     (failing-append matrices (records ++ patternChecks p) tt
-    ∙ ap (orElse (matricesRefusal (p .n) (p .m) (p .P) (p .A))) (failing-append records (patternChecks p) tt))
+    ∙ ap (orElse y) (failing-append records (patternChecks p) tt ∙ alphas-apart p rest)
+    ∙ sym (orElse-assoc y z last))
+    ∙ sym (orElse-assoc x (orElse y z) last)
 
 -- ---- two numbers, the second where the first is 0
 
@@ -53,22 +71,15 @@ both-zero (suc a) b e = absurd (omega arith)
 
 -- the answer at each group of a problem
 pub problem-order : (p : Problem) →
-    let a = matricesRefusal (p .n) (p .m) (p .P) (p .A) in
-    let b = recordsRefusal (p .n) (p .m) (p .q) (p .b) (p .cones) (p .alphas) in
-    (check1 p ≡ false → problemRefusal p ≡ 1) × (check1 p ≡ true → (a ≡ 0 → ⊥) → problemRefusal p ≡ a)
-    × (check1 p ≡ true → a ≡ 0 → (b ≡ 0 → ⊥) → problemRefusal p ≡ b)
-    × (check1 p ≡ true → a ≡ 0 → b ≡ 0 → problemRefusal p ≡ patternsRefusal (p .cones) (p .patternCount) (p .patternWords))
-problem-order p = order (check1 p) _ _ _ _ (in-groups p)
+    let tables = tablesRefusal (p .n) (p .m) (p .P) (p .q) (p .A) (p .b) (p .cones) in
+    let alphas = alphasAsMany (p .cones) (p .alphas) in
+    ((tables ≡ 0 → ⊥) → problemRefusal p ≡ tables) × (tables ≡ 0 → alphas ≡ false → problemRefusal p ≡ 4)
+    × (tables ≡ 0 → alphas ≡ true → problemRefusal p ≡ patternsRefusal (p .cones) (p .patternCount) (p .patternWords))
+problem-order p = order _ (alphasAsMany (p .cones) (p .alphas)) _ _ (in-groups p)
   where
-    order : (t : Bool) (a b c x : ℕ) → x ≡ orElse (cond t 0 1) (orElse a (orElse b c))
-        → (t ≡ false → x ≡ 1) × (t ≡ true → (a ≡ 0 → ⊥) → x ≡ a) × (t ≡ true → a ≡ 0 → (b ≡ 0 → ⊥) → x ≡ b)
-        × (t ≡ true → a ≡ 0 → b ≡ 0 → x ≡ c)
-    order t a b c x e = (
-      λ f. e ∙ rw f,
-      λ f h. e ∙ rw f (first-given a (orElse b c) h),
-      λ f z h. e ∙ rw (f, z) (first-given b c h),
-      λ f z y. e ∙ rw (f, z, y),
-    )
+    order : (a : ℕ) (t : Bool) (c x : ℕ) → x ≡ orElse a (orElse (cond t 0 4) c)
+        → ((a ≡ 0 → ⊥) → x ≡ a) × (a ≡ 0 → t ≡ false → x ≡ 4) × (a ≡ 0 → t ≡ true → x ≡ c)
+    order a t c x e = (λ h. e ∙ first-given a _ h, λ z f. e ∙ rw (z, f), λ z f. e ∙ rw (z, f))
 
 -- ---- what a test that passed says
 
@@ -77,6 +88,11 @@ pub refused : (b : Bool) (k : ℕ) → (cond b 0 k ≡ 0 → ⊥) → b ≡ fals
 refused true k h = absurd (h refl)
 refused false k h = refl
 
+-- and a test that was not refused
+pub not-refused : (b : Bool) (k : ℕ) → cond b 0 (suc k) ≡ 0 → b ≡ true
+not-refused true k e = refl
+not-refused false k e = absurd (omega arith)
+
 and-last : (a b : Bool) → (a && b) ≡ true → b ≡ true
 and-last true b e = e
 and-last false b e = absurd (differ false e refl)
@@ -84,20 +100,24 @@ and-last false b e = absurd (differ false e refl)
 pub bounded-cones : (n m : ℕ) (cones : List ℕ) → joinBounded n m cones ≡ true → conesBounded cones ≡ true
 bounded-cones n m cones e = and-last (leb n 65536 && leb m 65536) (conesBounded cones) e
 
-pub bounded-problem : (p : Problem) → check1 p ≡ true → conesBounded (p .cones) ≡ true
-bounded-problem p e =
-    and-last (leb (p .n) 65536 && leb (p .m) 65536 && leb (length (p .A .values)) 262144 && leb (length (p .P .values)) 262144) (conesBounded (p .cones)) e
+pub bounds-cones : (n m aEntries pEntries : ℕ) (cones : List ℕ) → bounds n m aEntries pEntries cones ≡ true → conesBounded cones ≡ true
+bounds-cones n m aEntries pEntries cones e =
+    and-last (leb n 65536 && leb m 65536 && leb aEntries 262144 && leb pEntries 262144) (conesBounded cones) e
 
-pub few-rows : (p : Problem) → check1 p ≡ true → p .m ≤ 65536
-few-rows p e = (simp (and-iff, leb-iff) at (passes _ e)) .0 .0 .0 .1
-
-pub records-read : (n m : ℕ) (q b : List Float) (cones : List ℕ) (alphas : List Float) → recordsRefusal n m q b cones alphas ≡ 0
-    → T (conesRead m cones)
-records-read n m q b cones alphas e = first (conesRead m cones) (alphasAsMany cones alphas) (eqb (length q) n) (eqb (length b) m) e
-  where
-    first : (a b c d : Bool) → _≡_ {A = ℕ} (cond (a && b && c && d) 0 4) 0 → T a
-    first true b c d z = tt
-    first false b c d z = absurd (omega arith)
+-- what checks 1 and 4 say of rows and cones
+pub tables-passed : (n m : ℕ) (P : Csc) (q : List Float) (A : Csc) (b : List Float) (cones : List ℕ) → tablesRefusal n m P q A b cones ≡ 0
+    → (m ≤ 65536) × T (conesBounded cones) × T (conesRead m cones)
+tables-passed n m P q A b cones e =
+    let first = bounds n m (length (A .values)) (length (P .values)) cones in
+    let fourth = conesRead m cones && eqb (length q) n && eqb (length b) m in
+    let (none1, others) = both-zero (cond first 0 1) (orElse (matricesRefusal n m P A) (cond fourth 0 4)) e in
+    let (_, none4) = both-zero (matricesRefusal n m P A) (cond fourth 0 4) others in
+    let (counts, bounded) =
+    and-iff (leb n 65536 && leb m 65536 && leb (length (A .values)) 262144 && leb (length (P .values)) 262144) (conesBounded cones) .0
+    (passes first (not-refused first 0 none1)) in
+    let few = simp (and-iff, leb-iff) at counts in
+    let (both, _) = and-iff (conesRead m cones && eqb (length q) n) (eqb (length b) m) .0 (passes fourth (not-refused fourth 3 none4)) in
+    (few .0 .0 .1, bounded, and-iff (conesRead m cones) (eqb (length q) n) .0 both .0)
 
 pub read-ends : (cones : List ℕ) (count : ℕ) (words : List ℕ) → patternsRead cones count words ≡ true
     → endsRight (readPatterns count words) ≡ true

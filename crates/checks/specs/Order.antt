@@ -1,6 +1,6 @@
 -- Checks 1 to 7 in the groups that the code makes them in.
 use Prim.Native.Nat.{ℕ}
-use mathlib.Core.Bool.{Bool, _&&_}
+use mathlib.Core.Bool.{Bool, cond, _&&_}
 use mathlib.Core.List.{List, [], _∷_}
 use lib.ListN.{length}
 use lib.Dec.{leb, eqb}
@@ -8,8 +8,8 @@ use lib.Ieee.{Float}
 use Rattle.layout.specs.Lists.{all}
 use Rattle.layout.specs.Problem.{Csc}
 use Rattle.layout.specs.Patterns.{patterns}
-use Rattle.layout.specs.Checks.{conesBounded, startsRight, rowsInOrder, rowsRight, conesRead, alphasAsMany, patternsRead, treeRight, cliquesRight, Check, check, firstFailing}
-use Rattle.layout.specs.Answers.{joinBounded}
+use Rattle.layout.specs.Checks.{conesBounded, startsRight, rowsInOrder, rowsRight, conesRead, patternsRead, treeRight, cliquesRight, Check, check, firstFailing}
+use Rattle.layout.specs.Answers.{joinBounded, orElse}
 
 -- 1
 abbrev pub bounds : ℕ → ℕ → ℕ → ℕ → List ℕ → Bool
@@ -20,10 +20,15 @@ abbrev pub matricesRefusal : ℕ → ℕ → Csc → Csc → ℕ
 matricesRefusal n m P A =
     firstFailing (check 2 (startsRight n A && startsRight n P) ∷ check 3 (rowsInOrder m n A && rowsRight n n P) ∷ [])
 
--- 4
-abbrev pub recordsRefusal : ℕ → ℕ → List Float → List Float → List ℕ → List Float → ℕ
-recordsRefusal n m q b cones alphas =
-    firstFailing (check 4 (conesRead m cones && alphasAsMany cones alphas && eqb (length q) n && eqb (length b) m) ∷ [])
+-- 4 but for α
+abbrev pub recordsRefusal : ℕ → ℕ → List Float → List Float → List ℕ → ℕ
+recordsRefusal n m q b cones = firstFailing (check 4 (conesRead m cones && eqb (length q) n && eqb (length b) m) ∷ [])
+
+-- 1 to 3, and 4 but for α
+abbrev pub tablesRefusal : ℕ → ℕ → Csc → List Float → Csc → List Float → List ℕ → ℕ
+tablesRefusal n m P q A b cones =
+    orElse (cond (bounds n m (length (A .values)) (length (P .values)) cones) 0 1)
+    (orElse (matricesRefusal n m P A) (recordsRefusal n m q b cones))
 
 -- 5, 6 and 7
 abbrev pub patternsRefusal : List ℕ → ℕ → List ℕ → ℕ

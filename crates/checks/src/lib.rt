@@ -9,8 +9,9 @@ ghost use Rattle.layout.specs.Lists.{all};
 ghost use Rattle.layout.specs.Patterns.{patterns};
 ghost use Rattle.layout.specs.Checks.{conesBounded, conesRead, patternsRead, treeRight, cliquesRight};
 ghost use Rattle.layout.specs.Answers.{joinBounded, joinedParts, problemRefusal};
+ghost use Rattle.layout.specs.FileWords.{unvalued};
 ghost use Rattle.csc.specs.Matrix.{matrix};
-ghost use Rattle.checks.specs.Order.{bounds, matricesRefusal, recordsRefusal, patternsRefusal, joinedRefusal};
+ghost use Rattle.checks.specs.Order.{bounds, matricesRefusal, recordsRefusal, tablesRefusal, patternsRefusal, joinedRefusal};
 use constants::limit;
 use constants::refusal;
 
@@ -46,46 +47,79 @@ pub fn check_matrices(
     m: u32,
     p_starts: &[u32],
     p_rows: &[u32],
-    p_values: &[f64],
+    p_entries: usize,
     a_starts: &[u32],
     a_rows: &[u32],
-    a_values: &[f64],
+    a_entries: usize,
 ) -> u32
-    ensures { λ r. ⌜ r ≡ matricesRefusal n m (matrix (now («p_starts» .entry)) (now («p_rows» .entry)) (now («p_values» .entry))) (matrix (now («a_starts» .entry)) (now («a_rows» .entry)) (now («a_values» .entry))) ⌝ }
+    ensures { λ r. ⌜ r ≡ matricesRefusal n m (matrix (now («p_starts» .entry)) (now («p_rows» .entry)) (unvalued «p_entries»)) (matrix (now («a_starts» .entry)) (now («a_rows» .entry)) (unvalued «a_entries»)) ⌝ }
 {
-    if !csc::starts_right(n, a_starts, a_rows, a_values) {
+    if !csc::starts_right(n, a_starts, a_rows, a_entries) {
         return refusal::STARTS;
     }
-    if !csc::starts_right(n, p_starts, p_rows, p_values) {
+    if !csc::starts_right(n, p_starts, p_rows, p_entries) {
         return refusal::STARTS;
     }
-    if !csc::rows_in_order(m, n, a_starts, a_rows, a_values) {
+    if !csc::rows_in_order(m, n, a_starts, a_rows) {
         return refusal::ROWS;
     }
-    if !csc::rows_right(n, n, p_starts, p_rows, p_values) {
+    if !csc::rows_right(n, n, p_starts, p_rows) {
         return refusal::ROWS;
     }
     refusal::DONE
 }
 
-// Check 4: records and rows, α, and the lengths of q and b.
-pub fn check_records(n: u32, m: u32, q: &[f64], b: &[f64], cones: &[u32], alphas: &[f64]) -> u32
+// Check 4 but for α: records and rows, and how many values q and b have.
+pub fn check_records(n: u32, m: u32, q_count: usize, b_count: usize, cones: &[u32]) -> u32
     requires { ⌜ conesBounded (now cones) ≡ true ⌝ }
-    ensures { λ r. ⌜ r ≡ recordsRefusal n m (now (q .entry)) (now (b .entry)) (now (cones .entry)) (now (alphas .entry)) ⌝ }
+    ensures { λ r. ⌜ r ≡ recordsRefusal n m (unvalued «q_count») (unvalued «b_count») (now (cones .entry)) ⌝ }
 {
     if supportedcone::check_cones(m, cones) != refusal::DONE {
         return refusal::CONES;
     }
-    if !supportedcone::alphas_as_many(cones, alphas) {
+    if q_count != n as usize {
         return refusal::CONES;
     }
-    if q.len() != n as usize {
-        return refusal::CONES;
-    }
-    if b.len() != m as usize {
+    if b_count != m as usize {
         return refusal::CONES;
     }
     refusal::DONE
+}
+
+// Checks 1 to 3, and 4 but for α, of a problem whose float tables have these lengths: the number of the first that fails, or 0. They
+// look at no value.
+fn check_tables(
+    n: u32,
+    m: u32,
+    p_starts: &[u32],
+    p_rows: &[u32],
+    p_entries: usize,
+    q_count: usize,
+    a_starts: &[u32],
+    a_rows: &[u32],
+    a_entries: usize,
+    b_count: usize,
+    cones: &[u32],
+) -> u32
+    ensures { λ r. ⌜ r ≡ tablesRefusal n m (matrix (now («p_starts» .entry)) (now («p_rows» .entry)) (unvalued «p_entries»)) (unvalued «q_count») (matrix (now («a_starts» .entry)) (now («a_rows» .entry)) (unvalued «a_entries»)) (unvalued «b_count») (now (cones .entry)) ⌝ }
+{
+    if !bounded(n, m, a_entries, p_entries, cones) {
+        return refusal::BOUND;
+    }
+    let matrices = check_matrices(
+        n,
+        m,
+        p_starts,
+        p_rows,
+        p_entries,
+        a_starts,
+        a_rows,
+        a_entries,
+    );
+    if matrices != refusal::DONE {
+        return matrices;
+    }
+    check_records(n, m, q_count, b_count, cones)
 }
 
 // Checks 5, 6 and 7 in order, where one of them fails: it is the last where the others pass.
@@ -137,7 +171,51 @@ fn count_patterns(m: u32, cones: &[u32], count: u32, words: &[u32]) -> Joined
     refused_as(refuse_patterns(cones, count, words))
 }
 
-// Checks 1 to 7: the number of the first that fails, or 0.
+// Checks 1 to 7 of a problem whose float tables have these lengths: the number of the first that fails, or 0.
+pub fn check_lengths(
+    n: u32,
+    m: u32,
+    p_starts: &[u32],
+    p_rows: &[u32],
+    p_entries: usize,
+    q_count: usize,
+    a_starts: &[u32],
+    a_rows: &[u32],
+    a_entries: usize,
+    b_count: usize,
+    cones: &[u32],
+    alpha_count: usize,
+    count: u32,
+    words: &[u32],
+) -> u32
+    ensures { λ r.
+        let p = problem n m (now («p_starts» .entry)) (now («p_rows» .entry)) (unvalued «p_entries») (unvalued «q_count») (now («a_starts» .entry)) (now («a_rows» .entry)) (unvalued «a_entries») (unvalued «b_count») (now (cones .entry)) (unvalued «alpha_count») count (now (words .entry)) in
+        ⌜ r ≡ problemRefusal p ⌝ }
+{
+    let tables = check_tables(
+        n,
+        m,
+        p_starts,
+        p_rows,
+        p_entries,
+        q_count,
+        a_starts,
+        a_rows,
+        a_entries,
+        b_count,
+        cones,
+    );
+    if tables != refusal::DONE {
+        return tables;
+    }
+    if !supportedcone::alphas_counted(cones, alpha_count) {
+        return refusal::CONES;
+    }
+    let patterns = count_patterns(m, cones, count, words);
+    patterns.refusal
+}
+
+// Checks 1 to 7: the number of the first that fails, or 0. Each α is read at its place, as the cone that takes it is.
 pub fn check_problem(
     n: u32,
     m: u32,
@@ -158,16 +236,24 @@ pub fn check_problem(
         let p = problem n m (now («p_starts» .entry)) (now («p_rows» .entry)) (now («p_values» .entry)) (now (q .entry)) (now («a_starts» .entry)) (now («a_rows» .entry)) (now («a_values» .entry)) (now (b .entry)) (now (cones .entry)) (now (alphas .entry)) count (now (words .entry)) in
         ⌜ r ≡ problemRefusal p ⌝ }
 {
-    if !bounded(n, m, a_values.len(), p_values.len(), cones) {
-        return refusal::BOUND;
+    let tables = check_tables(
+        n,
+        m,
+        p_starts,
+        p_rows,
+        p_values.len(),
+        q.len(),
+        a_starts,
+        a_rows,
+        a_values.len(),
+        b.len(),
+        cones,
+    );
+    if tables != refusal::DONE {
+        return tables;
     }
-    let matrices = check_matrices(n, m, p_starts, p_rows, p_values, a_starts, a_rows, a_values);
-    if matrices != refusal::DONE {
-        return matrices;
-    }
-    let records = check_records(n, m, q, b, cones, alphas);
-    if records != refusal::DONE {
-        return records;
+    if !supportedcone::alphas_as_many(cones, alphas) {
+        return refusal::CONES;
     }
     let patterns = count_patterns(m, cones, count, words);
     patterns.refusal

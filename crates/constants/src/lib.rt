@@ -1,5 +1,7 @@
 // The numbers of document 01 that code tests, answers and counts by, each under one name. No function is declared here.
 pub mod entry;
+pub mod file_table;
+pub mod header;
 pub mod limit;
 pub mod record;
 pub mod refusal;

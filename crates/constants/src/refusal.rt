@@ -25,6 +25,10 @@ pub const SHORT: u32 = 11;
 
 pub const SOLUTION: u32 = 12;
 
+pub const FILE_LENGTH: u32 = 13;
+
+pub const FILE_TABLES: u32 = 14;
+
 pub const RANGES: u32 = 15;
 
 pub const LIMITS: u32 = 16;

@@ -1,17 +1,20 @@
 -- Compressed columns put one after the other, and the columns of a matrix with right starts before others.
-use Prim.Native.Nat.{ℕ}
-use native.Mathlib.Nat.{le-refl}
+use Prim.Native.Nat.{ℕ, suc}
+use native.Mathlib.Nat.{le-refl, le-of-eq}
 use native.Mathlib.Omega.{arith}
-use mathlib.Core.Path.{_≡_, ap, ap₂, _∙_}
+use mathlib.Core.Path.{_≡_, sym, ap, ap₂, _∙_}
 use mathlib.Core.List.{List, _++_, map, map-map, map-append}
 use lib.ListN.{length}
+use lib.Dec.{T}
 use lib.Ieee.{Float}
 use Rattle.layout.specs.Lists.{below, sum, join, startsFrom}
 use Rattle.layout.specs.Problem.{Csc}
+use Rattle.layout.specs.Checks.{startsRight}
 use Rattle.layout.specs.Compact.{Entry, column, csc}
 use Rattle.layout.proofs.Starts.{join-append}
-use Rattle.layout.proofs.Columns.{RightStarts, columns-sum}
+use Rattle.layout.proofs.Columns.{RightStarts, starts-right, columns-sum}
 use Rattle.layout.proofs.Compressed.{totals, starts-append, own-rows, own-values, own-starts}
+use Rattle.csc.specs.Matrix.{ColumnsInside}
 
 -- ---- columns put one after the other
 
@@ -22,6 +25,12 @@ fields-append field cs ds =
     ap (map field) (join-append (λ (c : List Entry). c) cs ds) ∙ map-append field (join (λ c. c) cs) (join (λ c. c) ds)
 
 -- ---- a matrix's own columns
+
+-- right starts lie within the rows
+pub columns-inside : (n : ℕ) (M : Csc) → T (startsRight n M) → ColumnsInside n (M .starts) (M .rows)
+columns-inside n M h =
+    let right = starts-right n M h in
+    (le-of-eq (sym (right .count)), λ c l. (right .rise c l, right .inside (suc c) l))
 
 module _ (n : ℕ) (M : Csc) (right : RightStarts n M) where
   pub own-count : sum (map length (map (column M) (below n))) ≡ length (M .values)

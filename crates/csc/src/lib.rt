@@ -9,6 +9,7 @@ ghost use Rattle.layout.specs.Lists.{all, below, rises, written};
 ghost use Rattle.layout.specs.Checks.{neverFalls, startsRight, rowsInOrder, rowsRight, columnRows};
 ghost use Rattle.layout.specs.Runs.{runs, runFirst, runLast, runStarts, runCount};
 ghost use Rattle.layout.specs.Compact.{extendedP};
+ghost use Rattle.layout.specs.FileWords.{unvalued};
 ghost use Rattle.csc.specs.Matrix.{matrix, table, ColumnsInside};
 
 // Whether no number is below the one before it.
@@ -39,9 +40,10 @@ pub fn rise_strictly(rows: &[u32]) -> bool
     true
 }
 
-// Check 2 of a matrix with n columns; clarabel's check_dimensions, which lets the first start be any number.
-pub fn starts_right(n: u32, starts: &[u32], rows: &[u32], values: &[f64]) -> bool
-    ensures { λ r. ⌜ r ≡ startsRight n (matrix (now (starts .entry)) (now (rows .entry)) (now (values .entry))) ⌝ }
+// Check 2 of a matrix with n columns and as many values as `entries`; clarabel's check_dimensions, which lets the first start be any
+// number. The values themselves are not looked at, and so are not asked for.
+pub fn starts_right(n: u32, starts: &[u32], rows: &[u32], entries: usize) -> bool
+    ensures { λ r. ⌜ r ≡ startsRight n (matrix (now (starts .entry)) (now (rows .entry)) (unvalued entries)) ⌝ }
 {
     let last = n as usize;
     if starts.len() != last + 1 {
@@ -53,10 +55,10 @@ pub fn starts_right(n: u32, starts: &[u32], rows: &[u32], values: &[f64]) -> boo
     if !never_falls(starts) {
         return false;
     }
-    if starts[last] as usize != values.len() {
+    if starts[last] as usize != entries {
         return false;
     }
-    rows.len() == values.len()
+    rows.len() == entries
 }
 
 // Whether the rows of each of the n columns rise.
@@ -96,9 +98,9 @@ fn columns_never_fall(n: u32, starts: &[u32], rows: &[u32]) -> bool
 }
 
 // Check 3 of P, an m by n matrix that passes check 2; the rest of clarabel's check_format.
-pub fn rows_right(m: u32, n: u32, starts: &[u32], rows: &[u32], values: &[f64]) -> bool
-    requires { ⌜ T (startsRight n (matrix (now starts) (now rows) (now values))) ⌝ }
-    ensures { λ r. ⌜ r ≡ rowsRight m n (matrix (now (starts .entry)) (now (rows .entry)) (now (values .entry))) ⌝ }
+pub fn rows_right(m: u32, n: u32, starts: &[u32], rows: &[u32]) -> bool
+    requires { ⌜ ColumnsInside n (now starts) (now rows) ⌝ }
+    ensures { λ r. ⌜ r ≡ rowsRight m n (table (now (starts .entry)) (now (rows .entry))) ⌝ }
 {
     if !utils::all_below(rows, m as usize) {
         return false;
@@ -107,9 +109,9 @@ pub fn rows_right(m: u32, n: u32, starts: &[u32], rows: &[u32], values: &[f64]) 
 }
 
 // Check 3 of A, which may repeat a row in a column.
-pub fn rows_in_order(m: u32, n: u32, starts: &[u32], rows: &[u32], values: &[f64]) -> bool
-    requires { ⌜ T (startsRight n (matrix (now starts) (now rows) (now values))) ⌝ }
-    ensures { λ r. ⌜ r ≡ rowsInOrder m n (matrix (now (starts .entry)) (now (rows .entry)) (now (values .entry))) ⌝ }
+pub fn rows_in_order(m: u32, n: u32, starts: &[u32], rows: &[u32]) -> bool
+    requires { ⌜ ColumnsInside n (now starts) (now rows) ⌝ }
+    ensures { λ r. ⌜ r ≡ rowsInOrder m n (table (now (starts .entry)) (now (rows .entry))) ⌝ }
 {
     let end = m as usize;
     if !utils::all_below(rows, end) {

@@ -1,17 +1,18 @@
--- Checks 1 to 7 see of the float tables their lengths only.
+-- Checks 1 to 7 see of the float tables their lengths only, so a table of patterns is checked as its floats are.
 use Prim.Native.Nat.{ℕ}
-use mathlib.Core.Path.{_≡_, ap, ap₂}
+use mathlib.Core.Path.{_≡_, sym, ap, ap₂}
 use mathlib.Core.Bool.{Bool, _&&_}
 use mathlib.Core.List.{List, [], _∷_, map}
-use lib.ListN.{length, getD}
+use lib.ListN.{length, getD, length-replicate}
 use lib.Dec.{leb, eqb}
-use lib.Ieee.{Float}
+use lib.Ieee.{Float, nan}
 use Rattle.layout.specs.Lists.{all, sum}
 use Rattle.layout.specs.Problem.{Csc, problem}
 use Rattle.layout.specs.Cones.{records, alphaCount}
 use Rattle.layout.specs.Patterns.{patterns}
 use Rattle.layout.specs.Checks.{conesBounded, neverFalls, startCount, startsAtZero, startsRight, conesRead, alphasAsMany, patternsRead, treeRight, cliquesRight, check, firstFailing, check1, check2, check3, check4}
 use Rattle.layout.specs.Answers.{problemRefusal}
+use Rattle.layout.specs.FileWords.{unvalued}
 
 abbrev matrix : List ℕ → List ℕ → List Float → Csc
 matrix starts rows values = record { starts = starts; rows = rows; values = values }
@@ -44,3 +45,15 @@ refusal-lengths n m pStarts pRows pValues pValues′ q q′ aStarts aRows aValue
     λ i. firstFailing
     (check 1 (first i) ∷ check 2 (second i) ∷ check 3 (check3 old) ∷ check 4 (fourth i)
     ∷ check 5 (patternsRead cones count words) ∷ check 6 (all treeRight ps) ∷ check 7 (all cliquesRight ps) ∷ [])
+
+-- with nothing of them but how many there are
+pub refusal-unvalued : (n m : ℕ) (pStarts pRows : List ℕ) (pValues q : List Float) (aStarts aRows : List ℕ) (aValues b : List Float)
+    (cones : List ℕ) (alphas : List Float) (count : ℕ) (words : List ℕ)
+    → problemRefusal (problem n m pStarts pRows pValues q aStarts aRows aValues b cones alphas count words)
+    ≡ problemRefusal (problem n m pStarts pRows (unvalued (length pValues)) (unvalued (length q)) aStarts aRows
+    (unvalued (length aValues)) (unvalued (length b)) cones (unvalued (length alphas)) count words)
+refusal-unvalued n m pStarts pRows pValues q aStarts aRows aValues b cones alphas count words =
+    let as-many : (vs : List Float) → length vs ≡ length (unvalued (length vs)) = λ vs. sym (length-replicate (length vs) nan) in
+    refusal-lengths n m pStarts pRows pValues (unvalued (length pValues)) q (unvalued (length q)) aStarts aRows
+    aValues (unvalued (length aValues)) b (unvalued (length b)) cones alphas (unvalued (length alphas)) count words
+    (as-many pValues) (as-many q) (as-many aValues) (as-many b) (as-many alphas)

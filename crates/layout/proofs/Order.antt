@@ -1,12 +1,12 @@
 -- The order of checks: where nothing is refused every check passes, and checks made in groups.
-use Prim.Native.Nat.{ℕ, zero, suc, _+_, _<_, zero-le, suc-le-suc}
+use Prim.Native.Nat.{ℕ, zero, suc, _+_, _≤_, _<_, zero-le, suc-le-suc}
 use native.Mathlib.Nat.{le-of-suc-le-suc, not-suc-le-zero}
 use native.Mathlib.Omega.{arith}
 use mathlib.Core.Path.{_≡_, refl, subst, sym, ap, _∙_}
 use mathlib.Core.Logic.{_↔_, inl, inr}
 use mathlib.Core.Bool.{Bool, true, false, not, cond, _&&_}
 use mathlib.Core.List.{List, [], _∷_, _++_}
-use lib.Dec.{T, eqb}
+use lib.Dec.{T, leb, eqb, leb→le}
 use Rattle.layout.specs.Lists.{has, all, upFrom, join}
 use Rattle.layout.specs.Checks.{Check, check, firstFailing}
 use Rattle.layout.specs.Answers.{orElse}
@@ -83,6 +83,16 @@ never-given k (check j false ∷ cs) h e = go (eqb j (suc k)) refl (and-iff (not
     go : (t : Bool) → eqb j (suc k) ≡ t → T (not t) → ⊥
     go true q n = n
     go false q n = absurd (subst T q (eqb-iff j (suc k) .1 e))
+
+-- no number above a bound is given
+abbrev pub numbersMost : ℕ → List Check → Bool
+numbersMost most [] = true
+numbersMost most (check k b ∷ cs) = leb k most && numbersMost most cs
+
+pub failing-most : (most : ℕ) (cs : List Check) → T (numbersMost most cs) → firstFailing cs ≤ most
+failing-most most [] h = zero-le
+failing-most most (check k true ∷ cs) h = failing-most most cs (and-iff (leb k most) (numbersMost most cs) .0 h .1)
+failing-most most (check k false ∷ cs) h = leb→le k most (and-iff (leb k most) (numbersMost most cs) .0 h .0)
 
 -- two groups, one after the other
 pub failing-append : (cs ds : List Check) → T (numbered cs)

@@ -10,13 +10,13 @@ use lib.ListN.{length, getD, length-map}
 use lib.Dec.{T, eqb, leb, ltb, eqb→eq, leb→le, le→leb, lt→ltb, ltb→lt}
 use lib.Ieee.{Float, add, binary64}
 use Rattle.layout.specs.Lists.{has, all, below, keep, rises, sum}
-use Rattle.layout.specs.Problem.{Problem, Route}
+use Rattle.layout.specs.Problem.{Problem, Csc, Route}
 use Rattle.layout.specs.Blocks.{compactRows}
-use Rattle.layout.specs.Checks.{layout, refusal, neverFalls, columnRows, startsRight, rowsRight}
+use Rattle.layout.specs.Checks.{layout, refusal, neverFalls, columnRows, startsRight, rowsInOrder, rowsRight}
 use Rattle.layout.specs.Compact.{Entry, column, csc, rowsOf, plus, summedFrom, summed, summedA, moved, augmentedColumn, overlapColumns, compactColumns, compactA}
 use Rattle.layout.specs.BothRoutes.{withoutRepeats}
 use Rattle.layout.proofs.Tests.{and-iff, eqb-iff, cond-failed, either-iff}
-use Rattle.layout.proofs.Members.{has-cons, getD-map, getD-below, length-below, has-below, all-has}
+use Rattle.layout.proofs.Members.{has-cons, getD-map, getD-below, length-below, has-below, all-has, all-so}
 use Rattle.layout.proofs.Joins.{map-same}
 use Rattle.layout.proofs.Accepted.{accepted-checked}
 use Rattle.layout.proofs.Columns.{column-csc, entry-count, starts-right, RightStarts, column-rows, column-all, rows-never-fall, right-A}
@@ -105,6 +105,13 @@ rises-never-fall (r ∷ []) h = tt
 rises-never-fall (r ∷ s ∷ rs) h =
     let (l, k) = and-iff (ltb r s) (rises (s ∷ rs)) .0 h in
     and-iff (leb r s) (neverFalls (s ∷ rs)) .1 (le→leb r s (omega (arith, ltb→lt r s l)), rises-never-fall (s ∷ rs) k)
+
+-- so what passes check 3 of P passes that of A
+pub right-in-order : (m n : ℕ) (M : Csc) → T (rowsRight m n M) → T (rowsInOrder m n M)
+right-in-order m n M h =
+    let (inside, rising) = and-iff (all (λ r. ltb r m) (M .rows)) (all (λ c. rises (columnRows M c)) (below n)) .0 h in
+    and-iff (all (λ r. ltb r m) (M .rows)) (all (λ c. neverFalls (columnRows M c)) (below n)) .1
+    (inside, all-so (λ c. rises (columnRows M c)) (λ c. neverFalls (columnRows M c)) (λ c. rises-never-fall (columnRows M c)) (below n) rising)
 
 -- ---- a column without repeats is as it was
 

@@ -15,3 +15,6 @@ pub mod Tables
 pub mod Pool
 pub mod GenerateSizes
 pub mod Generate
+pub mod FileWords
+pub mod ReadFile
+pub mod WriteFile

@@ -5,6 +5,7 @@ ghost use lib.ListN.{length};
 ghost use Rattle.layout.specs.Lists.{all};
 ghost use Rattle.layout.specs.Cones.{records, reads, rowCount, alphaCount};
 ghost use Rattle.layout.specs.Checks.{sizesBounded, conesBounded, conesRead, alphasAsMany};
+ghost use Rattle.layout.specs.FileWords.{unvalued};
 ghost use Rattle.supportedcone.specs.Cases.{coneRecord, recordOf, told, readsAs, readsWith, recordAt};
 ghost use Rattle.supportedcone.specs.Ranges.{isPsdOf};
 use constants::limit;
@@ -208,6 +209,28 @@ pub fn alphas_as_many(cones: &[u32], alphas: &[f64]) -> bool
         i += 1;
     }
     next == alphas.len()
+}
+
+// Whether a table of `count` values of α has as many as the cones take.
+pub fn alphas_counted(cones: &[u32], count: usize) -> bool
+    requires { ⌜ all reads (records (now cones)) ≡ true ⌝ }
+    ensures { λ r. ⌜ r ≡ alphasAsMany (now (cones .entry)) (unvalued count) ⌝ }
+{
+    let records = record_count(cones);
+    let mut next = 0;
+    let mut i = 0;
+    while i < records {
+        let ReadCone::Is(cone) = cone_at(cones, i, 0.0) else {
+            return false;
+        };
+        let taken = cone.alpha_count() as usize;
+        if count - next < taken {
+            return false;
+        }
+        next += taken;
+        i += 1;
+    }
+    next == count
 }
 
 // The rows of cone i, and none where there is no such cone.

@@ -1,84 +1,76 @@
+use Prim.Native.Nat.{_≤_}
 use mathlib.Core.Path.{_≡_, sym, _∙_}
-use mathlib.Core.Bool.{true}
 use borrow.Author.Tests.{not-true, not-false}
+use lib.Dec.{T}
+use lib.ListN.{length, length-replicate}
+use lib.Ieee.{nan}
+use Rattle.layout.specs.Checks.{alphasAsMany}
+use Rattle.layout.specs.Answers.{problemRefusal}
+use Rattle.layout.proofs.Lengths.{refusal-unvalued, alphas-lengths}
 use Rattle.layout.specs.Problem.{Problem, problem}
-use Rattle.layout.specs.Checks.{check1}
-use Rattle.checks.specs.Order.{matricesRefusal, recordsRefusal}
-use Rattle.checks.proofs.Order.{problem-order, bounded-problem, few-rows, records-read}
-use Rattle.layout.proofs.Tests.{passes}
+use Rattle.layout.specs.Checks.{conesBounded, conesRead}
+use Rattle.layout.specs.FileWords.{unvalued}
+use Rattle.layout.proofs.Tests.{passed}
+use Rattle.supportedcone.proofs.Records.{all-read}
+use Rattle.checks.specs.Order.{tablesRefusal}
+use Rattle.checks.proofs.Order.{problem-order, tables-passed}
 use Rattle.checks.proofs.check_problem.Statement.{statement}
 use Rattle.checks.proofs.check_problem.Tie as tie
 
 abbrev given : tie.Start → Problem
 given s =
-    problem (s .args .n) (s .args .m) (s .args .p-starts .now) (s .args .p-rows .now) (s .args .p-values .now) (s .args .q .now)
-    (s .args .a-starts .now) (s .args .a-rows .now) (s .args .a-values .now) (s .args .b .now)
-    (s .args .cones .now) (s .args .alphas .now) (s .args .count) (s .args .words .now)
+    problem (s .args .n) (s .args .m) (s .args .p-starts .now) (s .args .p-rows .now) (unvalued (length (s .args .p-values .now)))
+    (unvalued (length (s .args .q .now))) (s .args .a-starts .now) (s .args .a-rows .now) (unvalued (length (s .args .a-values .now)))
+    (unvalued (length (s .args .b .now))) (s .args .cones .now) (unvalued (length (s .args .alphas .now))) (s .args .count) (s .args .words .now)
 
--- what is checked, and each group that passed
-abbrev at1 : tie.Else1 → Problem
-at1 c = given (c .before .before .before .before .before .before .before .before .before .before .before .before .before)
+-- the checks look at no value
+by-lengths : (s : tie.Start) → let a = s .args in
+    problemRefusal (problem (a .n) (a .m) (a .p-starts .now) (a .p-rows .now) (a .p-values .now) (a .q .now) (a .a-starts .now) (a .a-rows .now)
+    (a .a-values .now) (a .b .now) (a .cones .now) (a .alphas .now) (a .count) (a .words .now)) ≡ problemRefusal (given s)
+by-lengths s =
+    let a = s .args in
+    refusal-unvalued (a .n) (a .m) (a .p-starts .now) (a .p-rows .now) (a .p-values .now) (a .q .now)
+    (a .a-starts .now) (a .a-rows .now) (a .a-values .now) (a .b .now) (a .cones .now) (a .alphas .now) (a .count) (a .words .now)
 
-abbrev at2 : tie.Else2 → Problem
-at2 c = at1 (c .before .before)
+by-count : (s : tie.Start) → alphasAsMany (s .args .cones .now) (given s .alphas) ≡ alphasAsMany (s .args .cones .now) (s .args .alphas .now)
+by-count s =
+    let alphas = s .args .alphas .now in
+    alphas-lengths (s .args .cones .now) (unvalued (length alphas)) alphas (length-replicate (length alphas) nan)
 
-abbrev at3 : tie.Else3 → Problem
-at3 c = at2 (c .before .before)
+none-refused : (c : tie.Else1) → let p = given (c .before .before .before .before .before .before .before .before .before .before .before .before .before) in tablesRefusal (p .n) (p .m) (p .P) (p .q) (p .A) (p .b) (p .cones) ≡ 0
+none-refused c = sym (c .before .check-tables .ensures) ∙ c .if1 .left
 
-passed1 : (c : tie.Else1) → check1 (at1 c) ≡ true
-passed1 c = sym (c .before .bounded .ensures) ∙ not-false _ (c .if1 .left)
+rows-and-cones : (c : tie.Else1) → let p = given (c .before .before .before .before .before .before .before .before .before .before .before .before .before) in (p .m ≤ 65536) × T (conesBounded (p .cones)) × T (conesRead (p .m) (p .cones))
+rows-and-cones c =
+    let p = given (c .before .before .before .before .before .before .before .before .before .before .before .before .before) in
+    tables-passed (p .n) (p .m) (p .P) (p .q) (p .A) (p .b) (p .cones) (none-refused c)
 
-passed2 : (c : tie.Else2) → let p = at2 c in matricesRefusal (p .n) (p .m) (p .P) (p .A) ≡ 0
-passed2 c = sym (c .before .check-matrices .ensures) ∙ c .if2 .left
-
-passed3 : (c : tie.Else3) → let p = at3 c in recordsRefusal (p .n) (p .m) (p .q) (p .b) (p .cones) (p .alphas) ≡ 0
-passed3 c = sym (c .before .check-records .ensures) ∙ c .if3 .left
-
-bounded-requires : tie.Need-bounded-requires
-bounded-requires c κs = tt
+check-tables-requires : tie.Need-check-tables-requires
+check-tables-requires c κs = tt
 
 returns : tie.Need-returns
 returns c =
-    let p = given (c .before .before .before .before .before .before .before .before .before .before .before .before .before) in
-    sym (problem-order p .0 (sym (c .before .bounded .ensures) ∙ not-true _ (c .if1 .taken)))
+    let e = c .before .check-tables .ensures in
+    e ∙ sym (by-lengths (c .before .before .before .before .before .before .before .before .before .before .before .before .before) ∙ problem-order (given (c .before .before .before .before .before .before .before .before .before .before .before .before .before)) .0 (λ z. c .if1 .taken (e ∙ z)))
 
-check-matrices-requires : tie.Need-check-matrices-requires
-check-matrices-requires c κs = tt
+alphas-as-many-requires : tie.Need-alphas-as-many-requires
+alphas-as-many-requires c κs =
+    let p = given (c .before .before .before .before .before .before .before .before .before .before .before .before .before) in
+    all-read (p .m) (p .cones) (passed _ (rows-and-cones c .2))
 
 returns-2 : tie.Need-returns-2
 returns-2 c =
-    let e = c .before .check-matrices .ensures in
-    e ∙ sym (problem-order (at1 (c .before .before)) .1 (passed1 (c .before .before)) (λ z. c .if2 .taken (e ∙ z)))
+    sym (by-lengths (c .before .before .before .before .before .before .before .before .before .before .before .before .before .before .before) ∙ problem-order (given (c .before .before .before .before .before .before .before .before .before .before .before .before .before .before .before)) .1 (none-refused (c .before .before)) (by-count (c .before .before .before .before .before .before .before .before .before .before .before .before .before .before .before) ∙ sym (c .before .alphas-as-many .ensures) ∙ not-true _ (c .if2 .taken)))
 
-check-records-requires : tie.Need-check-records-requires
-check-records-requires c κs = bounded-problem (at2 c) (passed1 (c .before .before))
+count-patterns-requires : tie.Need-count-patterns-requires
+count-patterns-requires c κs = rows-and-cones (c .before .before)
 
 returns-3 : tie.Need-returns-3
 returns-3 c =
-    let e = c .before .check-records .ensures in
-    e ∙ sym (problem-order (at2 (c .before .before)) .2 (passed1 (c .before .before .before .before)) (passed2 (c .before .before)) (λ z. c .if3 .taken (e ∙ z)))
-
-count-patterns-requires : tie.Need-count-patterns-requires
-count-patterns-requires c κs =
-    let p = at3 c in
-    let e = passed1 (c .before .before .before .before) in
-    (few-rows p e, passes _ (bounded-problem p e), records-read (p .n) (p .m) (p .q) (p .b) (p .cones) (p .alphas) (passed3 c))
-
-returns-4 : tie.Need-returns-4
-returns-4 c =
     let d = c .before in
     c .count-patterns .ensures .0
-    ∙ sym (problem-order (at3 d) .3 (passed1 (d .before .before .before .before)) (passed2 (d .before .before)) (passed3 d))
+    ∙ sym (by-lengths (c .before .before .before .before .before .before .before .before .before .before .before .before .before .before .before .before) ∙ problem-order (given (c .before .before .before .before .before .before .before .before .before .before .before .before .before .before .before .before)) .2 (none-refused (d .before .before)) (by-count (c .before .before .before .before .before .before .before .before .before .before .before .before .before .before .before .before) ∙ sym (d .before .alphas-as-many .ensures) ∙ not-false _ (d .if2 .left)))
 
 pub check-problem-spec : {M : Type 1} → statement M
 check-problem-spec =
-    tie.close
-    (tie.spec
-    bounded-requires
-    returns
-    check-matrices-requires
-    returns-2
-    check-records-requires
-    returns-3
-    count-patterns-requires
-    returns-4)
+    tie.close (tie.spec check-tables-requires returns alphas-as-many-requires returns-2 count-patterns-requires returns-3)

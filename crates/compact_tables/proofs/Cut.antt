@@ -1,0 +1,136 @@
+-- The compact problem of tables that the route accepts, where its file is no longer than 65,536 bytes: its lengths, and its tables from a
+-- cut's outputs.
+use Prim.Native.Nat.{ℕ, suc, _+_, _-_, _≤_, _<_}
+use native.Mathlib.Omega.{arith}
+use mathlib.Core.Path.{_≡_, sym, ap, subst, _∙_}
+use mathlib.Core.List.{List, [], _∷_, _++_}
+use lib.ListN.{length, getD, take, replicate, length-map}
+use lib.Dec.{lit<}
+use lib.Ieee.{Float, binary64, ofBits}
+use Rattle.layout.specs.Problem.{Problem, compact}
+use Rattle.layout.specs.Blocks.{blockRowCount, overlapCount}
+use Rattle.layout.specs.Checks.{layout, refusal}
+use Rattle.layout.specs.Answers.{Augmented, augmented, sizes, problemRefusal}
+use Rattle.layout.specs.File.{tables, Tables, floats, bits, problemOf, widths, products, fileOf, compactTables}
+use Rattle.layout.specs.Calls.Cut.{Constrained, constrained, constrainedOf, HoldsConstrained}
+use Rattle.layout.proofs.Sizes.{compact-sizes}
+use Rattle.layout.proofs.Offsets.{table-inside}
+use Rattle.layout.proofs.Program.{compact-length}
+use Rattle.augment.specs.Fits.{ConstrainedFits}
+use Rattle.file_parts.specs.Problem.{constraintsOf}
+use Rattle.compact_tables.specs.Writers.{Writes, extendedTables, Extends}
+use Rattle.compact_tables.proofs.Fronts.{front}
+
+module _ (t : Tables) (lengths : List ℕ) (w : Writes t lengths) where
+  abbrev p : Problem
+  p = problemOf t
+
+  abbrev a : Augmented
+  a = augmented compact (problemOf t)
+
+  abbrev k : ℕ
+  k = overlapCount (layout (problemOf t))
+
+  abbrev ok : refusal compact (problemOf t) ≡ 0
+  ok = w .accepted
+
+  abbrev bytes : List ℕ
+  bytes = products widths (take 10 (sizes compact p) ++ (0 ∷ []))
+
+  fits : (i : ℕ) → i < 11 → getD bytes i 0 ≤ 65536
+  fits i l = omega (arith, table-inside 80 bytes i l, compact-length t, w .short)
+
+  -- what the lengths are
+  given : (i : ℕ) → getD lengths i 0 ≡ getD (take 10 (sizes compact (problemOf t)) ++ (0 ∷ [])) i 0
+  given i = ap (λ (l : List ℕ). getD l i 0) (w .sized)
+
+  pub count-lengths : length lengths ≡ 11
+  count-lengths = ap length (w .sized)
+
+  pub columns-is : getD lengths 3 0 ≡ t .n + overlapCount (layout (problemOf t))
+  columns-is = given 3 ∙ ap (λ (l : List ℕ). getD l 3 0) (compact-sizes p ok)
+
+  pub starts-is : suc (getD lengths 3 0) ≡ length (augmented compact (problemOf t) .A .starts)
+  starts-is = ap suc columns-is ∙ sym (ap (λ (l : List ℕ). getD l 4 0) (compact-sizes p ok))
+
+  pub entries-is : getD lengths 5 0 ≡ length (augmented compact (problemOf t) .A .rows)
+  entries-is = given 5
+
+  pub values-is : getD lengths 5 0 ≡ length (augmented compact (problemOf t) .A .values)
+  values-is = given 5 ∙ ap (λ (l : List ℕ). getD l 5 0) (compact-sizes p ok) ∙ sym (ap (λ (l : List ℕ). getD l 6 0) (compact-sizes p ok))
+
+  pub side-is : getD lengths 7 0 ≡ length (augmented compact (problemOf t) .b)
+  side-is = given 7
+
+  pub rows-is : getD lengths 7 0 ≡ blockRowCount (layout (problemOf t))
+  rows-is = given 7 ∙ ap (λ (l : List ℕ). getD l 7 0) (compact-sizes p ok)
+
+  pub cones-is : getD lengths 8 0 ≡ length (augmented compact (problemOf t) .cones)
+  cones-is = given 8
+
+  -- and that there is room for them
+  pub room-columns : getD lengths 3 0 ≤ 8192
+  room-columns = omega (arith, fits 3 (lit< tt), given 3)
+
+  pub room-entries : getD lengths 5 0 ≤ 8192
+  room-entries = omega (arith, fits 6 (lit< tt), values-is)
+
+  pub room-rows : getD lengths 7 0 ≤ 8192
+  room-rows = omega (arith, fits 7 (lit< tt), given 7)
+
+  pub room-cones : getD lengths 8 0 ≤ 16384
+  room-cones = omega (arith, fits 8 (lit< tt), given 8)
+
+  -- what the cut asks of its outputs
+  pub cut-fits : (j : ℕ) {starts rows cones : List ℕ} {values b : List Float} → j ≡ getD lengths 3 0 - t .n
+      → length starts ≡ 16384 → length rows ≡ 16384 → length values ≡ 8192 → length b ≡ 8192 → length cones ≡ 16384
+      → ConstrainedFits compact (constraintsOf t) j (constrained starts rows values b cones)
+  cut-fits j e ls lr lv lb lc = record {
+    accepted = record { P = p .P; q = p .q; alphas = p .alphas; accepted = ok };
+    added = omega (arith, e, columns-is);
+    starts = omega (arith, e, columns-is, room-columns, ls);
+    rows = omega (arith, entries-is, room-entries, lr);
+    values = omega (arith, values-is, room-entries, lv);
+    slacks = omega (arith, rows-is, room-rows, lb);
+    cones = omega (arith, cones-is, room-cones, lc);
+  }
+
+  -- the tables that are written
+  module _ {starts rows cones : List ℕ} {values b : List Float} (es : starts ≡ augmented compact (problemOf t) .A .starts)
+      (er : rows ≡ augmented compact (problemOf t) .A .rows) (ev : values ≡ augmented compact (problemOf t) .A .values)
+      (eb : b ≡ augmented compact (problemOf t) .b) (ec : cones ≡ augmented compact (problemOf t) .cones) (j : ℕ) (ej : j ≡ getD lengths 3 0) where
+    pub cut-tables : extendedTables t j starts rows values b cones ≡ compactTables t
+    cut-tables =
+        let columns : j ≡ t .n + k = ej ∙ columns-is in
+        let added : j - t .n ≡ k = omega arith in
+        let stored : length (t .pValues) ≡ length (floats (t .pValues)) = sym (length-map (t .pValues) (ofBits binary64)) in
+        let slacks : length b ≡ blockRowCount (layout p) = ap length eb ∙ sym side-is ∙ rows-is in
+        λ i. tables (columns i) (slacks i) (t .pStarts ++ replicate (added i) (stored i)) (t .pRows) (t .pValues) (t .q ++ replicate (added i) 0)
+        (es i) (er i) (bits (ev i)) (bits (eb i)) (ec i) (t .alphas) 0 []
+
+    pub cut-extends : Extends t j starts rows values b cones
+    cut-extends = record {
+      passes = ap (λ (u : Tables). problemRefusal (problemOf u)) cut-tables ∙ w .passes;
+      short = subst (λ (u : Tables). length (fileOf u) ≤ 65536) (sym cut-tables) (w .short);
+      wide = omega (arith, ej, columns-is);
+      fewColumns = omega (arith, ej, room-columns);
+      fewEntries = omega (arith, ap length ev, values-is, room-entries);
+      fewRows = omega (arith, ap length eb, side-is, room-rows);
+    }
+
+  -- the fronts of the cut's outputs
+  module _ {before after : Constrained} (h : HoldsConstrained 0 (constrainedOf (augmented compact (constraintsOf t))) before after) where
+    pub cut-starts : {j : ℕ} → j ≡ getD lengths 3 0 → take (j + 1) (after .A .starts) ≡ augmented compact (problemOf t) .A .starts
+    cut-starts {j} e = front (a .A .starts) (before .A .starts) (j + 1) (h .a-starts) (omega (arith, e, starts-is))
+
+    pub cut-rows : {j : ℕ} → j ≡ getD lengths 5 0 → take j (after .A .rows) ≡ augmented compact (problemOf t) .A .rows
+    cut-rows {j} e = front (a .A .rows) (before .A .rows) j (h .a-rows) (e ∙ entries-is)
+
+    pub cut-values : {j : ℕ} → j ≡ getD lengths 5 0 → take j (after .A .values) ≡ augmented compact (problemOf t) .A .values
+    cut-values {j} e = front (a .A .values) (before .A .values) j (h .a-values) (e ∙ values-is)
+
+    pub cut-side : {j : ℕ} → j ≡ getD lengths 7 0 → take j (after .b) ≡ augmented compact (problemOf t) .b
+    cut-side {j} e = front (a .b) (before .b) j (h .b) (e ∙ side-is)
+
+    pub cut-cones : {j : ℕ} → j ≡ getD lengths 8 0 → take j (after .cones) ≡ augmented compact (problemOf t) .cones
+    cut-cones {j} e = front (a .cones) (before .cones) j (h .cones) (e ∙ cones-is)

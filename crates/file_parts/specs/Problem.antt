@@ -1,0 +1,9 @@
+-- The part of a file's problem that decides its cut. Definitions only.
+use Rattle.layout.specs.Problem.{Problem}
+use Rattle.layout.specs.File.{Tables, floats}
+use Rattle.augment_standard.specs.Constraints.{constraints}
+
+-- what decides A, b and the cones of the compact problem
+abbrev pub constraintsOf : Tables → Problem
+constraintsOf t =
+    constraints (t .n) (t .m) (t .aStarts) (t .aRows) (floats (t .aValues)) (floats (t .b)) (t .cones) (t .patternCount) (t .patternWords)

@@ -1,0 +1,74 @@
+-- What the reader's number says of its outputs: a refused reader keeps them, and 0 says that each has room.
+use Prim.Native.Nat.{ℕ, zero, suc, _*_, _≤_}
+use native.Mathlib.Omega.{arith}
+use mathlib.Core.Path.{_≡_, refl}
+use mathlib.Core.Bool.{Bool, true, false, cond}
+use mathlib.Core.List.{List, _∷_}
+use lib.ListN.{length}
+use lib.Dec.{T}
+use Rattle.layout.specs.Answers.{orElse, roomy}
+use Rattle.layout.specs.File.{countsIn, countedLengths}
+use Rattle.layout.specs.FileWords.{wordsFailing, readWordsRefusal}
+use Rattle.layout.specs.Calls.ReadFile.{FileOutputs, fileRooms, HoldsFile}
+use Rattle.layout.proofs.Tests.{and-iff, leb-iff}
+use Rattle.layout.proofs.Buffers.{output-kept}
+use Rattle.file_shape.specs.Parts.{Stands}
+use Rattle.file_shape.proofs.Parts.{accepted-stands}
+
+-- a refused reader keeps every output
+pub file-kept : (r : ℕ) (new old : FileOutputs) → (r ≡ 0 → ⊥) → HoldsFile r new old old
+file-kept r new old h = record {
+  counts = output-kept r _ _ h;
+  pStarts = output-kept r _ _ h;
+  pRows = output-kept r _ _ h;
+  pValues = output-kept r _ _ h;
+  q = output-kept r _ _ h;
+  aStarts = output-kept r _ _ h;
+  aRows = output-kept r _ _ h;
+  aValues = output-kept r _ _ h;
+  b = output-kept r _ _ h;
+  cones = output-kept r _ _ h;
+  alphas = output-kept r _ _ h;
+  patternWords = output-kept r _ _ h;
+}
+
+-- what a reader's 0 says: the words stand right, and each output has room
+both : (a : ℕ) (t : Bool) → orElse a (cond t 0 11) ≡ 0 → (a ≡ 0) × T t
+both zero true h = (refl, tt)
+both zero false h = absurd (omega arith)
+both (suc a) t h = absurd (omega arith)
+
+pub record RoomsFit (ws : List ℕ) (o : FileOutputs) : Type 0 where
+  pub counts : 8 ≤ length (o .counts)
+  pub pStarts : suc (countsIn ws .n) ≤ length (o .pStarts)
+  pub pRows : countsIn ws .entriesP ≤ length (o .pRows)
+  pub pValues : countsIn ws .entriesP ≤ length (o .pValues)
+  pub q : countsIn ws .n ≤ length (o .q)
+  pub aStarts : suc (countsIn ws .n) ≤ length (o .aStarts)
+  pub aRows : countsIn ws .entriesA ≤ length (o .aRows)
+  pub aValues : countsIn ws .entriesA ≤ length (o .aValues)
+  pub b : countsIn ws .m ≤ length (o .b)
+  pub cones : 3 * countsIn ws .cones ≤ length (o .cones)
+  pub alphas : countsIn ws .alphas ≤ length (o .alphas)
+  pub patternWords : countsIn ws .words ≤ length (o .patternWords)
+
+pub read-taken : (ws : List ℕ) (n : ℕ) (o : FileOutputs) → readWordsRefusal ws n (fileRooms o) ≡ 0 → Stands ws × RoomsFit ws o
+read-taken ws n o e =
+    let (ok, room) = both (wordsFailing ws n) (roomy (8 ∷ countedLengths (countsIn ws)) (fileRooms o)) e in
+    let each = simp (and-iff, leb-iff) at room in (
+      accepted-stands ws n ok,
+      record {
+        counts = omega arith;
+        pStarts = omega arith;
+        pRows = omega arith;
+        pValues = omega arith;
+        q = omega arith;
+        aStarts = omega arith;
+        aRows = omega arith;
+        aValues = omega arith;
+        b = omega arith;
+        cones = omega arith;
+        alphas = omega arith;
+        patternWords = omega arith;
+      },
+    )

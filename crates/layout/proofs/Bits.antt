@@ -1,0 +1,217 @@
+-- Floats and their 64-bit patterns: what is read off patterns fits, a problem whose floats fit is read back from its tables,
+-- and the compact cut keeps floats that fit.
+use Prim.Native.Nat.{ℕ, zero, suc, _-_}
+use native.Mathlib.Omega.{arith}
+use mathlib.Core.Path.{_≡_, refl, sym, ap, ap₂, subst, _∙_}
+use mathlib.Core.Bool.{Bool, true, false, not, cond}
+use mathlib.Core.List.{List, [], _∷_, _++_, map, map-append}
+use lib.ListN.{getD, replicate}
+use lib.Dec.{T, eqb}
+use lib.Ieee.{Float, nan, binary64, fits, isNan, ofBits, toBits, eq}
+use lib.Ieee.Fits.{nan-fits, add-fits}
+use lib.Ieee.Bits.{ofBits-fits, ofBits-toBits, toBits-ofBits, toBits-lt}
+use Rattle.layout.specs.Lists.{all, keep, below, join}
+use Rattle.layout.specs.Problem.{Problem, Csc, problem, zero64}
+use Rattle.layout.specs.Blocks.{Row, kept, owned, overlap, compactRows, overlapCount}
+use Rattle.layout.specs.Checks.{layout}
+use Rattle.layout.specs.Compact.{Entry, entriesFrom, column, csc, plus, summedFrom, summed, moved, rowEntries, augmentedColumn, overlapColumns, rowValue}
+use Rattle.layout.specs.Equations.{Doubles}
+use Rattle.layout.specs.File.{floats, bits, Tables, tables, problemOf, U64s, compactProblem, compactTables}
+use Rattle.layout.proofs.Tests.{and-iff}
+use Rattle.layout.proofs.Members.{all-of-both, all-replicate}
+use Rattle.layout.proofs.Compressed.{valuesOf}
+use Rattle.layout.proofs.Bytes.{below-cons, below-head, below-tail}
+
+fit-cons : (v : Float) (vs : List Float) → T (fits binary64 v) → Doubles vs → Doubles (v ∷ vs)
+fit-cons v vs h hs = and-iff (fits binary64 v) (all (fits binary64) vs) .1 (h, hs)
+
+fit-append : (us vs : List Float) → Doubles us → Doubles vs → Doubles (us ++ vs)
+fit-append us vs h k = all-of-both (fits binary64) us vs h k
+
+-- ---- patterns
+
+pub floats-fit : (xs : List ℕ) → Doubles (floats xs)
+floats-fit [] = tt
+floats-fit (x ∷ xs) = fit-cons (ofBits binary64 x) (floats xs) (ofBits-fits binary64 x) (floats-fit xs)
+
+pub bits-fit : (vs : List Float) → Doubles vs → U64s (bits vs)
+bits-fit [] h = λ i l. absurd (omega arith)
+bits-fit (v ∷ vs) h =
+    let (first, rest) = and-iff (fits binary64 v) (all (fits binary64) vs) .0 h in
+    below-cons 18446744073709551616 (toBits binary64 v) (bits vs) (toBits-lt binary64 v first) (bits-fit vs rest)
+
+pub bits-back : (vs : List Float) → Doubles vs → floats (bits vs) ≡ vs
+bits-back [] h = refl
+bits-back (v ∷ vs) h =
+    let (first, rest) = and-iff (fits binary64 v) (all (fits binary64) vs) .0 h in
+    ap₂ (λ (a : Float) (l : List Float). a ∷ l) (ofBits-toBits binary64 v first) (bits-back vs rest)
+
+-- a pattern is written back, if it is no NaN's
+pub floats-back : (xs : List ℕ) → U64s xs → T (all (λ x. not (isNan (ofBits binary64 x))) xs) → bits (floats xs) ≡ xs
+floats-back [] h k = refl
+floats-back (x ∷ xs) h k =
+    let (first, rest) = and-iff (not (isNan (ofBits binary64 x))) (all (λ x. not (isNan (ofBits binary64 x))) xs) .0 k in
+    ap₂ (λ (a : ℕ) (l : List ℕ). a ∷ l) (toBits-ofBits binary64 x (below-head 18446744073709551616 x xs h) first)
+    (floats-back xs (below-tail 18446744073709551616 x xs h) rest)
+
+-- the pattern that a NaN is written as
+pub nan-pattern : toBits binary64 nan ≡ 9221120237041090560
+unfolding toBits
+nan-pattern = refl
+
+-- every float of a problem fits binary64
+pub record FloatsFit (p : Problem) : Type 0 where
+  pub P : Doubles (p .P .values)
+  pub q : Doubles (p .q)
+  pub A : Doubles (p .A .values)
+  pub b : Doubles (p .b)
+  pub alphas : Doubles (p .alphas)
+
+pub problem-floats : (t : Tables) → FloatsFit (problemOf t)
+problem-floats t = record {
+  P = floats-fit (t .pValues);
+  q = floats-fit (t .q);
+  A = floats-fit (t .aValues);
+  b = floats-fit (t .b);
+  alphas = floats-fit (t .alphas);
+}
+
+-- a problem's tables, a NaN as the pattern that `toBits` writes
+abbrev pub tablesOf : Problem → Tables
+tablesOf p =
+    tables (p .n) (p .m) (p .P .starts) (p .P .rows) (bits (p .P .values)) (bits (p .q))
+    (p .A .starts) (p .A .rows) (bits (p .A .values)) (bits (p .b)) (p .cones) (bits (p .alphas)) (p .patternCount) (p .patternWords)
+
+-- stand for it
+pub tables-stand : (p : Problem) → FloatsFit p → problemOf (tablesOf p) ≡ p
+tables-stand p h = λ i.
+    problem (p .n) (p .m) (p .P .starts) (p .P .rows) (bits-back (p .P .values) (h .P) i) (bits-back (p .q) (h .q) i)
+    (p .A .starts) (p .A .rows) (bits-back (p .A .values) (h .A) i) (bits-back (p .b) (h .b) i) (p .cones)
+    (bits-back (p .alphas) (h .alphas) i) (p .patternCount) (p .patternWords)
+
+-- ---- the compact cut
+
+zeros-fit : (k : ℕ) → Doubles (replicate k zero64)
+unfolding fits
+zeros-fit k = all-replicate (fits binary64) k zero64 tt
+
+value-fits : (vs : List Float) → Doubles vs → (i : ℕ) → T (fits binary64 (getD vs i nan))
+value-fits [] h i = nan-fits binary64
+value-fits (v ∷ vs) h zero = and-iff (fits binary64 v) (all (fits binary64) vs) .0 h .0
+value-fits (v ∷ vs) h (suc i) = value-fits vs (and-iff (fits binary64 v) (all (fits binary64) vs) .0 h .1) i
+
+entries-fit : (M : Csc) → Doubles (M .values) → (a k : ℕ) → Doubles (valuesOf (entriesFrom a k M))
+entries-fit M h a zero = tt
+entries-fit M h a (suc k) =
+    fit-cons (getD (M .values) a nan) (valuesOf (entriesFrom (suc a) k M)) (value-fits (M .values) h a) (entries-fit M h (suc a) k)
+
+stored-fit : (M : Csc) → Doubles (M .values) → (c : ℕ) → Doubles (valuesOf (column M c))
+stored-fit M h c = entries-fit M h (getD (M .starts) c 0) (getD (M .starts) (suc c) 0 - getD (M .starts) c 0)
+
+-- a rounded sum is a double
+from-fit : (e : Entry) (es : List Entry) → T (fits binary64 (e .value)) → Doubles (valuesOf es) → Doubles (valuesOf (summedFrom e es))
+from-fit e [] h k = fit-cons (e .value) [] h tt
+from-fit e (f ∷ es) h k =
+    let (first, rest) = and-iff (fits binary64 (f .value)) (all (fits binary64) (valuesOf es)) .0 k in
+    pick (eqb (e .row) (f .row)) (from-fit (plus e f) es (add-fits binary64 (e .value) (f .value)) rest) (from-fit f es first rest)
+  where
+    pick : (b : Bool) → Doubles (valuesOf (summedFrom (plus e f) es)) → Doubles (valuesOf (summedFrom f es))
+        → Doubles (valuesOf (cond b (summedFrom (plus e f) es) (e ∷ summedFrom f es)))
+    pick true i j = i
+    pick false i j = fit-cons (e .value) (valuesOf (summedFrom f es)) h j
+
+summed-fit : (es : List Entry) → Doubles (valuesOf es) → Doubles (valuesOf (summed es))
+summed-fit [] h = tt
+summed-fit (e ∷ es) h =
+    let (first, rest) = and-iff (fits binary64 (e .value)) (all (fits binary64) (valuesOf es)) .0 h in
+    from-fit e es first rest
+
+moved-fit : (o r : ℕ) (es : List Entry) → Doubles (valuesOf es) → Doubles (valuesOf (moved o r es))
+moved-fit o r [] h = tt
+moved-fit o r (e ∷ es) h =
+    let (first, rest) = and-iff (fits binary64 (e .value)) (all (fits binary64) (valuesOf es)) .0 h in
+    pick (eqb (e .row) o) first (moved-fit o r es rest)
+  where
+    pick : (b : Bool) → T (fits binary64 (e .value)) → Doubles (valuesOf (moved o r es))
+        → Doubles (valuesOf (map (λ (e : Entry). record { row = r; value = e .value })
+        (cond b (e ∷ keep (λ (e : Entry). eqb (e .row) o) es) (keep (λ (e : Entry). eqb (e .row) o) es))))
+    pick true f k = fit-cons (e .value) (valuesOf (moved o r es)) f k
+    pick false f k = k
+
+row-fit : (es : List Entry) → Doubles (valuesOf es) → (r : ℕ) (x : Row) → Doubles (valuesOf (rowEntries es r x))
+row-fit es h r (kept o) = moved-fit o r es h
+row-fit es h r (owned o) = moved-fit o r es h
+row-fit es h r (overlap o q) = tt
+
+joined-fit : (es fs : List Entry) → Doubles (valuesOf es) → Doubles (valuesOf fs) → Doubles (valuesOf (es ++ fs))
+joined-fit es fs h k =
+    subst Doubles (sym (map-append (λ (e : Entry). e .value) es fs)) (fit-append (valuesOf es) (valuesOf fs) h k)
+
+column-fit : (es : List Entry) → Doubles (valuesOf es) → (r : ℕ) (R : List Row) → Doubles (valuesOf (augmentedColumn es r R))
+column-fit es h r [] = tt
+column-fit es h r (x ∷ R) =
+    joined-fit (rowEntries es r x) (augmentedColumn es (suc r) R) (row-fit es h r x) (column-fit es h (suc r) R)
+
+-- all entries of columns
+abbrev AllFit : List (List Entry) → Type 0
+AllFit cs = Doubles (csc cs .values)
+
+all-fit-cons : (es : List Entry) (cs : List (List Entry)) → Doubles (valuesOf es) → AllFit cs → AllFit (es ∷ cs)
+all-fit-cons es cs h k = joined-fit es (join (λ c. c) cs) h k
+
+overlaps-fit : (r : ℕ) (R : List Row) → AllFit (overlapColumns r R)
+unfolding fits
+overlaps-fit r [] = tt
+overlaps-fit r (kept o ∷ R) = overlaps-fit (suc r) R
+overlaps-fit r (owned o ∷ R) = overlaps-fit (suc r) R
+overlaps-fit r (overlap o q ∷ R) = overlaps-fit (suc r) R
+
+columns-fit : (f : ℕ → List Entry) (cs : List ℕ) (ds : List (List Entry)) → ((c : ℕ) → Doubles (valuesOf (f c))) → AllFit ds → AllFit (map f cs ++ ds)
+columns-fit f [] ds h k = k
+columns-fit f (c ∷ cs) ds h k = all-fit-cons (f c) (map f cs ++ ds) (h c) (columns-fit f cs ds h k)
+
+zero-or : (b : Bool) (v : Float) → T (fits binary64 v) → T (fits binary64 (cond b zero64 v))
+unfolding fits
+zero-or true v h = tt
+zero-or false v h = h
+
+rows-fit : (b : List Float) → Doubles b → (R : List Row) → Doubles (map (rowValue b) R)
+unfolding fits
+rows-fit b h [] = tt
+rows-fit b h (kept o ∷ R) =
+    fit-cons (rowValue b (kept o)) (map (rowValue b) R) (zero-or (eq (getD b o nan) zero64) (getD b o nan) (value-fits b h o)) (rows-fit b h R)
+rows-fit b h (owned o ∷ R) =
+    fit-cons (rowValue b (owned o)) (map (rowValue b) R) (zero-or (eq (getD b o nan) zero64) (getD b o nan) (value-fits b h o)) (rows-fit b h R)
+rows-fit b h (overlap o q ∷ R) = rows-fit b h R
+
+pub compact-floats : (p : Problem) → FloatsFit p → FloatsFit (compactProblem p)
+compact-floats p h =
+    let R = compactRows (layout p) in
+    record {
+      P = h .P;
+      q = fit-append (p .q) (replicate (overlapCount (layout p)) zero64) (h .q) (zeros-fit (overlapCount (layout p)));
+      A = columns-fit (λ c. augmentedColumn (summed (column (p .A) c)) 0 R) (below (p .n)) (overlapColumns 0 R)
+          (λ c. column-fit (summed (column (p .A) c)) (summed-fit (column (p .A) c) (stored-fit (p .A) (h .A) c)) 0 R) (overlaps-fit 0 R);
+      b = rows-fit (p .b) (h .b) R;
+      alphas = h .alphas;
+    }
+
+-- ---- its tables
+
+zero-floats : (k : ℕ) → floats (replicate k 0) ≡ replicate k zero64
+unfolding ofBits
+zero-floats zero = refl
+zero-floats (suc k) = ap (λ (l : List Float). zero64 ∷ l) (zero-floats k)
+
+-- q with the pattern 0 for each overlap
+pub floats-zeros : (xs : List ℕ) (k : ℕ) → floats (xs ++ replicate k 0) ≡ floats xs ++ replicate k zero64
+floats-zeros xs k = map-append (ofBits binary64) xs (replicate k 0) ∙ ap (λ (l : List Float). floats xs ++ l) (zero-floats k)
+
+-- they stand for the compact problem
+pub compact-stands : (t : Tables) → problemOf (compactTables t) ≡ compactProblem (problemOf t)
+compact-stands t =
+    let p = problemOf t in
+    let a = compactProblem p in
+    let fit = compact-floats p (problem-floats t) in
+    λ i. problem (a .n) (a .m) (a .P .starts) (t .pRows) (floats (t .pValues)) (floats-zeros (t .q) (overlapCount (layout p)) i)
+    (a .A .starts) (a .A .rows) (bits-back (a .A .values) (fit .A) i) (bits-back (a .b) (fit .b) i) (a .cones) (floats (t .alphas)) 0 []

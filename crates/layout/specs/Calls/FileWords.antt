@@ -1,0 +1,11 @@
+-- The promise of a file's words: the number, and the whole words of the bytes.
+use Prim.Native.Nat.{ℕ}
+use mathlib.Core.Path.{_≡_}
+use mathlib.Core.List.{List}
+use lib.ListN.{length}
+use Rattle.layout.specs.Answers.{output, roomRefusal}
+use Rattle.layout.specs.FileWords.{fileWords}
+
+pub record FileWords (file before after : List ℕ) (r : ℕ) : Type 0 where
+  pub number : r ≡ roomRefusal (length (fileWords file)) (length before)
+  pub out : after ≡ output r (fileWords file) before

@@ -1,0 +1,71 @@
+-- The promise of the reader: its number, and what each output holds. Floats stand as their patterns.
+use Prim.Native.Nat.{ℕ}
+use mathlib.Core.Path.{_≡_}
+use mathlib.Core.List.{List, [], _∷_}
+use lib.ListN.{length}
+use Rattle.layout.specs.Answers.{output}
+use Rattle.layout.specs.File.{HeaderCounts, countWords, countsIn, Tables}
+use Rattle.layout.specs.FileWords.{wordTables, readWordsRefusal}
+
+-- the twelve outputs: the eight counts of the header, then the tables in the file's order
+pub record FileOutputs : Type 0 where
+  pub counts : List ℕ
+  pub pStarts : List ℕ
+  pub pRows : List ℕ
+  pub pValues : List ℕ
+  pub q : List ℕ
+  pub aStarts : List ℕ
+  pub aRows : List ℕ
+  pub aValues : List ℕ
+  pub b : List ℕ
+  pub cones : List ℕ
+  pub alphas : List ℕ
+  pub patternWords : List ℕ
+
+abbrev pub fileOutputs : List ℕ → List ℕ → List ℕ → List ℕ → List ℕ → List ℕ → List ℕ → List ℕ → List ℕ → List ℕ → List ℕ → List ℕ → FileOutputs
+fileOutputs counts pStarts pRows pValues q aStarts aRows aValues b cones alphas words = record {
+  counts = counts;
+  pStarts = pStarts;
+  pRows = pRows;
+  pValues = pValues;
+  q = q;
+  aStarts = aStarts;
+  aRows = aRows;
+  aValues = aValues;
+  b = b;
+  cones = cones;
+  alphas = alphas;
+  patternWords = words;
+}
+
+-- the length of each
+abbrev pub fileRooms : FileOutputs → List ℕ
+fileRooms o =
+    length (o .counts) ∷ length (o .pStarts) ∷ length (o .pRows) ∷ length (o .pValues) ∷ length (o .q)
+    ∷ length (o .aStarts) ∷ length (o .aRows) ∷ length (o .aValues) ∷ length (o .b)
+    ∷ length (o .cones) ∷ length (o .alphas) ∷ length (o .patternWords) ∷ []
+
+-- a file's tables, with its counts
+abbrev pub outputsOf : HeaderCounts → Tables → FileOutputs
+outputsOf c t =
+    fileOutputs (countWords c) (t .pStarts) (t .pRows) (t .pValues) (t .q) (t .aStarts) (t .aRows) (t .aValues) (t .b) (t .cones) (t .alphas) (t .patternWords)
+
+-- each table of `new` at the front of its output where the number is 0; otherwise each output is as before
+pub record HoldsFile (r : ℕ) (new before after : FileOutputs) : Type 0 where
+  pub counts : after .counts ≡ output r (new .counts) (before .counts)
+  pub pStarts : after .pStarts ≡ output r (new .pStarts) (before .pStarts)
+  pub pRows : after .pRows ≡ output r (new .pRows) (before .pRows)
+  pub pValues : after .pValues ≡ output r (new .pValues) (before .pValues)
+  pub q : after .q ≡ output r (new .q) (before .q)
+  pub aStarts : after .aStarts ≡ output r (new .aStarts) (before .aStarts)
+  pub aRows : after .aRows ≡ output r (new .aRows) (before .aRows)
+  pub aValues : after .aValues ≡ output r (new .aValues) (before .aValues)
+  pub b : after .b ≡ output r (new .b) (before .b)
+  pub cones : after .cones ≡ output r (new .cones) (before .cones)
+  pub alphas : after .alphas ≡ output r (new .alphas) (before .alphas)
+  pub patternWords : after .patternWords ≡ output r (new .patternWords) (before .patternWords)
+
+-- the words of a file of `bytes` bytes
+pub record ReadFile (words : List ℕ) (bytes : ℕ) (before after : FileOutputs) (r : ℕ) : Type 0 where
+  pub number : r ≡ readWordsRefusal words bytes (fileRooms before)
+  pub tables : HoldsFile r (outputsOf (countsIn words) (wordTables words)) before after

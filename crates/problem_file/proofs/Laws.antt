@@ -1,0 +1,83 @@
+-- What the reader and the writer cite: checks 1 to 7 on parts of the words, and the bytes of a header with the tables after it.
+use Prim.Native.Nat.{ℕ, suc, _+_, _-_, _*_, _/_, _≤_, _<_}
+use native.Mathlib.Omega.{arith}
+use native.Mathlib.Nat.{le-trans}
+use mathlib.Core.Path.{_≡_, sym, ap, ap₂, subst, _∙_}
+use mathlib.Core.Bool.{Bool, cond}
+use mathlib.Core.List.{List, _++_, map}
+use lib.ListN.{length, getD, take, drop}
+use borrow.Author.Tests.{lt-leb, le-leb}
+use Rattle.layout.specs.Lists.{part, written}
+use Rattle.layout.specs.Problem.{problem}
+use Rattle.layout.specs.Answers.{orElse, problemRefusal}
+use Rattle.layout.specs.File.{tableBytes, headerOf, endFrom, laidFrom, Tables, problemOf, countsOf, tablesBytes, fileOf, writeRefusal}
+use Rattle.layout.specs.FileWords.{unvalued, unvaluedProblem}
+use Rattle.layout.proofs.Buffers.{written-whole, written-after, length-tail}
+use Rattle.layout.proofs.Bytes.{length-table}
+use Rattle.layout.proofs.Offsets.{end-from, length-laid}
+use Rattle.layout.proofs.File.{file-length, written-length}
+
+-- counts and starts read from the words
+pub words-checked : (ws : List ℕ) {n m p a cones alphas size sP rP sA rA records patterns : ℕ}
+    → n ≡ getD ws 0 0 → m ≡ getD ws 1 0 → p ≡ getD ws 2 0 → a ≡ getD ws 3 0 → cones ≡ getD ws 4 0 → alphas ≡ getD ws 5 0 → size ≡ getD ws 7 0
+    → sP ≡ getD ws 8 0 / 4 → rP ≡ getD ws 9 0 / 4 → sA ≡ getD ws 12 0 / 4 → rA ≡ getD ws 13 0 / 4
+    → records ≡ getD ws 16 0 / 4 → patterns ≡ getD ws 18 0 / 4
+    → problemRefusal (problem (getD ws 0 0) (getD ws 1 0) (part sP (sP + (n + 1)) ws) (part rP (rP + p) ws) (unvalued p) (unvalued n)
+    (part sA (sA + (n + 1)) ws) (part rA (rA + a) ws) (unvalued a) (unvalued m) (part records (records + 3 * cones) ws) (unvalued alphas)
+    (getD ws 6 0) (part patterns (patterns + size) ws))
+    ≡ problemRefusal (unvaluedProblem ws)
+words-checked ws {n} n= m= p= a= cones= alphas= size= sP= rP= sA= rA= records= patterns= =
+    let starts= : n + 1 ≡ suc (getD ws 0 0) = omega (arith, n=) in
+    λ i. problemRefusal (problem (getD ws 0 0) (getD ws 1 0) (part (sP= i) (sP= i + starts= i) ws) (part (rP= i) (rP= i + p= i) ws) (unvalued (p= i))
+    (unvalued (n= i)) (part (sA= i) (sA= i + starts= i) ws) (part (rA= i) (rA= i + a= i) ws) (unvalued (a= i)) (unvalued (m= i))
+    (part (records= i) (records= i + 3 * cones= i) ws) (unvalued (alphas= i)) (getD ws 6 0) (part (patterns= i) (patterns= i + size= i) ws))
+
+-- a header that was made, and where it says that the file ends
+pub header-made : (t : Tables) (old : List ℕ) {header : List ℕ} → length old ≡ 20 → header ≡ written (headerOf (countsOf t)) old
+    → header ≡ headerOf (countsOf t)
+header-made t old size e = e ∙ written-whole (headerOf (countsOf t)) old size
+
+pub header-end : (t : Tables) → problemRefusal (problemOf t) ≡ 0 → {header : List ℕ} → header ≡ headerOf (countsOf t)
+    → getD header 19 0 ≡ length (fileOf t)
+header-end t ok e = ap (λ (h : List ℕ). getD h 19 0) e ∙ sym (written-length t ok .0)
+
+pub header-low : (t : Tables) → problemRefusal (problemOf t) ≡ 0 → {header : List ℕ} → header ≡ headerOf (countsOf t) → getD header 19 0 < 4294967296
+header-low t ok e = subst (λ (k : ℕ). k < 4294967296) (sym (header-end t ok e)) (written-length t ok .1)
+
+-- where the file has room its header has
+pub header-room : (t : Tables) (room : ℕ) {header : List ℕ} → header ≡ headerOf (countsOf t) → length (fileOf t) ≤ room
+    → (4 * length header ≤ room) × (80 ≤ room)
+header-room t room {header} e l =
+    let long : 80 ≤ room = le-trans (end-from 80 (map length (tablesBytes t))) (subst (λ (k : ℕ). k ≤ room) (file-length t) l) in
+    let size : length header ≡ 20 = ap length e in
+    (omega (arith, size, long), long)
+
+-- check 11 of a writer that refuses nothing before
+pub write-short : (t : Tables) → problemRefusal (problemOf t) ≡ 0 → (room : ℕ) → room < length (fileOf t) → 11 ≡ writeRefusal t room
+write-short t ok room l = sym (ap₂ (λ (k : ℕ) (b : Bool). orElse k (cond b 0 11)) ok (lt-leb (length (fileOf t)) room l))
+
+pub write-fits : (t : Tables) → problemRefusal (problemOf t) ≡ 0 → (room : ℕ) → length (fileOf t) ≤ room → 0 ≡ writeRefusal t room
+write-fits t ok room l = sym (ap₂ (λ (k : ℕ) (b : Bool). orElse k (cond b 0 11)) ok (le-leb (length (fileOf t)) room l))
+
+-- where the tables end: they have the room that is left after the header
+pub tables-room : (t : Tables) (old ws : List ℕ) → length (fileOf t) ≤ length old → length ws ≡ length old
+    → endFrom 80 (map length (tablesBytes t)) ≤ 80 + length (take (length ws - 80) (drop 80 ws))
+tables-room t old ws room same = go (endFrom 80 (map length (tablesBytes t))) (end-from 80 (map length (tablesBytes t))) (subst (λ (k : ℕ). k ≤ length old) (file-length t) room)
+  where
+    go : (end : ℕ) → 80 ≤ end → end ≤ length old → end ≤ 80 + length (take (length ws - 80) (drop 80 ws))
+    go end least most = omega (arith, same, length-tail ws 80)
+
+pub tables-low : (t : Tables) → problemRefusal (problemOf t) ≡ 0 → endFrom 80 (map length (tablesBytes t)) < 4294967296
+tables-low t ok = subst (λ (k : ℕ). k < 4294967296) (file-length t) (written-length t ok .1)
+
+-- a header's bytes, then the tables in all that is left
+pub file-laid : (t : Tables) (old : List ℕ) {header ws vs : List ℕ} → header ≡ headerOf (countsOf t) → length (fileOf t) ≤ length old
+    → ws ≡ written (tableBytes 4 header) old → vs ≡ written (laidFrom 80 (tablesBytes t)) (take (length ws - 80) (drop 80 ws))
+    → take 80 ws ++ (vs ++ drop (length ws - 80) (drop 80 ws)) ≡ written (fileOf t) old
+file-laid t old {header} e room f g =
+    let front = tableBytes 4 (headerOf (countsOf t)) in
+    let tables = laidFrom 80 (tablesBytes t) in
+    let size = length-table 4 (headerOf (countsOf t)) in
+    written-after front tables old 80 (sym size)
+    (omega (arith, size, length-laid 80 (tablesBytes t), file-length t, room))
+    (f ∙ ap (λ (h : List ℕ). written (tableBytes 4 h) old) e) g
