@@ -1,5 +1,5 @@
 //! The calls that document 02 adds: the door's, and their comparison with the plain reading and with what the document
-//! says of what they give.
+//! says about their results.
 #![cfg_attr(not(door), allow(dead_code))]
 
 use crate::against;
@@ -261,7 +261,7 @@ pub fn change_route(j: &JoinInput, o: &mut JoinOutputs) -> u32 {
     }
 }
 
-// the first output that is not the solution and, behind it, what it held
+// returns the first output that is not the solution followed by its unchanged rest
 fn solution_wrong(o: &JoinOutputs, j: Option<&Joined>) -> Option<&'static str> {
     let refused = Joined::default();
     let front = j.unwrap_or(&refused);
@@ -271,7 +271,7 @@ fn solution_wrong(o: &JoinOutputs, j: Option<&Joined>) -> Option<&'static str> {
     tests.iter().find(|(_, got, front)| !all_bits(got, &values_after(front, got.len()))).map(|t| t.0)
 }
 
-// the exact total at each original row of values that stand in augmented rows of these original ones; none where one of
+// returns the exact total at each original row of values in the augmented rows with these original rows; none if one of
 // the values is not finite
 fn totals(m: usize, originals: impl Iterator<Item = usize>, values: &[f64]) -> Option<Vec<Exact>> {
     let mut out = vec![Exact::zero(); m];
@@ -284,7 +284,7 @@ fn totals(m: usize, originals: impl Iterator<Item = usize>, values: &[f64]) -> O
     Some(out)
 }
 
-// whether the exact totals of s are the same on both sides; none where an s is not finite
+// returns whether the exact totals of s are the same on both routes; none if an s is not finite
 fn totals_kept(input: &JoinInput, compact_s: &[f64]) -> Option<bool> {
     let layout = expected::joinable(Route::Standard, input).ok()?;
     let m = input.m as usize;
@@ -293,7 +293,7 @@ fn totals_kept(input: &JoinInput, compact_s: &[f64]) -> Option<bool> {
     Some(Some(standard) == compact)
 }
 
-/// A standard solution as a compact one, which a compact joining of the same problem takes.
+/// Compares the change of route: a standard solution as a compact one, which a compact joining of the same problem must accept.
 pub fn compare_change_route(report: &mut Report, d: &mut Draws, p: &Problem, solution: &Solution) {
     let input = join_input(p, solution);
     let mut rooms = change_route::lengths(&input).unwrap_or([3; 4]);
@@ -334,7 +334,7 @@ pub fn compare_change_route(report: &mut Report, d: &mut Draws, p: &Problem, sol
 
 // ---- limits
 
-/// The door's call: the cut with the low limits' b, and the high limits' b.
+/// The door's call: writes the cut with the low limits' b, and the high limits' b.
 pub fn cut_between(p: &Problem, low: &[f64], high: &[f64], o: &mut CutOutputs, b_high: &mut [f64]) -> u32 {
     #[cfg(not(door))]
     {
@@ -399,7 +399,7 @@ pub fn cut_between(p: &Problem, low: &[f64], high: &[f64], o: &mut CutOutputs, b
     }
 }
 
-// rooms for the cut's outputs, one of them short now and then
+// lengths for the cut's outputs, one of them too short now and then
 fn some_rooms(d: &mut Draws, mut rooms: [usize; 11]) -> [usize; 11] {
     let short = if d.chance(15) { d.below(11) } else { 11 };
     for (i, space) in rooms.iter_mut().enumerate() {
@@ -408,7 +408,7 @@ fn some_rooms(d: &mut Draws, mut rooms: [usize; 11]) -> [usize; 11] {
     rooms
 }
 
-// the first table but b in which two cuts differ; in sums of several entries any NaN equals any NaN
+// returns the first table other than b in which two cuts differ; in sums of several entries any NaN equals any NaN
 fn beside_b(a: &CutOutputs, b: &CutOutputs) -> Option<&'static str> {
     let tests = [
         ("P", (&a.p_starts, &a.p_rows) == (&b.p_starts, &b.p_rows) && all_bits(&a.p_values, &b.p_values)),
@@ -420,7 +420,7 @@ fn beside_b(a: &CutOutputs, b: &CutOutputs) -> Option<&'static str> {
     tests.iter().find(|t| !t.1).map(|t| t.0)
 }
 
-// outputs without what lies behind the results
+// returns the outputs cut to the lengths of the results
 fn cut_off(o: &CutOutputs, lengths: &[usize; 11]) -> CutOutputs {
     CutOutputs {
         p_starts: o.p_starts[..lengths[0]].to_vec(),
@@ -437,7 +437,7 @@ fn cut_off(o: &CutOutputs, lengths: &[usize; 11]) -> CutOutputs {
     }
 }
 
-// a number between two, which may be one of them
+// a number between two, which may be either of them
 fn between(d: &mut Draws, low: f64, high: f64) -> f64 {
     let middle = low / 2.0 + high / 2.0;
     match d.below(4) {
@@ -453,7 +453,7 @@ fn all_between(d: &mut Draws, low: &[f64], high: &[f64]) -> Vec<f64> {
     low.iter().zip(high).map(|(&low, &high)| between(d, low, high)).collect()
 }
 
-// What document 02 says of an accepted pair of lists and its results: a b between the lists is augmented into something
+// Tests what document 02 says about an accepted pair of lists and its results: a b between the lists is augmented into something
 // between the results, and a vector between the results is, as numbers, the augmentation of exactly one such b.
 fn limits_wrong(d: &mut Draws, p: &Problem, lists: [&[f64]; 2], results: [&[f64]; 2]) -> Option<&'static str> {
     let augmented = |b: &[f64]| cut_made(Route::Compact, &sides::with_b(p, b)).map(|cut| cut.b);
@@ -490,7 +490,7 @@ fn limits_wrong(d: &mut Draws, p: &Problem, lists: [&[f64]; 2], results: [&[f64]
     None
 }
 
-/// The compact cut with two lists for b, `p`'s own b being passed over.
+/// Compares the compact cut with two lists for b; `p`'s own b is not used.
 pub fn compare_between(report: &mut Report, d: &mut Draws, p: &Problem, low: &[f64], high: &[f64]) {
     let needed = sides::lengths_between(p, low, high).unwrap_or([3; 11]);
     let rooms = some_rooms(d, needed);
@@ -512,7 +512,7 @@ pub fn compare_between(report: &mut Report, d: &mut Draws, p: &Problem, low: &[f
     };
     judge(report, "cut between", refusal, number, wrong, p.weight(), text);
 
-    // what the two single cuts give
+    // compared with the two single cuts
     let singles = [low, high].map(|b| cut_made(Route::Compact, &sides::with_b(p, b)));
     let first = singles.iter().filter_map(|cut| cut.as_ref().err().copied()).min();
     let by_singles = match first {
@@ -543,7 +543,7 @@ pub fn compare_between(report: &mut Report, d: &mut Draws, p: &Problem, low: &[f
 
 // ---- many right sides
 
-/// The door's call, `p`'s b holding all right sides.
+/// The door's call; `p`'s b holds all right sides.
 pub fn cut_many(count: u32, p: &Problem, o: &mut CutOutputs) -> u32 {
     #[cfg(not(door))]
     {
@@ -605,7 +605,7 @@ pub fn cut_many(count: u32, p: &Problem, o: &mut CutOutputs) -> u32 {
     }
 }
 
-/// The compact cut of a problem whose b holds `count` right sides.
+/// Compares the compact cut of a problem whose b holds `count` right sides.
 pub fn compare_many(report: &mut Report, d: &mut Draws, count: u32, p: &Problem) {
     let needed = sides::lengths_many(count, p).unwrap_or([3; 11]);
     let rooms = some_rooms(d, needed);
@@ -617,7 +617,7 @@ pub fn compare_many(report: &mut Report, d: &mut Draws, count: u32, p: &Problem)
     let text = || format!("{}\n sides {count} rooms {rooms:?} needed {needed:?}", problem_text(p));
     judge(report, "cut of many sides", refusal, number, wrong, p.weight(), text);
 
-    // what the single cuts give, one by one
+    // compared with the single cuts, one by one
     let m = p.m as usize;
     if p.b.len() as u64 != count as u64 * p.m as u64 || !(1..=64).contains(&count) {
         return;
@@ -653,7 +653,7 @@ pub fn compare_many(report: &mut Report, d: &mut Draws, count: u32, p: &Problem)
 
 // ---- pooling
 
-/// The door's call; the pattern words have the place of the cut's map.
+/// The door's call; the pattern words take the place of the cut's map.
 pub fn pool(first: &Problem, second: &Problem, o: &mut CutOutputs) -> u32 {
     #[cfg(not(door))]
     {
@@ -739,18 +739,18 @@ pub fn pool(first: &Problem, second: &Problem, o: &mut CutOutputs) -> u32 {
     }
 }
 
-/// A problem's tables in the places of a cut's, the pattern words in that of the map.
+/// Returns a problem's tables in the places of a cut's, the pattern words in that of the map.
 pub fn as_tables(p: Problem) -> Cut {
     Cut { p: p.p, q: p.q, a: p.a, b: p.b, cones: p.cones, alphas: p.alphas, map: p.pattern_words, sums: vec![] }
 }
 
-// the entries of a column, their rows raised
+// returns the entries of a column, their rows raised by `by`
 fn raised(cut: &CutOutputs, column: usize, by: u32) -> Vec<(u32, u64)> {
     let entries = cut.a_starts[column] as usize..cut.a_starts[column + 1] as usize;
     entries.map(|k| (cut.a_rows[k] + by, canonical(cut.a_values[k]))).collect()
 }
 
-// a value's bits, all NaNs being one
+// returns a value's bits, the same for all NaNs
 fn canonical(v: f64) -> u64 {
     if v.is_nan() {
         f64::NAN.to_bits()
@@ -759,12 +759,12 @@ fn canonical(v: f64) -> u64 {
     }
 }
 
-// what the pool's compact cut has to be, from those of its passes: the first table in which it is not
+// returns the first table in which the pool's compact cut is not what the cuts of its passes require
 fn compact_wrong(passes: [&Problem; 2], cuts: [&CutOutputs; 2], pool: &CutOutputs) -> Option<&'static str> {
     let [first, second] = cuts;
     let (n, rows) = (passes[0].n as usize, first.b.len() as u32);
     let [overlaps, more] = cuts.map(|cut| cut.q.len() - n);
-    // the passes' columns one over the other, then the first's overlap columns, then the second's
+    // the first's entries above the second's in each column, then the first's overlap columns, then the second's
     let mut columns: Vec<Vec<(u32, u64)>> =
         (0..n).map(|c| [raised(first, c, 0), raised(second, c, rows)].concat()).collect();
     columns.extend((n..n + overlaps).map(|c| raised(first, c, 0)));
@@ -792,14 +792,14 @@ fn compact_wrong(passes: [&Problem; 2], cuts: [&CutOutputs; 2], pool: &CutOutput
     tests.iter().find(|t| !t.1).map(|t| t.0)
 }
 
-// one Zero cone over all original rows, then what follows the added Zero cone of the first, then of the second
+// returns the pool's standard cones: one Zero cone over all original rows, then those after the Zero cone of each pass's cut
 fn standard_cones(passes: [&Problem; 2], cuts: [&CutOutputs; 2]) -> Vec<u32> {
     let mut cones = vec![0, passes[0].m + passes[1].m, 0];
     cuts.iter().for_each(|cut| cones.extend(&cut.cones[3..]));
     cones
 }
 
-/// The pooled problem of two passes, and its cuts beside those of the passes.
+/// Compares the pooled problem of two passes, and its cuts with those of the passes.
 pub fn compare_pool(report: &mut Report, d: &mut Draws, first: &Problem, second: &Problem) {
     let weight = first.weight() + second.weight();
     let needed = pool::pool(first, second, None).map_or([3; 11], |pool| pool::lengths(&pool));
@@ -813,7 +813,7 @@ pub fn compare_pool(report: &mut Report, d: &mut Draws, first: &Problem, second:
     let text = || format!("{}\n{}\n rooms {rooms:?} needed {needed:?}", problem_text(first), problem_text(second));
     judge(report, "pooling", refusal, number, wrong, weight, text);
 
-    // from the tables that were written
+    // the cuts of the tables that were written
     let (Ok(pooled), 0) = (expected, number) else { return };
     let made = cut_off(&out, &needed);
     let pooled = Problem {

@@ -1,4 +1,4 @@
-//! The plain reading against clarabel's own files, on one problem and one solution.
+//! Compares the plain reading with clarabel's own files, on one problem and one solution.
 
 use crate::expected;
 pub use crate::expected::join_input;
@@ -29,7 +29,7 @@ fn narrow(xs: &[usize]) -> Option<Vec<u32>> {
     xs.iter().map(|&x| u32::try_from(x).ok()).collect()
 }
 
-/// The reference's cut in this program's types, its map three words an entry; none where it holds a row that was never set.
+/// Returns the reference's cut in this program's types, with three words for each map entry; none if it has a row that was never set.
 pub fn narrowed(cut: &reference::door::Cut) -> Option<Cut> {
     let columns = |c: &reference::door::Columns| {
         Some(Columns { starts: narrow(&c.starts)?, rows: narrow(&c.rows)?, values: c.values.clone() })
@@ -54,13 +54,13 @@ pub fn narrowed(cut: &reference::door::Cut) -> Option<Cut> {
     })
 }
 
-/// The cut without the first rows and row counts of its cone map, which clarabel's has not: equality leaves them out.
+/// Returns the cut without the first rows and row counts of its cone map, which clarabel's lacks: equality leaves them out.
 fn without_rows(cut: &Cut) -> Cut {
     Cut { map: cut.map.chunks(MAP_WORDS).flat_map(|entry| &entry[..3]).copied().collect(), ..cut.clone() }
 }
 
-/// The first output in which two cuts differ. What is copied keeps its bits, NaNs included; in the sums that `a` names any
-/// NaN equals any NaN.
+/// Returns the first output in which two cuts differ. Copied values must have the same bits, NaNs included; in the sums that `a`
+/// names any NaN equals any NaN.
 pub fn cut_difference(a: &Cut, b: &Cut) -> Option<&'static str> {
     let tests = [
         ("P starts", a.p.starts == b.p.starts),
@@ -89,19 +89,19 @@ pub fn join_difference(a: &Joined, b: &Joined) -> Option<&'static str> {
     tests.iter().find(|t| !t.1).map(|t| t.0)
 }
 
-/// Why clarabel is no reference for an accepted problem, where it is none.
+/// Returns why clarabel is not the reference for an accepted problem, or none if it is.
 fn no_reference(route: Route, p: &Problem) -> Option<&'static str> {
     let layout = expected::accepted(route, p).ok()?;
     match route {
         Route::Standard => None,
-        // it leaves the overlap rows unset there, or panics
+        // clarabel leaves the overlap rows unset there, or panics
         Route::Compact if p.n == 0 => Some("no columns"),
-        // it finds only the first of a run there, and may lose its neighbours
+        // clarabel finds only the first entry of a run there, and may lose its neighbours
         Route::Compact => expected::repeats_in_decomposed(p, &layout).then_some("repeats in a decomposed cone"),
     }
 }
 
-/// Compares the cut and, with a solution, the joining, where the documents accept and clarabel is their reference. A
+/// Compares the cut and, if a solution is given, the joining, where the documents accept and clarabel is the reference. A
 /// refused problem is only counted.
 pub fn compare(report: &mut Report, route: Route, p: &Problem, solution: Option<&Solution>, storage: usize) {
     let r = route.name();
@@ -121,7 +121,7 @@ pub fn compare(report: &mut Report, route: Route, p: &Problem, solution: Option<
     let (prepared, raw) = match made {
         Ok(made) => made,
         Err(message) => {
-            // the one panic that document 01 knows: no entries and no overlaps
+            // the one panic that document 01 names: no entries and no overlaps
             let known = route == Route::Compact && p.a.values.is_empty() && expected.a.values.is_empty();
             if known {
                 report.count(format!("{r}: accepted, clarabel panics (no entries, no overlaps)"));
@@ -173,7 +173,7 @@ pub fn compare(report: &mut Report, route: Route, p: &Problem, solution: Option<
     }
 }
 
-/// Two problems with the same layout, both accepted by a route, have cuts with the same places, cones, exponents and map.
+/// Checks that two problems with the same layout, both accepted by a route, have cuts with the same places, cones, exponents and map.
 pub fn compare_same_layout(report: &mut Report, first: &Problem, second: &Problem) {
     if expected::same_layout(first, second, 1) != Ok(true) {
         return;
@@ -195,7 +195,7 @@ pub fn compare_same_layout(report: &mut Report, first: &Problem, second: &Proble
     }
 }
 
-/// The small calls against clarabel's functions, where document 01 accepts.
+/// Compares the small calls with clarabel's functions, where document 01 accepts.
 pub fn compare_small(report: &mut Report, words: &[u32], permutation: &[u32]) {
     if let Ok(ours) = expected::renumber(words, words.len()) {
         match reference::door::renumber(words) {
@@ -215,7 +215,7 @@ pub fn compare_small(report: &mut Report, words: &[u32], permutation: &[u32]) {
     }
 }
 
-/// All pairs and all indices.
+/// Compares all pairs and all indices.
 pub fn compare_pairs(report: &mut Report) {
     for i in 0..256u32 {
         for j in 0..256u32 {

@@ -1,5 +1,5 @@
-//! Document 02, Q-13, by running: x and blocks that meet the equations of one route's written A and b meet the other's,
-//! and damaged ones meet neither. All in whole counts, over a denominator.
+//! Tests document 02, Q-13: x and blocks that satisfy the equations of one route's written A and b satisfy the other's,
+//! and damaged ones satisfy neither. All sums are whole counts, over a denominator.
 
 use crate::case_draws;
 use crate::door;
@@ -9,13 +9,13 @@ use crate::problem::*;
 use crate::random::{self, Draws};
 use crate::report::*;
 
-// the written A and b of a route
+// returns the written A and b of a route
 fn written(route: Route, p: &Problem) -> Option<(Columns, Vec<f64>)> {
     let out = door::cut_made(route, p).ok()?;
     Some((Columns { starts: out.a_starts, rows: out.a_rows, values: out.a_values }, out.b))
 }
 
-// whether the columns before n times x, those from n on (+1 and -1) times y, and the slacks sum to d times b
+// returns whether the columns before n times x, those from n on (+1 and -1) times y, and the slacks sum to d times b
 fn meets(a: &Columns, b: &[f64], d: i64, x: &[i64], y: &[Exact], slacks: &[Exact]) -> bool {
     let mut left = slacks.to_vec();
     for column in 0..a.starts.len() - 1 {
@@ -31,7 +31,7 @@ fn meets(a: &Columns, b: &[f64], d: i64, x: &[i64], y: &[Exact], slacks: &[Exact
     left.iter().zip(b).all(|(l, &v)| *l == Exact::of(v).times(d))
 }
 
-// the only added unknowns that can meet the compact equations: an overlap's own row gives its unknown, the last first
+// returns the only added unknowns that can satisfy the compact equations: an overlap's own row gives its unknown, the last first
 fn compact_unknowns(rows: &[Row], b: &[f64], d: i64, slacks: &[Exact]) -> Vec<Exact> {
     let overlaps: Vec<(usize, usize)> =
         rows.iter().enumerate().filter_map(|(r, row)| row.parent_row().map(|parent| (r, parent))).collect();
@@ -69,7 +69,7 @@ fn case(report: &mut Report, d: &mut Draws) {
     let order = layout.standard_order();
     let denominator = 1 + d.below(5) as i64;
     let mut x: Vec<i64> = (0..p.n).map(|_| d.below(21) as i64 - 10).collect();
-    // what is left of each original row, to be divided among its blocks
+    // what remains of each original row, to be divided among its blocks
     let mut left: Vec<Exact> = p.b.iter().map(|&v| Exact::of(v).times(denominator)).collect();
     for column in 0..p.n as usize {
         for at in p.a.starts[column] as usize..p.a.starts[column + 1] as usize {
@@ -110,7 +110,7 @@ fn case(report: &mut Report, d: &mut Draws) {
     report.count(if on_standard { "solutions that meet both routes" } else { "solutions that meet neither route" });
 }
 
-/// Tries `cases` random problems, each with a solution that is damaged every other time.
+/// Tests `cases` random problems, each with a solution, which is damaged about half of the time.
 pub fn compare(report: &mut Report, cases: u64, seed: u64) {
     for index in 0..cases {
         case(report, &mut case_draws(seed, index));

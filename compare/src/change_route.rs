@@ -3,7 +3,7 @@
 use crate::expected::{self, JoinInput, Layout};
 use crate::problem::*;
 
-// what a standard joining checks up to 10, check 10 of the compact route, and the lengths of x, s, z and the two scalars
+// the checks of a standard joining up to 10, check 10 of the compact route, and the lengths of x, s, z and the two scalars
 fn accepted(j: &JoinInput) -> Result<(Layout, [usize; 4]), u32> {
     expected::joinable(Route::Standard, j)?;
     let layout = expected::joinable(Route::Compact, j)?;
@@ -12,12 +12,12 @@ fn accepted(j: &JoinInput) -> Result<(Layout, [usize; 4]), u32> {
     Ok((layout, lengths))
 }
 
-/// The lengths of x, s, z and the two scalars that the call gives.
+/// Returns the lengths of x, s, z and the two scalars that the call writes.
 pub fn lengths(j: &JoinInput) -> Result<[usize; 4], u32> {
     accepted(j).map(|(_, lengths)| lengths)
 }
 
-/// A standard solution as a compact one. `rooms` are those of x, s, z and the two scalars.
+/// Returns a standard solution as a compact one. `rooms` are the output lengths for x, s, z and the two scalars.
 pub fn change_route(j: &JoinInput, rooms: Option<&[usize; 4]>) -> Result<Joined, u32> {
     let (layout, lengths) = accepted(j)?;
     if rooms.is_some_and(|rooms| rooms.iter().zip(&lengths).any(|(room, needed)| room < needed)) {
@@ -78,7 +78,7 @@ mod tests {
         assert_eq!(number(&p, Some(&[2, 6, 6, 2])), Some(12));
         assert_eq!(number(&Problem { n: 65_537, ..seam() }, Some(&[0; 4])), Some(1));
         assert_eq!(number(&Problem { m: 7, ..seam() }, Some(&[0; 4])), Some(4));
-        // many overlaps: the standard route alone takes them
+        // so many overlaps that only the standard route accepts them
         let wide = crate::random::at_limits();
         for (name, standard, change) in [("overlaps 131072, 0 over", 11, 11), ("overlaps 131072, 1 over", 11, 10)] {
             let p = &wide.iter().find(|(n, _)| n == name).unwrap().1;
@@ -87,7 +87,7 @@ mod tests {
         }
     }
 
-    // three cliques share a vertex, the fewest whose values can round differently from either end
+    // three cliques share a vertex: the fewest whose values can round differently in the two orders
     #[test]
     fn rounded_sums_may_differ() {
         let p = cone_of_three(vec![0, 3, 3, 0, 1, 2, 2, 1, 1, 0, 2, 2, 1, 1, 1, 2, u32::MAX, 1, 0, 2]);

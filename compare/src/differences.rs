@@ -1,4 +1,4 @@
-//! clarabel on the inputs of docs/DIFFERENCES.md, and on damaged problems: what it takes that the documents refuse.
+//! clarabel on the inputs of docs/DIFFERENCES.md, and on damaged problems: what it accepts and the documents refuse.
 
 use crate::against::{narrowed, tables};
 use crate::expected;
@@ -27,7 +27,7 @@ fn psd(n: u32, size: u32, rows: &[u32], values: &[f64], b: &[f64], pattern: &[u3
     }
 }
 
-// what clarabel does with a problem, in a line
+// returns what clarabel does with a problem, in one line
 fn answer(route: Route, p: &Problem) -> String {
     let made = door::Prepared::new(&tables(p), 0)
         .and_then(|mut made| made.cut(route == Route::Compact).map(|raw| made.plain(&raw)));
@@ -208,7 +208,7 @@ pub fn print() {
     mined();
 }
 
-// the first root, and the first index back, that a float root gets wrong
+// prints the first integer root, and the first sampled index back, that clarabel gets wrong
 fn roots() {
     let exact = |v: u128| {
         let mut r = (v as f64).sqrt() as u128;
@@ -239,7 +239,7 @@ fn roots() {
     }
 }
 
-// damaged problems: for each refusal number how often clarabel panics, answers with a row never set, or answers
+// damaged problems: for each refusal number how often clarabel panics, accepts with a row never set, or accepts
 fn mined() {
     let mut counts: BTreeMap<(u32, &str, &str), (u64, usize, String)> = BTreeMap::new();
     for index in 0..120_000u64 {

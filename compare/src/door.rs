@@ -1,5 +1,5 @@
-//! The door's calls, and their comparison with the plain reading: answers, refusal numbers, that a refused call
-//! writes nothing and that the rest of a longer output is kept.
+//! The door's calls, and their comparison with the plain reading: results, refusal numbers, that a refused call
+//! writes nothing and that the rest of a longer output is unchanged.
 #![cfg_attr(not(door), allow(dead_code))]
 
 use crate::against::*;
@@ -235,7 +235,7 @@ mod linked {
         unsafe { c::chordal_renumber(words.as_ptr(), words.len(), out.as_mut_ptr(), out.len()) }
     }
 
-    // calls $f with the arguments before, a problem's, and those after
+    // calls $f with the arguments before a problem, the problem's own, and those after it
     macro_rules! with_problem {
         ($f:path, [$($before:expr),*], $p:expr, [$($after:expr),*]) => {{
             let p: &Problem = $p;
@@ -363,7 +363,7 @@ mod linked {
     }
 }
 
-// without the door nothing calls these
+// unused if the door is not linked
 #[cfg(not(door))]
 mod linked {
     use super::*;
@@ -398,7 +398,7 @@ pub use linked::*;
 
 // ---- comparison
 
-// what outputs hold before a call
+// the contents of outputs before a call
 const WORD: u32 = 0xdead_beef;
 const VALUE: u64 = 0x7ff8_1234_5678_9abc;
 
@@ -409,7 +409,7 @@ pub fn values(room: usize) -> Vec<f64> {
     vec![f64::from_bits(VALUE); room]
 }
 
-// the front of an output after a call, the rest being what it held
+// returns an output after a call: its front, and the unchanged rest
 pub fn words_after(front: &[u32], room: usize) -> Vec<u32> {
     let mut out = words(room);
     out[..front.len()].copy_from_slice(front);
@@ -421,12 +421,12 @@ pub fn values_after(front: &[f64], room: usize) -> Vec<f64> {
     out
 }
 
-// sums may give any NaN, but what is kept stays as it was
+// sums may give any NaN, but the rest must be unchanged
 fn same_after(got: &[f64], front: &[f64]) -> bool {
     all_same(&got[..front.len()], front) && all_bits(&got[front.len()..], &values(got.len() - front.len()))
 }
 
-/// An output's room: mostly long enough, now and then one short.
+/// Returns an output length: long enough, or too short if `short` is set.
 pub fn room(d: &mut Draws, needed: usize, short: bool) -> usize {
     if short && needed > 0 {
         needed - 1 - if d.chance(20) { d.below(needed) } else { 0 }
@@ -453,7 +453,7 @@ pub fn cut_outputs(rooms: &[usize; 11]) -> CutOutputs {
     }
 }
 
-/// A cut on a route: the door's where it is linked, and else the plain reading's.
+/// Returns a cut on a route: the door's if it is linked, otherwise the plain reading's.
 pub fn cut_made(route: Route, p: &Problem) -> Result<CutOutputs, u32> {
     if !LINKED {
         let cut = expected::cut(route, p, None)?;
@@ -482,7 +482,7 @@ pub fn join_outputs(rooms: &[usize; 4]) -> JoinOutputs {
     JoinOutputs { x: values(rooms[0]), s: values(rooms[1]), z: values(rooms[2]), scalars: values(rooms[3]) }
 }
 
-// the first output of a cut that is not what it should be
+// returns the first output of a cut that is not the expected one
 pub fn cut_wrong(o: &CutOutputs, cut: &Cut, rooms: &[usize; 11]) -> Option<&'static str> {
     let tests = [
         ("P starts", o.p_starts == words_after(&cut.p.starts, rooms[0])),
@@ -518,7 +518,7 @@ fn join_wrong(o: &JoinOutputs, j: &Joined) -> Option<&'static str> {
     tests.iter().find(|t| !t.1).map(|t| t.0)
 }
 
-// counts or fails one call: its number, and its first wrong output
+// records one call as counted or failed, by its number and its first wrong output
 #[allow(clippy::too_many_arguments)]
 pub fn judge(
     report: &mut Report,
@@ -545,10 +545,10 @@ fn wide(lengths: &[usize; 11]) -> Vec<u32> {
     lengths.iter().map(|&l| l as u32).collect()
 }
 
-/// Sizes and the cut of one problem on a route.
+/// Compares sizes and the cut of one problem on a route.
 pub fn compare_cut(report: &mut Report, d: &mut Draws, route: Route, p: &Problem) {
     let r = route.name();
-    // a number that is no route, now and then
+    // now and then a number that is not a route
     let code = if d.chance(1) { 2 + d.below(3) as u32 } else { route.code() };
 
     let short = d.chance(5);
@@ -579,7 +579,7 @@ pub fn compare_cut(report: &mut Report, d: &mut Draws, route: Route, p: &Problem
     });
 }
 
-/// The joining of one solution on a route.
+/// Compares the joining of one solution on a route.
 pub fn compare_join(report: &mut Report, d: &mut Draws, route: Route, p: &Problem, solution: &Solution) {
     let code = if d.chance(1) { 2 + d.below(3) as u32 } else { route.code() };
     let input = join_input(p, solution);
@@ -633,7 +633,7 @@ pub fn compare_small(report: &mut Report, d: &mut Draws, pattern: &[u32], permut
     judge(report, "inverse", refusal, number, wrong, permutation.len(), || format!("  {permutation:?} room {space}"));
 }
 
-/// All pairs up to 256, some far ones, all indices and some beyond, with rooms from 0 to 3.
+/// Compares all pairs up to 256 and some beyond, and all indices and some beyond, with output lengths from 0 to 4.
 pub fn compare_pairs(report: &mut Report) {
     let far = [257, 65_535, 65_536, 0x8000_0000, u32::MAX];
     let numbers: Vec<u32> = (0..=256).chain(far).collect();

@@ -1,8 +1,8 @@
-//! Whole counts of 2 to the -1074, of any size that the comparison meets: a finite double is one, and sums are exact.
+//! Exact sums: whole counts of 2 to the -1074, large enough for everything that the comparison adds. A finite double is such a count.
 
 use std::cmp::Ordering;
 
-// 2,304 bits: the largest double is below 2 to the 2,098, and room is left for long sums and small factors
+// 2,304 bits: the largest double is below 2 to the 2,098, which leaves room for long sums and small factors
 const LIMBS: usize = 36;
 
 /// A count in two's complement, the lowest limb first.
@@ -14,7 +14,7 @@ impl Exact {
         Exact([0; LIMBS])
     }
 
-    /// The count of a finite double.
+    /// Returns the count of a finite double.
     pub fn of(v: f64) -> Exact {
         assert!(v.is_finite());
         let bits = v.to_bits();
@@ -81,17 +81,17 @@ impl Exact {
         }
     }
 
-    /// 2 to the 53 times the count.
+    /// Returns 2 to the 53 times the count.
     pub fn times_two_to_53(&self) -> Exact {
         self.times(1 << 53)
     }
 
-    /// The order of two counts that are not below 0.
+    /// Compares two counts that are not negative.
     pub fn compare(&self, other: &Exact) -> Ordering {
         self.0.iter().rev().cmp(other.0.iter().rev())
     }
 
-    /// The quotient of two counts that are not below 0, roughly.
+    /// Returns roughly the quotient of two counts that are not negative.
     pub fn over(&self, other: &Exact) -> f64 {
         let top = (0..LIMBS).rev().find(|&i| self.0[i] != 0 || other.0[i] != 0).unwrap_or(0);
         let near = |e: &Exact| {

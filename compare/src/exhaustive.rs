@@ -19,7 +19,7 @@ fn permutations(n: usize) -> Vec<Vec<u32>> {
     out
 }
 
-// all ways to give each vertex one of `count` snodes, none left empty
+// all ways to assign each vertex to one of `count` snodes, none left empty
 fn snodes(vertices: usize, count: usize) -> Vec<Vec<Vec<u32>>> {
     let mut out = vec![];
     for code in 0..count.pow(vertices as u32) {
@@ -36,7 +36,7 @@ fn snodes(vertices: usize, count: usize) -> Vec<Vec<Vec<u32>>> {
     out
 }
 
-// cliques from the last down to c have their parents and separators; go on with c - 1
+// cliques from c on have parents and separators; continues with clique c - 1
 fn grow(cliques: &mut Vec<Clique>, c: usize, visit: &mut impl FnMut(&[Clique])) {
     if c == 0 {
         visit(cliques);
@@ -54,7 +54,7 @@ fn grow(cliques: &mut Vec<Clique>, c: usize, visit: &mut impl FnMut(&[Clique])) 
     }
 }
 
-/// Calls `visit` with each clique tree over `vertices` under each ordering, members in an order of `d`.
+/// Calls `visit` with each clique tree over `vertices` under each ordering, members in a random order from `d`.
 pub fn patterns(vertices: usize, d: &mut Draws, visit: &mut impl FnMut(&mut Draws, Pattern)) {
     let orderings = permutations(vertices);
     for count in 1..=vertices {
@@ -77,7 +77,7 @@ pub fn patterns(vertices: usize, d: &mut Draws, visit: &mut impl FnMut(&mut Draw
     }
 }
 
-/// One PSD cone with this pattern, one column with an entry in each covered row.
+/// Returns a problem with one PSD cone with this pattern and one column with an entry in each covered row.
 pub fn problem(d: &mut Draws, pattern: &Pattern) -> Problem {
     let covered = pattern.covered();
     let m = covered.len();

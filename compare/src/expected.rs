@@ -1,5 +1,5 @@
-//! Document 01 read plainly, with the requests of document 02: what each call answers, refusals included. Written from
-//! the documents alone, for clearness and not for speed. An answer is `Ok`, a refusal number is `Err`.
+//! A plain reading of document 01, with the requests of document 02: what each call returns, refusals included. Written from
+//! the documents alone, for clarity and not for speed. A result is `Ok`, a refusal number is `Err`.
 
 use crate::problem::*;
 
@@ -37,7 +37,7 @@ pub fn pair_back(index: u32, room: usize) -> Result<(u32, u32), u32> {
 
 // ---- utils.rs
 
-// each number below the length exactly once
+// returns whether each number below the length occurs exactly once
 fn is_permutation(p: &[u32]) -> bool {
     let mut seen = vec![false; p.len()];
     p.iter().all(|&x| {
@@ -98,7 +98,7 @@ impl Cone {
     }
 }
 
-// the whole records; a part record at the end is passed over
+// returns the complete records; an incomplete one at the end is left out
 pub fn records(words: &[u32]) -> Vec<Cone> {
     words.chunks_exact(3).map(|w| Cone { kind: w[0], first: w[1], second: w[2] }).collect()
 }
@@ -130,14 +130,14 @@ pub struct Pattern {
 }
 
 impl Pattern {
-    // a clique's original vertices, sorted
+    // returns a clique's original vertices, sorted
     pub fn block(&self, c: usize) -> Vec<u32> {
         let mut vs: Vec<u32> = self.cliques[c].members().map(|v| self.ordering[v as usize]).collect();
         vs.sort();
         vs
     }
 
-    // which rows of its cone the cliques cover
+    // returns which rows of its cone the cliques cover
     pub fn covered(&self) -> Vec<bool> {
         let mut covered = vec![false; triangle(self.vertices as u64) as usize];
         for c in 0..self.cliques.len() {
@@ -162,7 +162,7 @@ impl Pattern {
     }
 }
 
-// the next `count` words, or none if they end early
+// takes the next `count` words, or returns none if they end early
 fn taken(words: &mut &[u32], count: u32) -> Option<Vec<u32>> {
     if words.len() < count as usize {
         return None;
@@ -185,7 +185,7 @@ fn read_pattern(words: &mut &[u32]) -> Option<Pattern> {
     Some(Pattern { orig_index: head[0], vertices: head[1], ordering, cliques })
 }
 
-/// The patterns, if the words end neither early nor late.
+/// Returns the patterns, if the words end neither early nor late.
 pub fn read_patterns(count: u32, words: &[u32]) -> Option<Vec<Pattern>> {
     let mut rest = words;
     let mut out = vec![];
@@ -213,12 +213,12 @@ fn starts_right(n: u32, c: &Columns) -> bool {
         && c.rows.len() == c.values.len()
 }
 
-// the rows of each column, where the starts are right
+// iterates over the rows of each column of a matrix whose starts are right
 fn column_rows(c: &Columns) -> impl Iterator<Item = &[u32]> {
     c.starts.windows(2).map(|w| &c.rows[w[0] as usize..w[1] as usize])
 }
 
-// whether rows lie inside and each two neighbours in a column are in order
+// returns whether rows are in range and neighbours in a column are in order
 fn rows_right(m: u32, c: &Columns, in_order: fn(u32, u32) -> bool) -> bool {
     column_rows(c).all(|rows| rows.iter().all(|&r| r < m) && rows.windows(2).all(|r| in_order(r[0], r[1])))
 }
@@ -265,7 +265,7 @@ fn check7(p: &Pattern) -> bool {
             let mut sorted = c.separator.clone();
             sorted.sort();
             let repeats = sorted.windows(2).any(|w| w[0] == w[1]);
-            // the last clique has no separator, so each that asks has a parent
+            // only the last clique has no parent, and its separator is empty
             !repeats
                 && (c.separator.is_empty() || {
                     let mut held: Vec<u32> = p.cliques[c.parent as usize].members().collect();
@@ -318,7 +318,7 @@ pub fn first_seven(p: &Problem) -> Result<Layout, u32> {
 
 // ---- the layout
 
-/// A cone in order: its first original row, and its pattern if it is decomposed.
+/// A cone: its first original row, and its pattern if it is decomposed.
 struct Part {
     cone: Cone,
     first_row: u64,
@@ -349,7 +349,7 @@ impl Row {
     pub fn is_kept(self) -> bool {
         matches!(self, Row::Kept(_))
     }
-    /// The row that an overlap is tied to.
+    /// Returns the row that an overlap is tied to.
     pub fn parent_row(self) -> Option<usize> {
         match self {
             Row::Overlap(_, parent) => Some(parent),
@@ -373,7 +373,7 @@ impl Layout {
         Layout { parts, patterns }
     }
 
-    /// Rows of all blocks and undecomposed cones.
+    /// Returns the number of rows of all blocks and undecomposed cones.
     pub fn block_rows(&self) -> u64 {
         self.parts
             .iter()
@@ -384,12 +384,12 @@ impl Layout {
             .sum()
     }
 
-    /// Entries whose pair lies wholly in the separator.
+    /// Returns the number of block entries whose pair has both members in the separator.
     pub fn overlaps(&self) -> u64 {
         self.patterns.iter().flat_map(|p| &p.cliques).map(|c| triangle(c.separator.len() as u64)).sum()
     }
 
-    // the original rows of one block, in svec order
+    // returns the original rows of one block, in svec order
     fn block_originals(first_row: u64, block: &[u32]) -> Vec<usize> {
         let mut out = vec![];
         for (j, &column) in block.iter().enumerate() {
@@ -400,7 +400,7 @@ impl Layout {
         out
     }
 
-    // the compact route's rows: cones in order, cliques from last to first
+    // returns the compact route's rows: cones in order, cliques from last to first
     pub fn compact_rows(&self) -> Vec<Row> {
         let mut rows = vec![];
         for part in &self.parts {
@@ -417,7 +417,7 @@ impl Layout {
                 let mut separator: Vec<u32> = clique.separator.iter().map(|&v| pattern.ordering[v as usize]).collect();
                 separator.sort();
                 let in_separator: Vec<bool> = block.iter().map(|v| separator.binary_search(v).is_ok()).collect();
-                // place of each separator vertex in the parent's block
+                // the index of each separator vertex in the parent's block
                 let parent_places: Vec<u64> = if separator.is_empty() {
                     vec![0; block.len()]
                 } else {
@@ -443,7 +443,7 @@ impl Layout {
         rows
     }
 
-    /// The rows of H's ones: cones in order, cliques from first to last.
+    /// Returns the rows of H's ones: cones in order, cliques from first to last.
     pub fn standard_rows(&self) -> Vec<usize> {
         let mut rows = vec![];
         for part in &self.parts {
@@ -460,7 +460,7 @@ impl Layout {
         rows
     }
 
-    /// The compact row of each block entry, the blocks in standard order.
+    /// Returns the compact row of each block entry, the blocks in standard order.
     pub fn standard_order(&self) -> Vec<usize> {
         let mut order = vec![];
         let mut first = 0;
@@ -480,7 +480,7 @@ impl Layout {
         order
     }
 
-    // rows of decomposed cones that no clique covers
+    // returns the rows of decomposed cones that no clique covers
     pub fn uncovered(&self) -> Vec<usize> {
         let mut out = vec![];
         for part in &self.parts {
@@ -503,7 +503,7 @@ impl Layout {
         if route == Route::Standard {
             return out;
         }
-        // an entry's first row is the number of rows before it, also for a cone without rows
+        // an entry's first row is the number of rows before it, even for a cone without rows
         let mut first_row = 0;
         let mut push = |place: [u32; 3], rows: u64| {
             out.extend(place);
@@ -551,7 +551,7 @@ impl Layout {
         right.then_some(()).ok_or(10)
     }
 
-    // added unknowns and augmented rows
+    // the numbers of added unknowns and of augmented rows
     fn added(&self, route: Route) -> usize {
         match route {
             Route::Standard => self.block_rows() as usize,
@@ -568,7 +568,7 @@ impl Layout {
 
 // ---- the cut
 
-/// Checks 1 to 10. Number 8 does not occur: the compact route takes a problem without columns too.
+/// Makes checks 1 to 10. Number 8 is never returned: the compact route accepts a problem without columns.
 pub fn accepted(route: Route, p: &Problem) -> Result<Layout, u32> {
     let layout = first_seven(p)?;
     if route == Route::Compact {
@@ -584,8 +584,8 @@ pub fn accepted(route: Route, p: &Problem) -> Result<Layout, u32> {
     Ok(layout)
 }
 
-/// A with each run of one row in a column as one entry: its first value as it is, each further one added to it from left
-/// to right, as `new_from_triplets` does. Beside it how many entries each was.
+/// Returns A with each run of one row in a column as one entry: its first value as it is, each further one added to it from left
+/// to right, as `new_from_triplets` does; and of how many entries each was made.
 pub fn summed(a: &Columns) -> (Columns, Vec<usize>) {
     let mut out = Columns { starts: vec![0], ..Columns::default() };
     let mut counts = vec![];
@@ -606,7 +606,7 @@ pub fn summed(a: &Columns) -> (Columns, Vec<usize>) {
     (out, counts)
 }
 
-/// Whether A repeats a row of a decomposed cone in a column, given a problem that has passed checks 1 to 7.
+/// Returns whether A repeats a row of a decomposed cone in a column, for a problem that has passed checks 1 to 7.
 pub fn repeats_in_decomposed(p: &Problem, layout: &Layout) -> bool {
     let cut = |row: u32| {
         let row = row as u64;
@@ -677,7 +677,7 @@ fn push_column(out: &mut Columns, mut entries: Vec<(usize, f64)>) {
     out.starts.push(out.values.len() as u32);
 }
 
-// A, b, and the places in A of sums of several entries
+// returns A, b, and the indices in A of sums of several entries
 fn compact_a_b(p: &Problem, layout: &Layout) -> (Columns, Vec<f64>, Vec<usize>) {
     let rows = layout.compact_rows();
     // where a value in an original row moves to
@@ -712,7 +712,7 @@ fn compact_a_b(p: &Problem, layout: &Layout) -> (Columns, Vec<f64>, Vec<usize>) 
     (a, b, sums)
 }
 
-// A with repeated entries as stored
+// returns A and b, with repeated entries of A as stored
 fn standard_a_b(p: &Problem, layout: &Layout) -> (Columns, Vec<f64>, Vec<usize>) {
     let rows = layout.standard_rows();
     let mut a = p.a.clone();
@@ -746,7 +746,7 @@ pub fn join_input<'a>(p: &'a Problem, solution: &'a Solution) -> JoinInput<'a> {
     }
 }
 
-/// Checks 1 to 10 of a joining on a route.
+/// Makes checks 1 to 10 of a joining on a route.
 pub fn joinable(route: Route, j: &JoinInput) -> Result<Layout, u32> {
     if !bounded(j.n, j.m, j.cones) {
         return Err(1);
@@ -761,7 +761,7 @@ pub fn joinable(route: Route, j: &JoinInput) -> Result<Layout, u32> {
     Ok(layout)
 }
 
-/// `rooms` are those of x, s, z and the two scalars.
+/// Joins a solution. `rooms` are the output lengths for x, s, z and the two scalars.
 pub fn join(route: Route, j: &JoinInput, rooms: Option<&[usize; 4]>) -> Result<Joined, u32> {
     let layout = joinable(route, j)?;
     let (n, m) = (j.n as usize, j.m as usize);
@@ -808,7 +808,7 @@ pub fn join(route: Route, j: &JoinInput, rooms: Option<&[usize; 4]>) -> Result<J
     Ok(out)
 }
 
-/// The lengths of x and of s and z, and the cone map, that a joining asks for.
+/// Returns the lengths of x and of s and z, and the cone map, that a joining requires.
 pub fn solution_shape(route: Route, p: &Problem) -> Option<(usize, usize, Vec<u32>)> {
     if !bounded(p.n, p.m, &p.cones) || !cones_read(p.m, &p.cones) {
         return None;
@@ -830,7 +830,7 @@ pub fn renumber(words: &[u32], room: usize) -> Result<Vec<u32>, u32> {
     if room < words.len() {
         return Err(11);
     }
-    // old numbers by rising clique and, within a snode, rising
+    // old numbers clique by clique and, within a snode, sorted
     let mut old = vec![];
     for c in &p.cliques {
         let mut snode = c.snode.clone();
@@ -870,7 +870,7 @@ pub fn same_layout(first: &Problem, second: &Problem, room: usize) -> Result<boo
         && first.m == second.m
         && first.cones == second.cones
         && first.pattern_words == second.pattern_words
-        // bit by bit, save for which NaN
+        // bit by bit, but all NaNs are equal
         && all_same(&first.alphas, &second.alphas)
         && same_places(&first.a, &second.a)
         && same_places(&first.p, &second.p))
@@ -963,7 +963,7 @@ mod marked_cases {
         assert_eq!(sizes(Route::Compact, &p, 11).unwrap()[5], 7);
         assert_eq!(c.a.starts, [0, 5, 7]);
         assert_eq!(c.a.rows, [0, 1, 2, 3, 6, 0, 5]);
-        // from left to right the one is lost; alone the zero keeps its sign; a sum that is zero stays an entry
+        // from left to right, the 1.0 is lost; a single zero keeps its sign; a sum that is zero stays an entry
         assert!(all_bits(&c.a.values, &[0.0, 40.0, 50.0, -0.0, 0.0, -1.0, 1.0]));
         assert_eq!(c.sums, [0, 4]);
         let c = cut(Route::Standard, &p, None).unwrap();
@@ -975,7 +975,7 @@ mod marked_cases {
         assert_eq!(first_seven(&p).err(), Some(3));
     }
 
-    // cones without rows, before, between and after others
+    // cones without rows before, between and after other cones
     #[test]
     fn first_rows() {
         let mut p = three_projectors();
@@ -1012,7 +1012,7 @@ mod marked_cases {
         assert_eq!(changed(&|p| p.p = Columns { starts: vec![0, 1], rows: vec![0], values: vec![0.0] }), Ok(false));
     }
 
-    // the seam of a dome that has nothing left to adjust
+    // the seam of a dome with n = 0
     #[test]
     fn no_columns() {
         let mut p = three_projectors();

@@ -41,7 +41,7 @@ mod c {
 
 // ---- the calls with slices
 
-/// A problem's tables with floats as patterns, and its eight counts.
+/// A problem's tables with floats as 64-bit patterns, and its eight counts.
 #[derive(Clone, Default)]
 pub struct Tables {
     pub counts: Vec<u32>,
@@ -102,7 +102,7 @@ mod calls {
         }
     }
 
-    /// Of the counts only n, m and the pattern count are lent.
+    /// The door's writer. Of the counts only n, m and the pattern count are passed.
     #[rustfmt::skip]
     pub fn write_file(t: &Tables, out: &mut [u8]) -> u32 {
         unsafe {
@@ -149,7 +149,7 @@ fn word_at(file: &[u8], at: usize) -> u32 {
     file.get(at..at + 4).map_or(0, |bytes| u32::from_le_bytes(bytes.try_into().unwrap()))
 }
 
-// the gaps of a file whose header is right
+// returns the indices of the gap bytes of a file whose header is right
 fn gaps(file: &[u8], p: &Problem) -> Vec<usize> {
     let (offsets, _) = problem_file::offsets(&counts(p), 8);
     let widths = [4, 4, 8, 8, 4, 4, 8, 8, 4, 8];
@@ -158,7 +158,7 @@ fn gaps(file: &[u8], p: &Problem) -> Vec<usize> {
     ends.zip(&offsets[1..]).flat_map(|(end, &next)| end as usize..next as usize).filter(|&at| at < file.len()).collect()
 }
 
-// changes one place or the length
+// changes one place, or the length
 fn damage(d: &mut Draws, file: &mut Vec<u8>, p: &Problem) {
     let header_word = 4 * d.below(HEADER / 4);
     match d.below(14) {
@@ -181,7 +181,7 @@ fn damage(d: &mut Draws, file: &mut Vec<u8>, p: &Problem) {
             let word = *pick(d, &[0, 1, 2, 7, 255, 257, 65_537, 0x7fff_ffff, 0x8000_0000, u32::MAX]);
             set_word(file, at, word);
         }
-        // cut, and made longer
+        // truncated, and extended
         5 => file.truncate(d.below(file.len() + 1)),
         6 => file.truncate(file.len().saturating_sub(1 + d.below(12))),
         7 => {
@@ -194,21 +194,21 @@ fn damage(d: &mut Draws, file: &mut Vec<u8>, p: &Problem) {
                 set_word(file, HEADER - 4, length);
             }
         }
-        // cut with the length right
+        // truncated, with the new length in the header
         8 => {
             let less = 1 + d.below(16);
             file.truncate(file.len().saturating_sub(less));
             let length = file.len() as u32;
             set_word(file, HEADER - 4, length);
         }
-        // a count made huge; some so that products agree where they wrap
+        // a count made huge, in some cases so that products agree if they wrap
         9..=10 => {
             let at = 4 * d.below(8);
             let wraps = *pick(d, &[0x2000_0000, 0x4000_0000, 0x8000_0000, 0x1555_5556, 0xffff_fffc]);
             let count = if d.chance(30) { d.next() as u32 } else { word_at(file, at).wrapping_add(wraps) };
             set_word(file, at, count);
         }
-        // a gap
+        // a nonzero byte in a gap
         11..=12 => {
             let gaps = gaps(file, p);
             if !gaps.is_empty() {
@@ -230,7 +230,7 @@ fn pick<'a, T>(d: &mut Draws, xs: &'a [T]) -> &'a T {
     &xs[d.below(xs.len())]
 }
 
-/// A file: mostly of a problem that passes the checks or nearly does, with its tables at multiples of 8 or not, and
+/// Returns a file: mostly of a problem that passes the checks or nearly does, mostly with its tables at multiples of 8, and
 /// mostly damaged.
 pub fn file(d: &mut Draws, p: &Problem) -> Vec<u8> {
     let step = if d.chance(4) { *pick(d, &[4, 16]) } else { 8 };
@@ -274,7 +274,7 @@ pub fn outputs(rooms: [usize; 12]) -> Tables {
     }
 }
 
-// the outputs without what stands after these lengths
+// returns the outputs cut to these lengths
 fn fronts(mut o: Tables, lengths: &[usize; 12]) -> Tables {
     o.counts.truncate(lengths[0]);
     o.p_starts.truncate(lengths[1]);
@@ -291,7 +291,7 @@ fn fronts(mut o: Tables, lengths: &[usize; 12]) -> Tables {
     o
 }
 
-// the first output that is not what was read, followed by what it held
+// returns the first output that is not the expected one followed by its unchanged rest
 fn read_wrong(o: &Tables, read: &Tables) -> Option<&'static str> {
     let is = |o: &[u32], front: &[u32]| *o == words_after(front, o.len());
     let is_bits = |o: &[u64], front: &[u64]| o.starts_with(front) && o[front.len()..].iter().all(|&v| v == VALUE);
@@ -312,14 +312,14 @@ fn read_wrong(o: &Tables, read: &Tables) -> Option<&'static str> {
     tests.iter().find(|t| !t.1).map(|t| t.0)
 }
 
-/// What the reader needs: room for the counts and for each table.
+/// Returns the output lengths that the reader needs: for the counts and for each table.
 pub fn needed(counts: &[u32; 8]) -> [usize; 12] {
     let mut needed = [8; 12];
     needed[1..].copy_from_slice(&lengths(counts).map(|l| l as usize));
     needed
 }
 
-/// The reader on one file: its words, then its tables, and the tables written again.
+/// Compares the reader on one file: its words, then its tables, and the tables written again.
 pub fn compare_read(report: &mut Report, d: &mut Draws, file: &[u8]) {
     let short = d.chance(3);
     let space = room(d, file.len() / 4, short);
@@ -330,7 +330,7 @@ pub fn compare_read(report: &mut Report, d: &mut Draws, file: &[u8]) {
     let wrong = (out != words_after(&expected.unwrap_or_default(), space)).then_some("words");
     judge(report, "words of a file", refusal, number, wrong, file.len(), || format!("  {} room {space}", hex(file)));
 
-    // the words of another length, now and then
+    // now and then the words with another length
     let mut lent = problem_file::file_words(file, None).unwrap();
     let mut length = file.len();
     if d.chance(3) {
@@ -368,7 +368,7 @@ pub fn compare_read(report: &mut Report, d: &mut Draws, file: &[u8]) {
     }
 }
 
-/// The writer on one problem.
+/// Compares the writer on one problem.
 pub fn compare_write(report: &mut Report, d: &mut Draws, p: &Problem) {
     let needed = problem_file::write(p, None).map_or(200, |file| file.len());
     let short = d.chance(10);
@@ -387,7 +387,7 @@ pub fn compare_write(report: &mut Report, d: &mut Draws, p: &Problem) {
 
 // ---- the program
 
-/// What the program at this path writes where it reads these bytes.
+/// Returns what the program at this path writes when it reads these bytes.
 pub fn run_program(program: &Path, file: &[u8]) -> std::io::Result<Vec<u8>> {
     let mut child = Command::new(program).stdin(Stdio::piped()).stdout(Stdio::piped()).spawn()?;
     // the program may stop reading early
@@ -401,7 +401,7 @@ pub fn run_program(program: &Path, file: &[u8]) -> std::io::Result<Vec<u8>> {
     Ok(out)
 }
 
-/// The program on one file.
+/// Compares the program on one file.
 pub fn compare_program(report: &mut Report, program: &Path, file: &[u8]) {
     let (expected, number) = problem_file::program(file);
     match run_program(program, file) {
@@ -435,7 +435,7 @@ fn three_projectors() -> Problem {
     }
 }
 
-/// Writes three projectors and a generated load as files, and beside each what the program makes of it.
+/// Writes three projectors and a generated load as files, and for each the program's expected output.
 pub fn write_samples(folder: &Path) -> std::io::Result<()> {
     let load = Load { seed: 2026, v: 12, w: 3, n: 4 }.problem(None).expect("arguments in range");
     for (name, p) in [("three_projectors", three_projectors()), ("load", load)] {
@@ -450,12 +450,12 @@ pub fn write_samples(folder: &Path) -> std::io::Result<()> {
 
 // ---- stored answers
 
-// a case of crate file_answers: the file, and its length and the reader's number as the last two words
+// a case of crate file_answers: the file, with its length and the reader's number as the last two words
 const CASE: usize = 1_024;
 const LONGEST: usize = CASE - 8;
 
-/// Writes so many files, each with what the reader answers, for crate file_answers: a third accepted, the others refused under each number
-/// in turn.
+/// Writes `cases` files, each with the number that the reader returns, for crate file_answers: at most a third accepted, and at most
+/// a twelfth refused under each number.
 pub fn write_answers(path: &Path, cases: u64, seed: u64) -> std::io::Result<()> {
     let most = |number| if number == 0 { cases.div_ceil(3) } else { cases.div_ceil(12) };
     let mut kept = std::collections::BTreeMap::new();
@@ -484,7 +484,7 @@ pub fn write_answers(path: &Path, cases: u64, seed: u64) -> std::io::Result<()> 
 
 // ---- many files
 
-// a problem for a file: of any size for the reader, mostly one whose file is short for the program
+// a problem for a file: of any size for the reader, mostly with a file short enough for the program
 fn problem(d: &mut Draws, index: u64) -> Problem {
     let scale = match index % 20 {
         0..=7 => random::TINY,
@@ -501,14 +501,14 @@ fn problem(d: &mut Draws, index: u64) -> Problem {
         let check = 1 + d.below(9);
         random::damage(d, &mut p, check);
     }
-    // few words and many rows, for an output that is too long
+    // few words and many rows, so that the program's output is too long
     if d.chance(1) {
         p = dense(30 + d.below(8) as u32, 10 + d.below(10));
     }
     p
 }
 
-// a band wide enough that the compact file is many times the file
+// a band so wide that the compact file is many times as long as the file
 fn dense(vertices: u32, band: usize) -> Problem {
     let rows = vertices * (vertices + 1) / 2;
     Problem {
@@ -523,7 +523,7 @@ fn dense(vertices: u32, band: usize) -> Problem {
     }
 }
 
-/// So many files through the reader, and their problems through the writer; or, where a program is named, through it.
+/// Runs `cases` files through the reader, and their problems through the writer; or, if a program is given, through the program.
 pub fn compare(report: &mut Report, cases: u64, seed: u64, program: Option<&Path>) {
     for index in 0..cases {
         let mut d = crate::case_draws(seed, index);
@@ -554,7 +554,7 @@ pub fn compare(report: &mut Report, cases: u64, seed: u64, program: Option<&Path
 mod tests {
     use super::*;
 
-    // docs/FILE.md has a file byte by byte: lines of the first and last byte, and the bytes
+    // docs/FILE.md has a file byte by byte: in each line the first and last byte's number, and the bytes
     #[test]
     fn the_page_has_three_projectors() {
         let mut told = vec![];

@@ -1,4 +1,4 @@
-//! Document 02's generator read plainly: a problem from a seed, a vertex count, a band and a column count.
+//! A plain reading of document 02's generator: a problem from a seed, a vertex count, a band and a column count.
 
 use crate::pool::lengths;
 use crate::problem::*;
@@ -29,7 +29,7 @@ impl Draws {
     }
 }
 
-/// A clique by its snode, its separator and its parent.
+/// A clique: its snode, its separator and its parent.
 struct Clique {
     parent: u32,
     snode: Vec<u32>,
@@ -44,7 +44,7 @@ fn cliques(v: u32, w: u32) -> Vec<Clique> {
         .collect()
 }
 
-/// The rows that a clique covers: those of the pairs of its original vertices.
+/// Returns the rows that the cliques cover: those of the pairs of their original vertices.
 fn covered(cliques: &[Clique], ordering: &[u32]) -> BTreeSet<u32> {
     let mut rows = BTreeSet::new();
     for clique in cliques {
@@ -64,7 +64,7 @@ impl Load {
         self.seed != 0 && (2..=64).contains(&self.v) && (1..self.v).contains(&self.w) && (1..=64).contains(&self.n)
     }
 
-    // the problem of arguments in their ranges
+    // returns the problem, for arguments in their ranges
     fn made(&self) -> Problem {
         let Load { seed, v, w, n } = *self;
         let mut draws = Draws(seed);
@@ -110,7 +110,7 @@ impl Load {
         }
     }
 
-    /// The problem, with `rooms` for its eleven tables, or the number that refuses it.
+    /// Returns the problem, for outputs with the lengths `rooms`, or the refusal number.
     pub fn problem(&self, rooms: Option<&[usize; 11]>) -> Result<Problem, u32> {
         if !self.in_ranges() {
             return Err(15);
@@ -122,7 +122,7 @@ impl Load {
         Ok(made)
     }
 
-    /// The lengths of the problem's tables, with room for `room` numbers, or the number that refuses it.
+    /// Returns the lengths of the problem's tables, for an output with the length `room`, or the refusal number.
     pub fn sizes(&self, room: usize) -> Result<[usize; 11], u32> {
         let made = self.problem(None)?;
         if room < 11 {

@@ -1,5 +1,5 @@
-//! Test loads (document 02, Q-5): the door's generator beside the plain reading, and both cuts and joinings of what it
-//! gives beside clarabel's; and what crate test_load prints, from the plain reading.
+//! Test loads (document 02, Q-5): compares the door's generator with the plain reading, and both cuts and joinings of its
+//! problems with clarabel's; and prints what crate test_load prints, from the plain reading.
 #![cfg_attr(not(door), allow(dead_code))]
 
 use crate::added::as_tables;
@@ -62,7 +62,7 @@ pub fn generate_sizes(l: Load, out: &mut [u32]) -> u32 {
     }
 }
 
-/// The pattern words stand in the map's place.
+/// The door's generator. The pattern words are in the map's place.
 pub fn generate(l: Load, o: &mut CutOutputs) -> u32 {
     #[cfg(not(door))]
     {
@@ -104,7 +104,7 @@ pub fn generate(l: Load, o: &mut CutOutputs) -> u32 {
 
 // ---- comparison
 
-/// The door's sizes and problem beside the plain reading's.
+/// Compares the door's sizes and problem with the plain reading's.
 pub fn compare_load(report: &mut Report, d: &mut Draws, load: Load) {
     let short = d.chance(10);
     let space = room(d, 11, short);
@@ -132,7 +132,7 @@ pub fn compare_load(report: &mut Report, d: &mut Draws, load: Load) {
     judge(report, "generated problem", refusal, number, wrong, weight, || format!("  {load:?} rooms {rooms:?}"));
 }
 
-// cut and joined on both routes, by clarabel and by the door; none may be refused
+// cuts and joins a problem on both routes, by clarabel and by the door; no call may refuse it
 fn compare_routes(report: &mut Report, d: &mut Draws, load: Load) {
     let Ok(p) = load.problem(None) else { return };
     for route in [Route::Standard, Route::Compact] {
@@ -157,7 +157,7 @@ fn compare_routes(report: &mut Report, d: &mut Draws, load: Load) {
     }
 }
 
-// numbers in their ranges, at their ends and beyond
+// numbers within their ranges, at the ends and beyond
 fn some_load(d: &mut Draws) -> Load {
     let most = if d.chance(10) { 64 } else { 16 };
     let v = 2 + d.below(most - 1) as u32;
@@ -180,14 +180,14 @@ fn some_load(d: &mut Draws) -> Load {
     load
 }
 
-/// Every vertex count with every band through both routes, then `cases` loads at random, which are cut where they are
-/// small, and now and then where they are not.
+/// Runs every vertex count with every band through both routes, then `cases` random loads, which are cut if they are
+/// small, and now and then if they are not.
 pub fn compare(report: &mut Report, cases: u64, seed: u64) {
     let mut d = case_draws(seed, 0);
     let mut pairs = 0;
     for v in 2..=64 {
         for w in 1..v {
-            // of a problem without entries and overlaps clarabel knows no cut
+            // clarabel panics on a problem without entries and overlaps
             let load = std::iter::repeat_with(|| Load { seed: d.next().max(1), v, w, n: 1 })
                 .find(|load| load.problem(None).is_ok_and(|p| !p.a.rows.is_empty()))
                 .unwrap();
@@ -235,7 +235,7 @@ const TEST_LOADS: [(u64, u32, u32, u32); 19] = [
     (1, 8, 2, 65),
 ];
 
-// one of u32 and of f64 after the other; each number is joined by exclusive or, and the three steps of a draw follow
+// tables of u32 and of f64, one after the other; each number is combined by exclusive or, and the three steps of a draw follow
 fn checksum(t: &Cut) -> u64 {
     let words = |list: &[u32]| list.iter().map(|&x| x as u64).collect::<Vec<u64>>();
     let bits = |list: &[f64]| list.iter().map(|x| x.to_bits()).collect::<Vec<u64>>();
@@ -278,7 +278,7 @@ fn tables_text(t: &Cut) -> String {
     format!(": lengths{shown}, checksum {:016x}", checksum(t))
 }
 
-/// What crate test_load prints.
+/// Returns what crate test_load prints.
 pub fn test_load_text() -> String {
     let mut out = String::new();
     for (seed, v, w, n) in TEST_LOADS {

@@ -1,10 +1,11 @@
-//! Compares the plain reading of documents 01 and 02 (`expected`), clarabel's own files (crate `reference`) and, where
-//! libdoor.a is there, the door.
+//! Compares the plain reading of documents 01 and 02 (`expected`), clarabel's own files (crate `reference`) and, if
+//! libdoor.a is linked, the door.
 
 mod added;
 mod against;
 mod both_routes;
 mod change_route;
+mod copying;
 mod differences;
 mod door;
 mod exact;
@@ -18,6 +19,7 @@ mod pool;
 mod problem;
 mod problem_file;
 mod random;
+mod refused;
 mod report;
 mod rounding;
 mod sides;
@@ -29,6 +31,7 @@ use problem::*;
 use random::{Draws, Scale};
 use report::Report;
 use std::io::Write;
+use std::sync::atomic::Ordering;
 use std::time::Instant;
 
 const HELP: &str = "compare/run [--cases N] [--seed S] [--routes standard|compact|both]
@@ -46,13 +49,14 @@ compare/run --program FILE [--cases N]   the same through the program cut_file (
 compare/run --vectors FILE         stored cases (JSON, one a line), told by the file's name: cases.jsonl, q-N.jsonl
 compare/run --differences          clarabel on the inputs of docs/DIFFERENCES.md
 compare/run --malformed            time a word of refused calls, at 10,000, 100,000 and 1,000,000 words
-compare/run --speed                times, with ratios where the door is linked
+compare/run --refused [--rounds N] times of refused calls, each damaged at the last place, beside accepted ones
+compare/run --speed [--rounds N]   times, with ratios where the door is linked, beside copying; N rounds at most (101)
 compare/run --store FOLDER --cases N --seed S    writes stored answers of each family, for crate replay
 compare/run --file-answers FILE --cases N --seed S   writes files with the reader's answers, for crate file_answers
 compare/run --samples FOLDER       writes the sample files of crate cut_samples, with what the program makes of them
 The door is the libdoor.a in the folder that CHORDAL_DOOR_LIB names, or else the one that rt makes.";
 
-/// The draws of one case, which can so be made again alone.
+/// Returns the draws of one case, so that a case can be repeated alone.
 pub fn case_draws(seed: u64, index: u64) -> Draws {
     Draws::new(seed.wrapping_mul(0x2545_f491_4f6c_dd1d).wrapping_add(index))
 }
@@ -73,7 +77,7 @@ fn case_problem(d: &mut Draws, scale: Scale) -> Problem {
     }
     if d.chance(33) {
         for _ in 0..1 + d.below(3).saturating_sub(d.below(2)) {
-            // check 10 needs large problems, so it is seldom
+            // check 10 needs large problems, so it is rarely aimed at
             let check = if d.below(2000) == 0 { 10 } else { 1 + d.below(9) };
             random::damage(d, &mut p, check);
         }
@@ -107,7 +111,7 @@ fn case(report: &mut Report, o: &Options, index: u64, scale: Scale) {
         let (count, b) = random::sides(&mut d, &p);
         added::compare_many(report, &mut d, count, &sides::with_b(&p, &b));
     }
-    // one pattern alone, and a permutation, each damaged now and then
+    // a single pattern, and a permutation, each damaged now and then
     let vertices = 1 + d.below(scale.psd);
     let orig_index = d.next() as u32;
     let made = random::pattern(&mut d, orig_index, vertices);
@@ -132,7 +136,7 @@ fn case(report: &mut Report, o: &Options, index: u64, scale: Scale) {
         let second = random::second_pass(&mut d, &p, scale);
         added::compare_pool(report, &mut d, &p, &second);
     }
-    // two problems, mostly the same but for one table
+    // two problems, mostly the same except for one table
     let (mut first, mut second) = (p.clone(), p);
     match d.below(8) {
         0..=1 => {
@@ -258,7 +262,7 @@ fn exhaustive_cases(report: &mut Report, o: &Options) {
     }
 }
 
-// the comparison runs on a thread of Rust's usual 2 MB, which a call of the door has to fit
+// the comparison runs on a thread with Rust's default 2 MB of stack, which a call of the door must not exceed
 fn main() {
     let on_thread = std::thread::Builder::new().stack_size(2 << 20).spawn(compare).expect("a thread");
     std::process::exit(on_thread.join().unwrap_or(101));
@@ -294,7 +298,9 @@ fn compare() -> i32 {
             "--malformed" => mode = "malformed",
             "--files" => mode = "files",
             "--program" => (mode, file) = ("program", Some(value())),
+            "--refused" => mode = "refused",
             "--speed" => mode = "speed",
+            "--rounds" => speed::MOST_ROUNDS.store(value().parse().expect("a number of rounds"), Ordering::Relaxed),
             "--vectors" => (mode, file) = ("vectors", Some(value())),
             "--samples" => (mode, file) = ("samples", Some(value())),
             "--file-answers" => (mode, file) = ("file answers", Some(value())),
@@ -313,6 +319,7 @@ fn compare() -> i32 {
             return 0;
         }
         "malformed" => return malformed::print() as i32,
+        "refused" => return refused::print() as i32,
         "speed" => {
             speed::print();
             return 0;

@@ -8,8 +8,8 @@ use crate::speed::now;
 
 const LENGTHS: [usize; 3] = [10_000, 100_000, 1_000_000];
 
-/// How much longer a word may take in the longest table than in the shortest. Tables of a million words leave the caches, and
-/// the inverse sorts nothing but walks them in windows.
+/// How many times longer a word may take in the longest table than in the shortest. Tables of a million words do not fit the
+/// caches, and the inverse walks them in windows.
 const GROWTH: f64 = 8.0;
 
 const VERTICES: u32 = 100;
@@ -21,7 +21,7 @@ fn head(vertices: u32, cliques: u32) -> Vec<u32> {
     words
 }
 
-// two cliques, the first with this snode and separator, the second with all vertices but 0
+// two cliques, the first with this snode and separator, the second with all vertices except 0
 fn two_cliques(snode: &[u32], separator: &[u32]) -> Vec<u32> {
     let mut words = head(VERTICES, 2);
     words.extend([1, snode.len() as u32, separator.len() as u32]);
@@ -36,7 +36,7 @@ fn two_cliques(snode: &[u32], separator: &[u32]) -> Vec<u32> {
 fn patterns(length: usize) -> Vec<(&'static str, Vec<u32>)> {
     let count = length as u32;
     let numbers = |f: &dyn Fn(u32) -> u32| (0..count).map(f).collect::<Vec<u32>>();
-    // cliques with the next or the last as parent, and last one with neither parent nor separator
+    // cliques with the next or the last as parent, and a last one with neither parent nor separator
     let (thirds, quarters) = (count / 3, count / 4);
     let mut many_cliques = head(VERTICES, thirds);
     let mut one_vertex_each = head(VERTICES, quarters);
@@ -78,7 +78,7 @@ fn patterns(length: usize) -> Vec<(&'static str, Vec<u32>)> {
     ]
 }
 
-// a problem with one PSD cone, one column without entries and this pattern
+// returns a problem with one PSD cone, one column without entries and this pattern
 fn problem(pattern_words: Vec<u32>) -> Problem {
     let m = VERTICES * (VERTICES + 1) / 2;
     Problem {
@@ -95,7 +95,7 @@ fn problem(pattern_words: Vec<u32>) -> Problem {
     }
 }
 
-// a call's number and its microseconds, the least of three
+// returns a call's number and its microseconds, the least of three
 fn timed(mut call: impl FnMut() -> u32) -> (u32, f64) {
     let mut least = f64::INFINITY;
     let mut number = 0;
@@ -107,8 +107,8 @@ fn timed(mut call: impl FnMut() -> u32) -> (u32, f64) {
     (number, least)
 }
 
-/// Prints nanoseconds a word for each malformed table and call. Returns whether one was accepted, or took longer a word the
-/// longer it was.
+/// Prints the nanoseconds for each word, for each malformed table and call. Returns whether a table was accepted, or its time for
+/// each word grew too much with its length.
 pub fn print() -> bool {
     if !door::LINKED {
         eprintln!("the door is not linked");

@@ -1,9 +1,9 @@
-//! Document 02's pooling of two camera passes read plainly.
+//! A plain reading of document 02's pooling of two camera passes.
 
 use crate::expected::{self, read_patterns};
 use crate::problem::*;
 
-// A over A, b over b, cones, exponents and patterns in turn; P and q are the first's
+// returns A over A, b over b, cones, exponents and patterns one after the other; P and q are the first's
 fn stacked(first: &Problem, second: &Problem) -> Problem {
     let mut a = Columns { starts: vec![0], ..Columns::default() };
     for column in 0..first.n as usize {
@@ -33,7 +33,7 @@ fn stacked(first: &Problem, second: &Problem) -> Problem {
     }
 }
 
-/// The lengths of a problem's eleven tables.
+/// Returns the lengths of a problem's eleven tables.
 pub fn lengths(p: &Problem) -> [usize; 11] {
     [
         p.p.starts.len(),
@@ -50,7 +50,7 @@ pub fn lengths(p: &Problem) -> [usize; 11] {
     ]
 }
 
-/// The pooled problem: checks 1 to 7 of the first, of the second, equal n, and checks 1 to 7 of the pool.
+/// Returns the pooled problem. Makes checks 1 to 7 of the first, of the second, compares n, and makes checks 1 to 7 of the pool.
 pub fn pool(first: &Problem, second: &Problem, rooms: Option<&[usize; 11]>) -> Result<Problem, u32> {
     expected::first_seven(first)?;
     expected::first_seven(second)?;

@@ -1,8 +1,8 @@
-//! A problem and a solution as document 01's flat tables, and how answers are compared.
+//! A problem and a solution as document 01's flat tables, and how results are compared.
 
 pub const NONE: u32 = u32::MAX;
 
-/// The words of a cone map's entry: `orig_index`, pattern number or NONE, clique number or 0, first augmented row, row
+/// The number of words of a cone map entry: `orig_index`, pattern number or NONE, clique number or 0, first augmented row, row
 /// count.
 pub const MAP_WORDS: usize = 5;
 
@@ -49,7 +49,7 @@ pub struct Problem {
 }
 
 impl Problem {
-    /// How large the problem is, for finding the smallest that fails.
+    /// Returns how large the problem is, for finding the smallest one that fails.
     pub fn weight(&self) -> usize {
         self.p.starts.len()
             + 2 * self.p.rows.len()
@@ -64,8 +64,8 @@ impl Problem {
     }
 }
 
-/// What the cut writes. `map` is words, MAP_WORDS an entry; empty on the standard route. `sums` are the places in A of
-/// sums of several entries, in which any NaN is as good as another.
+/// What the cut writes. `map` has MAP_WORDS words for each entry; it is empty on the standard route. `sums` are the indices in A
+/// of sums of several entries, in which all NaNs are equal.
 #[derive(Clone, Debug, Default)]
 pub struct Cut {
     pub p: Columns,
@@ -98,7 +98,7 @@ pub struct Joined {
     pub kappa: f64,
 }
 
-/// Equal bits, or both NaN.
+/// Returns whether two values have equal bits, or are both NaN.
 pub fn same(a: f64, b: f64) -> bool {
     a.to_bits() == b.to_bits() || (a.is_nan() && b.is_nan())
 }
@@ -107,12 +107,12 @@ pub fn all_same(a: &[f64], b: &[f64]) -> bool {
     a.len() == b.len() && a.iter().zip(b).all(|(x, y)| same(*x, *y))
 }
 
-/// Equal bits, NaNs included.
+/// Returns whether all values have equal bits, NaNs included.
 pub fn all_bits(a: &[f64], b: &[f64]) -> bool {
     a.len() == b.len() && a.iter().zip(b).all(|(x, y)| x.to_bits() == y.to_bits())
 }
 
-/// Equal bits, NaNs included, save that at the places of `sums` any NaN equals any NaN.
+/// Returns whether all values have equal bits, NaNs included, except that at the indices `sums` any NaN equals any NaN.
 pub fn all_bits_but(a: &[f64], b: &[f64], sums: &[usize]) -> bool {
     let mut b = b.to_vec();
     for &k in sums {

@@ -1,30 +1,30 @@
-//! Document 02's problem file read plainly: the reader, the writer, and the program that cuts a file.
+//! A plain reading of document 02's problem file: the reader, the writer, and the program that cuts a file.
 
 use crate::expected;
 use crate::problem::*;
 
-/// The bytes of the header: eight counts, eleven offsets and the file's length.
+/// The length of the header: eight counts, eleven offsets and the file's length.
 pub const HEADER: usize = 80;
 
 const LONGEST_INPUT: usize = 8_192;
 const LONGEST_OUTPUT: usize = 65_536;
 
-/// The NaN that the program writes in A and b, where document 02 leaves free which one it is.
+/// The NaN that the program writes in A and b; document 02 leaves open which one it is.
 const NAN: u64 = 0x7ff8_0000_0000_0000;
 
-// the width of a number in each table, and how many the counts n, m, entries of P and of A, cones, α values, patterns
-// and pattern words give it
+// returns for each table the width of its numbers and how many it has, from the counts n, m, entries of P and of A, cones,
+// α values, patterns and pattern words
 fn shape(counts: &[u32; 8]) -> [(u64, u64); 11] {
     let [n, m, p, a, cones, alphas, _, words] = counts.map(u64::from);
     [(4, n + 1), (4, p), (8, p), (8, n), (4, n + 1), (4, a), (8, a), (8, m), (4, 3 * cones), (8, alphas), (4, words)]
 }
 
-/// How many numbers each table has by the counts.
+/// Returns how many numbers each table has, from the counts.
 pub fn lengths(counts: &[u32; 8]) -> [u64; 11] {
     shape(counts).map(|(_, count)| count)
 }
 
-/// Where each table begins, at a multiple of `step`, and where the last one ends.
+/// Returns where each table begins, at a multiple of `step`, and where the last one ends.
 pub fn offsets(counts: &[u32; 8], step: u64) -> ([u64; 11], u64) {
     let mut end = HEADER as u64;
     let offsets = shape(counts).map(|(width, count)| {
@@ -35,7 +35,7 @@ pub fn offsets(counts: &[u32; 8], step: u64) -> ([u64; 11], u64) {
     (offsets, end)
 }
 
-/// The counts of a problem's tables.
+/// Returns the counts of a problem's tables.
 pub fn counts(p: &Problem) -> [u32; 8] {
     [
         p.n,
@@ -59,7 +59,7 @@ fn values_bytes(values: &[f64]) -> Vec<u8> {
     values.iter().flat_map(|v| v.to_bits().to_le_bytes()).collect()
 }
 
-/// A problem's tables laid out, each beginning at a multiple of `step`; nothing is checked.
+/// Returns a problem's tables as a file, each beginning at a multiple of `step`; nothing is checked.
 pub fn laid_out(p: &Problem, step: u64) -> Vec<u8> {
     let counts = counts(p);
     let (offsets, end) = offsets(&counts, step);
@@ -86,7 +86,7 @@ pub fn laid_out(p: &Problem, step: u64) -> Vec<u8> {
     file
 }
 
-/// The problem's file, for an output with this room.
+/// Returns the problem's file, for an output with this length.
 pub fn write(p: &Problem, room: Option<usize>) -> Result<Vec<u8>, u32> {
     expected::first_seven(p)?;
     let file = laid_out(p, 8);
@@ -112,7 +112,7 @@ fn values(bytes: &[u8], offset: u64, count: u64) -> Vec<f64> {
     (0..count).map(|k| offset + 8 * k).map(|at| f64::from_bits(half(at) | half(at + 4) << 32)).collect()
 }
 
-// 13, then 14; where neither is given the tables lie within the bytes
+// makes checks 13 and 14; if both pass, the tables lie within the bytes
 fn well_formed(bytes: &[u8]) -> Result<[u32; 8], u32> {
     if bytes.len() < HEADER || word(bytes, 76) as usize != bytes.len() {
         return Err(13);
@@ -133,7 +133,7 @@ fn well_formed(bytes: &[u8]) -> Result<[u32; 8], u32> {
     Ok(counts)
 }
 
-/// The counts and the problem of a file.
+/// Returns the counts and the problem of a file.
 pub fn read(bytes: &[u8]) -> Result<([u32; 8], Problem), u32> {
     let counts = well_formed(bytes)?;
     let (at, _) = offsets(&counts, 8);
@@ -162,7 +162,7 @@ pub fn read(bytes: &[u8]) -> Result<([u32; 8], Problem), u32> {
     Ok((counts, p))
 }
 
-/// The whole words of a file, for an output with this room.
+/// Returns the complete words of a file, for an output with this length.
 pub fn file_words(bytes: &[u8], room: Option<usize>) -> Result<Vec<u32>, u32> {
     if room.is_some_and(|room| room < bytes.len() / 4) {
         return Err(11);
@@ -170,8 +170,8 @@ pub fn file_words(bytes: &[u8], room: Option<usize>) -> Result<Vec<u32>, u32> {
     Ok(bytes.chunks_exact(4).map(|b| u32::from_le_bytes(b.try_into().unwrap())).collect())
 }
 
-/// The same of the whole words of a file of `length` bytes, for outputs with these rooms: the counts' and the tables'.
-/// What stands after the last whole word is not lent, and no file that has it is accepted.
+/// The same from the complete words of a file of `length` bytes, for outputs with these lengths: the counts' and the tables'.
+/// Bytes after the last complete word are not passed, and no file that has such bytes is accepted.
 pub fn read_words(words: &[u32], length: usize, rooms: Option<&[usize; 12]>) -> Result<([u32; 8], Problem), u32> {
     if words.len() != length / 4 {
         return Err(13);
@@ -188,7 +188,7 @@ pub fn read_words(words: &[u32], length: usize, rooms: Option<&[usize; 12]>) -> 
 
 // ---- the program
 
-/// The problem with one NaN for all in A and b.
+/// Returns the problem with the same NaN for all NaNs in A and b.
 pub fn with_one_nan(mut p: Problem) -> Problem {
     p.a.values.iter_mut().chain(&mut p.b).filter(|v| v.is_nan()).for_each(|v| *v = f64::from_bits(NAN));
     p
@@ -219,7 +219,7 @@ fn compact(bytes: &[u8]) -> Result<Vec<u8>, u32> {
     Ok(file)
 }
 
-/// What the program writes where it reads these bytes, and the number where it refuses.
+/// Returns what the program writes when it reads these bytes, and its refusal number or 0.
 pub fn program(bytes: &[u8]) -> (Vec<u8>, u32) {
     match compact(bytes) {
         Ok(file) => (file, 0),
@@ -231,7 +231,7 @@ pub fn program(bytes: &[u8]) -> (Vec<u8>, u32) {
 mod tests {
     use super::*;
 
-    // document 01's seam with a Power cone, so that each table has a number
+    // document 01's seam with a Power cone, so that no table is empty
     fn seam() -> Problem {
         Problem {
             n: 1,
@@ -280,12 +280,12 @@ mod tests {
         assert_eq!(number(&[&file[..], &[0]].concat()), 13);
         // the gap after P's row
         assert_eq!(number(&with(92, 1)), 14);
-        // each header word in turn; the pattern count is checked by the patterns
+        // each header word in turn, except the pattern count, which the patterns check
         for at in (0..80).step_by(4).filter(|&at| at != 24) {
             assert_eq!(number(&with(at, u32::MAX)), if at == 76 { 13 } else { 14 }, "{at}");
         }
         assert_eq!(number(&with(24, 2)), 5);
-        // counts that agree with the bytes only where products wrap
+        // counts that agree with the bytes only if products wrap
         assert_eq!(number(&with(20, 0x2000_0001)), 14);
         assert_eq!(number(&with(80, 1)), 2);
         assert_eq!(read_words(&words(&file, 0, 78), 313, None).err(), Some(13));
@@ -313,7 +313,7 @@ mod tests {
         let mut uncovered = seam();
         uncovered.b[6] = 1.0;
         assert_eq!(program(&laid_out(&uncovered, 8)), (b"refused 9\n".to_vec(), 9));
-        // 18 cliques that share all but one vertex with the next
+        // 18 cliques, each of which shares all but one vertex with the next
         let dense = Problem {
             m: 666,
             p: Columns { starts: vec![0], ..Columns::default() },

@@ -3,12 +3,12 @@
 use crate::expected::{read_patterns, triangle, Clique, Pattern};
 use crate::problem::*;
 
-/// Exclusive or with itself shifted left 13, right 7, left 17.
+/// Draws by exclusive or with itself shifted left 13, right 7, left 17.
 pub struct Draws(u64);
 
 impl Draws {
     pub fn new(seed: u64) -> Draws {
-        // spread close seeds apart, and never 0
+        // spread similar seeds apart, and avoid 0
         let mut z = seed.wrapping_add(0x9e37_79b9_7f4a_7c15);
         z = (z ^ (z >> 30)).wrapping_mul(0xbf58_476d_1ce4_e5b9);
         z = (z ^ (z >> 27)).wrapping_mul(0x94d0_49bb_1331_11eb);
@@ -20,11 +20,11 @@ impl Draws {
         self.0 ^= self.0 << 17;
         self.0
     }
-    /// A number below `bound`, which is above 0.
+    /// Returns a number below `bound`, which is above 0.
     pub fn below(&mut self, bound: usize) -> usize {
         ((self.next() >> 11) % bound as u64) as usize
     }
-    /// True `percent` times in a hundred.
+    /// Returns true `percent` times in a hundred.
     pub fn chance(&mut self, percent: usize) -> bool {
         self.below(100) < percent
     }
@@ -42,7 +42,7 @@ impl Draws {
         xs[self.below(xs.len())]
     }
 
-    /// Any double: special ones, whole ones, and ones whose sums round.
+    /// Returns any double: special ones, whole ones, and ones whose sums round.
     pub fn float(&mut self) -> f64 {
         match self.below(12) {
             0 => f64::from_bits(self.pick(&[
@@ -71,7 +71,7 @@ impl Draws {
         }
     }
     pub fn floats(&mut self, count: usize) -> Vec<f64> {
-        // every so often only ordinary ones, so that long sums stay finite
+        // half of the time only ordinary ones, so that long sums stay finite
         let plain = self.chance(50);
         (0..count)
             .map(|_| loop {
@@ -97,7 +97,7 @@ pub const TINY: Scale = Scale { columns: 2, cones: 2, psd: 3, size: 2 };
 pub const SMALL: Scale = Scale { columns: 4, cones: 5, psd: 7, size: 4 };
 pub const LARGE: Scale = Scale { columns: 12, cones: 8, psd: 24, size: 9 };
 
-/// A clique tree over `vertices`, at least one: any sizes, any later parents, any part of the parent's clique
+/// Returns a clique tree over `vertices`, at least one: any sizes, any later parents, any subset of the parent's clique
 /// as separator, members in any order, any ordering.
 pub fn pattern(d: &mut Draws, orig_index: u32, vertices: usize) -> Pattern {
     let count = 1 + d.below(vertices);
@@ -143,12 +143,12 @@ fn columns(d: &mut Draws, n: usize, rows: &[u32], percent: usize) -> Columns {
     c
 }
 
-/// A problem that document 01 accepts on the standard route, and mostly on the compact one.
+/// Returns a problem that document 01 accepts on the standard route, and mostly on the compact one.
 pub fn problem(d: &mut Draws, scale: Scale) -> Problem {
     let mut p = Problem::default();
     let mut patterns = vec![];
     let mut m = 0u64;
-    // rows that may hold entries on the compact route
+    // rows that may have entries on the compact route
     let mut open: Vec<u32> = vec![];
     let count = if d.chance(3) { 0 } else { 1 + d.below(scale.cones) };
     for index in 0..count {
@@ -201,7 +201,7 @@ pub fn problem(d: &mut Draws, scale: Scale) -> Problem {
         }
     }
     for r in all {
-        // zeros of either sign are welcome anywhere
+        // zeros of either sign are allowed everywhere
         if p.b[r as usize] == 0.0 && d.chance(30) {
             p.b[r as usize] = -0.0;
         }
@@ -215,7 +215,7 @@ pub fn problem(d: &mut Draws, scale: Scale) -> Problem {
     p
 }
 
-/// Takes the problem's columns away: a dome with nothing left to adjust.
+/// Removes the problem's columns, so that n is 0.
 pub fn no_columns(p: &mut Problem) {
     p.n = 0;
     p.q.clear();
@@ -224,7 +224,7 @@ pub fn no_columns(p: &mut Problem) {
 }
 
 /// Repeats entries of A as an exporter does for markers that several cameras see: some entries are followed by one to
-/// three more of their row, with values of their own.
+/// three more in their row, with values of their own.
 pub fn repeat_entries(d: &mut Draws, p: &mut Problem) {
     let entries = p.a.rows.len().min(p.a.values.len()) as u32;
     if p.a.starts.windows(2).any(|w| w[0] > w[1] || w[1] > entries) {
@@ -237,7 +237,7 @@ pub fn repeat_entries(d: &mut Draws, p: &mut Problem) {
             let more = if d.chance(percent) { 1 + d.below(3).saturating_sub(d.below(2)) } else { 0 };
             a.rows.extend(std::iter::repeat_n(p.a.rows[k], 1 + more));
             a.values.push(p.a.values[k]);
-            // such that the order of the sum is seen, or any
+            // values for which the order of summation matters, or any values
             let order = d.chance(50);
             a.values
                 .extend((0..more).map(|_| if order { d.pick(&[1e16, 1.0, -1e16, -p.a.values[k]]) } else { d.float() }));
@@ -247,7 +247,7 @@ pub fn repeat_entries(d: &mut Draws, p: &mut Problem) {
     p.a = a;
 }
 
-// moves an entry to the row above or below it, or to the column beside its own, or takes the last one away
+// moves an entry to the row above or below it, or to a neighbouring column, or removes the last one
 fn change_places(d: &mut Draws, c: &mut Columns) {
     if c.rows.is_empty() {
         return;
@@ -269,7 +269,7 @@ fn change_places(d: &mut Draws, c: &mut Columns) {
     }
 }
 
-/// Makes `second` the same problem as `first` save for one table, on which it then depends whether they have the same
+/// Makes `second` the same problem as `first` except for one table, which decides whether they have the same
 /// layout: an exponent in both, places or values of A or P, q or b.
 pub fn nearly_same(d: &mut Draws, first: &mut Problem, second: &mut Problem) {
     *second = first.clone();
@@ -289,14 +289,14 @@ pub fn nearly_same(d: &mut Draws, first: &mut Problem, second: &mut Problem) {
     }
 }
 
-/// Low and high limits around the values of b, now and then damaged: as a survey sheet gives them.
+/// Returns low and high limits around the values of b, as a survey sheet gives them, now and then damaged.
 pub fn limits(d: &mut Draws, p: &Problem) -> [Vec<f64>; 2] {
     let spread_zeros = d.pick(&[0, 0, 5, 50]);
     let [mut low, mut high] = [(); 2].map(|()| vec![]);
     for &v in &p.b {
         let v = if v.is_nan() && d.chance(95) { 2.0 } else { v };
         let pair = match d.below(6) {
-            // zeros of either sign are one number
+            // zeros of either sign are the same number
             _ if v == 0.0 && !d.chance(spread_zeros) => (d.pick(&[0.0, -0.0]), d.pick(&[0.0, -0.0])),
             0 => (v, v),
             1 => (f64::NEG_INFINITY, v),
@@ -324,7 +324,7 @@ pub fn limits(d: &mut Draws, p: &Problem) -> [Vec<f64>; 2] {
     [low, high]
 }
 
-/// How many right sides there are, and all of them: b, and others with values where b has some; now and then damaged.
+/// Returns the number of right sides, and all of them: b, and others with values where b has some; now and then damaged.
 pub fn sides(d: &mut Draws, p: &Problem) -> (u32, Vec<f64>) {
     let count = match d.below(20) {
         0 => d.pick(&[0, 64, 65, 66, NONE]),
@@ -345,7 +345,7 @@ pub fn sides(d: &mut Draws, p: &Problem) -> (u32, Vec<f64>) {
     (count, b)
 }
 
-/// A second pass over the dome that `first` is a pass of: another problem, mostly with as many columns; now and then
+/// Returns a second pass over the same dome as `first`: another problem, mostly with as many columns; now and then
 /// damaged.
 pub fn second_pass(d: &mut Draws, first: &Problem, scale: Scale) -> Problem {
     let mut p = problem(d, scale);
@@ -369,7 +369,7 @@ pub fn second_pass(d: &mut Draws, first: &Problem, scale: Scale) -> Problem {
     p
 }
 
-/// Two passes each whose pool is at a bound of check 1, or one above it: whether it is refused.
+/// Returns pairs of passes whose pool is at a bound of check 1, or one above it, and whether the pool is refused.
 pub fn pools_at_limits() -> Vec<(String, [Problem; 2], bool)> {
     let pass = |rows: u32, cones: Vec<u32>, entries: u32| Problem {
         n: 1,
@@ -397,7 +397,7 @@ pub fn pools_at_limits() -> Vec<(String, [Problem; 2], bool)> {
     out
 }
 
-/// A solution of the lengths that the problem gives.
+/// Returns a solution with the lengths that the problem requires.
 pub fn solution(d: &mut Draws, shape: &(usize, usize, Vec<u32>)) -> Solution {
     Solution {
         x: d.floats(shape.0),
@@ -436,7 +436,7 @@ fn change_word(d: &mut Draws, xs: &mut [u32]) {
     }
 }
 
-/// One fault that is meant for a check, though an earlier check may see it first.
+/// Adds one fault aimed at a check, though an earlier check may find it first.
 pub fn damage(d: &mut Draws, p: &mut Problem, check: usize) {
     match check {
         1 => match d.below(7) {
@@ -505,10 +505,10 @@ pub fn damage(d: &mut Draws, p: &mut Problem, check: usize) {
             _ => change_word(d, &mut p.cones),
         },
         5..=7 => damage_patterns(d, p, check),
-        // no check: what was number 8 is taken
+        // no fault: number 8 is never returned
         8 => no_columns(p),
         9 => {
-            // an entry or a value of b in a row of any cone, mostly uncovered where there is such a row
+            // an entry or a value of b in an uncovered row if there is one, otherwise in any row
             if p.m > 0 {
                 let open: Vec<u32> = crate::expected::accepted(Route::Standard, p)
                     .map(|l| l.uncovered().iter().map(|&r| r as u32).collect())
@@ -522,7 +522,7 @@ pub fn damage(d: &mut Draws, p: &mut Problem, check: usize) {
             }
         }
         _ => {
-            // long bands of cliques, about as many rows or overlaps as check 10 lets pass
+            // long bands of cliques, with about as many rows or overlaps as check 10 accepts
             let w = 40 + d.below(100);
             let band = band_pattern(p.cones.len() as u32 / 3, 256, w);
             p.cones.extend([6, 256, 0]);
@@ -534,7 +534,7 @@ pub fn damage(d: &mut Draws, p: &mut Problem, check: usize) {
     }
 }
 
-/// Clique c has snode {c} and separator {c+1 to c+w}; the last has the other w + 1 vertices.
+/// Returns the band pattern: clique c has snode {c} and separator {c+1 to c+w}; the last has the other w + 1 vertices.
 pub fn band_pattern(orig_index: u32, v: u32, w: usize) -> Pattern {
     let w = w as u32;
     let mut cliques: Vec<Clique> = (0..v - w - 1)
@@ -544,7 +544,7 @@ pub fn band_pattern(orig_index: u32, v: u32, w: usize) -> Pattern {
     Pattern { orig_index, vertices: v, ordering: (0..v).collect(), cliques }
 }
 
-// an entry in the first column that lacks one in this row, at its place
+// inserts an entry in this row into the first column that lacks one, in order
 fn insert_entry(p: &mut Problem, row: u32, value: f64) {
     for c in 0..p.a.starts.len() - 1 {
         let (first, last) = (p.a.starts[c] as usize, p.a.starts[c + 1] as usize);
@@ -565,7 +565,7 @@ fn insert_entry(p: &mut Problem, row: u32, value: f64) {
 fn damage_patterns(d: &mut Draws, p: &mut Problem, check: usize) {
     let read = read_patterns(p.pattern_count, &p.pattern_words);
     let Some(mut patterns) = read.filter(|ps| !ps.is_empty()) else {
-        // nothing to damage: words without a pattern, a count without words
+        // nothing to damage: adds words without a pattern, or a count without words
         match d.below(2) {
             0 => p.pattern_words.push(any_word(d, 0)),
             _ => p.pattern_count = p.pattern_count.wrapping_add(d.pick(&[1, NONE])),
@@ -603,7 +603,7 @@ fn damage_pattern(d: &mut Draws, patterns: &mut Vec<Pattern>, k: usize, check: u
             }
             5 => patterns.reverse(),
             _ => {
-                // one vertex more, whole in itself
+                // one vertex more, consistent in itself
                 let v = patterns[k].vertices;
                 patterns[k].vertices = v.wrapping_add(1);
                 patterns[k].ordering.push(v);
@@ -634,7 +634,7 @@ fn damage_pattern(d: &mut Draws, patterns: &mut Vec<Pattern>, k: usize, check: u
             let clique = &mut patterns[k].cliques[c];
             match d.below(8) {
                 0 => {
-                    // a snode emptied into another
+                    // a snode moved into another
                     let moved = std::mem::take(&mut clique.snode);
                     let other = d.below(count);
                     patterns[k].cliques[other].snode.extend(moved);
@@ -656,7 +656,7 @@ fn damage_pattern(d: &mut Draws, patterns: &mut Vec<Pattern>, k: usize, check: u
     }
 }
 
-/// One fault in a solution's lengths or in its cone map.
+/// Adds one fault to a solution's lengths or to its cone map.
 pub fn damage_solution(d: &mut Draws, solution: &mut Solution) {
     match d.below(7) {
         0 => solution.x.push(0.0),
@@ -668,7 +668,7 @@ pub fn damage_solution(d: &mut Draws, solution: &mut Solution) {
             solution.z.pop();
         }
         4 => solution.map.push(0),
-        // places alone
+        // entries without first row and row count
         5 => {
             solution.map =
                 solution.map.chunks(MAP_WORDS).flat_map(|entry| &entry[..entry.len().min(3)]).copied().collect()
@@ -682,12 +682,12 @@ pub fn damage_solution(d: &mut Draws, solution: &mut Solution) {
     }
 }
 
-/// Several problems around each bound of checks 1 and 10, on both sides of it.
+/// Returns problems at each bound of checks 1 and 10, on both sides of it.
 pub fn at_limits() -> Vec<(String, Problem)> {
     let empty = |n: u32| Columns { starts: vec![0; n as usize + 1], ..Columns::default() };
     let with = |n: u32, cones: Vec<u32>, patterns: Vec<Pattern>| {
         let m: u64 = crate::expected::records(&cones).iter().map(|c| c.rows()).sum();
-        // an entry in row 0, a diagonal and so covered: without any clarabel panics on the compact route
+        // an entry in row 0, which is diagonal and so covered: clarabel panics on the compact route if A has none
         let mut a = empty(n);
         if n > 0 && m > 0 {
             a.starts[1..].fill(1);
@@ -746,7 +746,7 @@ pub fn at_limits() -> Vec<(String, Problem)> {
             out.push((format!("entries {entries} of {}", if in_p { "P" } else { "A" }), p));
         }
     }
-    // a column with as many entries as there may be, all in one row of a cone that is cut or not
+    // a column with as many entries as the bound allows, all in one row of a cone that is cut or not
     for entries in [262_144, 262_145] {
         for patterns in [vec![], vec![band_pattern(0, 2, 0)]] {
             let cut = if patterns.is_empty() { "" } else { ", cut" };
@@ -759,7 +759,7 @@ pub fn at_limits() -> Vec<(String, Problem)> {
     }
     // The standard route's rows at their bound: a band, filled up by a nonnegative cone whose rows count twice, and
     // for the odd one PSD 2 as a clique over another, which has 3 rows of m and 4 of blocks. The compact route's
-    // rows cannot pass their bound before its overlaps do: m and the overlaps come to 196,608 at most.
+    // rows cannot exceed their bound before its overlaps do: m and the overlaps come to 196,608 at most.
     for (over, fill, odd) in [(0, 21_636, false), (1, 21_633, true)] {
         let mut cones = vec![6, 256, 0, 1, fill, 0];
         let mut patterns = vec![band_pattern(0, 256, 40)];
@@ -779,7 +779,7 @@ pub fn at_limits() -> Vec<(String, Problem)> {
         let mut cones = vec![];
         let mut patterns = vec![];
         for size in [200u32, 150, 40, 30, 20, 10, 10, 10, 10, 10, 10, 10, 10] {
-            // the separator size whose leaves come closest
+            // the separator size whose leaves come closest to the wanted number
             let s = (1..size as u64 - 1)
                 .filter(|&s| triangle(s) <= want)
                 .max_by_key(|&s| (triangle(s) * (size as u64 - s)).min(want / triangle(s) * triangle(s)));

@@ -1,5 +1,5 @@
-//! Document 02, Q-9, by running: how far the s of a compact joining lies from the exact sums, and what one moved block
-//! value changes. Exact sums are whole counts; the joining is the door's where it is linked, and else the plain reading's.
+//! Tests document 02, Q-9: how far the s of a compact joining is from the exact sums, and what one moved block
+//! value changes. Exact sums are whole counts; the joining is the door's if it is linked, otherwise the plain reading's.
 
 use crate::case_draws;
 use crate::door;
@@ -10,7 +10,7 @@ use crate::random::{self, Draws, Scale};
 use crate::report::*;
 use std::cmp::Ordering;
 
-/// How near to the bound the worst error came, by the number of blocks at the row.
+/// How close the worst error came to the bound, by the number of blocks at the row.
 #[derive(Default)]
 pub struct Nearest(std::collections::BTreeMap<usize, f64>);
 
@@ -58,7 +58,7 @@ struct Sums {
     magnitudes: Exact,
 }
 
-// of the blocks' values that are added at an original row
+// returns the sums over the blocks' values that are added at an original row
 fn sums(rows: &[Row], s: &[f64], original: usize) -> Sums {
     let mut out = Sums { blocks: 0, exact: Exact::zero(), magnitudes: Exact::zero() };
     for (row, &v) in rows.iter().zip(s) {
@@ -71,7 +71,7 @@ fn sums(rows: &[Row], s: &[f64], original: usize) -> Sums {
     out
 }
 
-// k times the sum of the magnitudes; errors are compared with it times 2 to the 53
+// returns k times the sum of the magnitudes; errors times 2 to the 53 are compared with it
 fn bound(sums: &Sums) -> Exact {
     sums.magnitudes.times(sums.blocks as i64)
 }
@@ -116,7 +116,7 @@ fn case(report: &mut Report, nearest: &mut Nearest, d: &mut Draws, scale: Scale)
     if rows.is_empty() {
         return;
     }
-    // one block value is estimated anew
+    // one block value is re-estimated
     let moved = d.below(rows.len());
     if rows[moved].is_kept() {
         return;
@@ -145,7 +145,7 @@ fn case(report: &mut Report, nearest: &mut Nearest, d: &mut Draws, scale: Scale)
     }
 }
 
-/// Tries `cases` random solutions.
+/// Tests `cases` random solutions.
 pub fn compare(report: &mut Report, cases: u64, seed: u64) -> Nearest {
     let mut nearest = Nearest::default();
     for index in 0..cases {

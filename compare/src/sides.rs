@@ -1,19 +1,19 @@
-//! Document 02's compact cuts with several right sides read plainly: low and high limits, and many sides.
+//! A plain reading of document 02's compact cuts with several right sides: low and high limits, and many sides.
 
 use crate::expected;
 use crate::problem::*;
 
-/// The problem with another right side.
+/// Returns the problem with another right side.
 pub fn with_b(p: &Problem, b: &[f64]) -> Problem {
     Problem { b: b.to_vec(), ..p.clone() }
 }
 
-/// Whether each low is not above its high, and neither is a NaN.
+/// Returns whether no low is above its high, and neither is a NaN.
 pub fn in_order(low: &[f64], high: &[f64]) -> bool {
     low.iter().zip(high).all(|(low, high)| low <= high)
 }
 
-// checks 1 to 4 with both lists, 16, and 5 to 10 with both
+// makes checks 1 to 4 with both lists, 16, and 5 to 10 with both
 fn accepted_between(p: &Problem, low: &[f64], high: &[f64]) -> Result<[Problem; 2], u32> {
     let sides = [low, high].map(|b| with_b(p, b));
     let first = |check: &dyn Fn(&Problem) -> Option<u32>| sides.iter().filter_map(check).min();
@@ -29,14 +29,14 @@ fn accepted_between(p: &Problem, low: &[f64], high: &[f64]) -> Result<[Problem; 
     }
 }
 
-/// The lengths of the outputs: those of the cut, b's standing for the low limits' and the high limits' alike.
+/// Returns the lengths of the outputs: those of the cut, where b's length holds for the low and for the high limits.
 pub fn lengths_between(p: &Problem, low: &[f64], high: &[f64]) -> Result<[usize; 11], u32> {
     let [low, _] = accepted_between(p, low, high)?;
     expected::sizes(Route::Compact, &low, 11)
 }
 
-/// The compact cut of a problem whose b lies between two lists: the cut with the low limits', and the high limits'
-/// augmented. `rooms` are those of the cut with the low limits', and of the high limits'.
+/// Returns the compact cut of a problem whose b lies between two lists: the cut with the low limits, and the augmented high
+/// limits. `rooms` are the output lengths for the cut with the low limits, and for the high limits.
 pub fn cut_between(
     p: &Problem,
     low: &[f64],
@@ -52,17 +52,17 @@ pub fn cut_between(
     Ok((cut, high))
 }
 
-/// The most right sides that a cut takes.
+/// The largest number of right sides that a cut accepts.
 const SIDES: u32 = 64;
 
-// The problem with each right side, if checks 1 to 10 let all pass, each wholly before the next. The count is a part of
-// check 1, the length of the list one of check 4 of the first side.
+// Returns the problem with each right side, if all pass checks 1 to 10, each completely before the next. The count is a part
+// of check 1, the length of the list a part of check 4 of the first side.
 fn accepted_many(count: u32, p: &Problem) -> Result<Vec<Problem>, u32> {
     if count == 0 || count > SIDES {
         return Err(1);
     }
     if p.b.len() as u64 != count as u64 * p.m as u64 {
-        // a side that is not m values long either
+        // replaced by a side whose length is not m either
         let no_side: &[f64] = if p.m == 0 { &[0.0] } else { &[] };
         return Err(expected::first_four(&with_b(p, no_side)).unwrap_err());
     }
@@ -74,7 +74,7 @@ fn accepted_many(count: u32, p: &Problem) -> Result<Vec<Problem>, u32> {
     Ok(sides)
 }
 
-/// The lengths of the outputs: those of the cut, b's being that of all sides.
+/// Returns the lengths of the outputs: those of the cut, where b's length is that of all sides.
 pub fn lengths_many(count: u32, p: &Problem) -> Result<[usize; 11], u32> {
     let sides = accepted_many(count, p)?;
     let mut lengths = expected::sizes(Route::Compact, &sides[0], 11)?;
@@ -82,7 +82,7 @@ pub fn lengths_many(count: u32, p: &Problem) -> Result<[usize; 11], u32> {
     Ok(lengths)
 }
 
-/// The compact cut of a problem whose b holds so many right sides, one after another: everything but b once, and each
+/// Returns the compact cut of a problem whose b holds `count` right sides, one after another: everything but b once, and each
 /// augmented b in turn.
 pub fn cut_many(count: u32, p: &Problem, rooms: Option<&[usize; 11]>) -> Result<Cut, u32> {
     let sides = accepted_many(count, p)?;
@@ -132,7 +132,7 @@ mod tests {
         wrong.pattern_words.pop();
         assert_eq!(cut_between(&wrong, &[1.0, 0.0, 0.0], &[0.0; 3], None).err(), Some(16));
         assert_eq!(cut_between(&wrong, &[0.0; 3], &[0.0; 3], None).err(), Some(5));
-        // the high limits' room counts too
+        // the output length for the high limits counts too
         let rooms = [1, 0, 0, 0, 1, 0, 0, 2, 6, 0, 10];
         assert_eq!(cut_between(&p, &[0.0; 3], &[0.0; 3], Some((&rooms, 1))).err(), Some(11));
         assert!(cut_between(&p, &[0.0; 3], &[0.0; 3], Some((&rooms, 2))).is_ok());
@@ -151,18 +151,18 @@ mod tests {
         assert_eq!(number(65, &with(&[0.0; 195])), Some(1));
         assert_eq!(number(1, &two), Some(4));
         assert_eq!(number(3, &two), Some(4));
-        // the further side's 9 comes before 11
+        // check 9 of the further side comes before 11
         let uncovered = with(&[0.0, 0.0, 0.0, 0.0, 5.0, 0.0]);
         assert_eq!(cut_many(2, &uncovered, Some(&[0; 11])).err(), Some(9));
         assert_eq!(cut_many(2, &two, Some(&[1, 0, 0, 0, 1, 0, 0, 3, 6, 0, 10])).err(), Some(11));
-        // a list of the wrong length comes after 3 and before 5
+        // a list of the wrong length is refused after 3 and before 5
         let mut wrong = two.clone();
         wrong.pattern_words.pop();
         assert_eq!(number(3, &wrong), Some(4));
         assert_eq!(number(2, &wrong), Some(5));
         wrong.a.starts.push(0);
         assert_eq!(number(3, &wrong), Some(2));
-        // no rows: any count of empty sides
+        // no rows: any count of empty sides is accepted
         let none = Problem { m: 0, cones: vec![], pattern_count: 0, pattern_words: vec![], ..apart() };
         assert_eq!((number(64, &none), number(1, &with_b(&none, &[0.0]))), (None, Some(4)));
     }

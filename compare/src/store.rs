@@ -2,8 +2,8 @@
 //!
 //! A file is text of hexadecimal numbers: how many cases; for each case how many lists of u32 and those lists, then how
 //! many lists of f64 and those lists, as bits; each list is its length and its numbers. An output's list is what the
-//! whole of its room holds after the call, and before it place k of the room holds 0xF0000000 + k % 65536, or -0.5 - k % 65536.
-//! A case of pooling stands as two: the first problem, then the second and the outputs, at the places that a cut has.
+//! whole output holds after the call; before it, index k of the output holds 0xF0000000 + k % 65536, or -0.5 - k % 65536.
+//! A case of pooling is stored as two: the first problem, then the second and the outputs, at the places that a cut has.
 
 use crate::added::as_tables;
 use crate::change_route;
@@ -20,12 +20,12 @@ struct Case {
     values: Vec<Vec<f64>>,
 }
 
-// the room that crate replay has for one output, and for a case's lists of either kind with their places
+// how many numbers crate replay can hold for one output, and for a case's lists of either kind with their starts
 const OUTPUT: usize = 4_096;
 const LISTS: usize = 16_384 - 32;
 
 impl Case {
-    // any list may be an output's, save the pattern words and the values of b
+    // any list may be an output's, except the pattern words and the values of b
     fn fits(&self) -> bool {
         let lengths = |each: Vec<usize>, long: usize| {
             each.iter().filter(|&&l| l > OUTPUT).count() <= long && each.iter().sum::<usize>() <= LISTS
@@ -53,7 +53,7 @@ fn text(cases: &[Vec<Case>]) -> String {
     out
 }
 
-/// What an output of u32 holds after a call: new at its front where nothing is refused, the rest kept.
+/// Returns what an output of u32 holds after a call: the result at its front if nothing is refused, the rest unchanged.
 fn after(answer: &Result<Vec<u32>, u32>, length: usize) -> Vec<u32> {
     let mut room: Vec<u32> = (0..length).map(|k| 0xF000_0000 + (k % 65536) as u32).collect();
     if let Ok(new) = answer {
@@ -74,7 +74,7 @@ fn problem_values(p: &Problem) -> Vec<Vec<f64>> {
     [&p.p.values, &p.q, &p.a.values, &p.b, &p.alphas].map(|l| l.clone()).to_vec()
 }
 
-/// A problem that is right, or has one fault, or several.
+/// Returns a valid problem, or one with one or several faults.
 fn some_problem(d: &mut Draws, index: u64) -> Problem {
     let mut p = random::problem(d, random::SMALL);
     for _ in 0..index % 4 {
@@ -157,7 +157,7 @@ fn some_route(d: &mut Draws) -> Route {
     }
 }
 
-/// A problem that is right, or has faults of any check that a route makes; some have no columns, some repeat entries.
+/// Returns a valid problem, or one with faults for any check that a route makes; some have no columns, some repeat entries.
 fn some_problem_on(d: &mut Draws, index: u64) -> Problem {
     let mut p = random::problem(d, random::SMALL);
     match index % 10 {
@@ -172,7 +172,7 @@ fn some_problem_on(d: &mut Draws, index: u64) -> Problem {
     p
 }
 
-/// Now and then one less than is needed, now and then more.
+/// Returns an output length, now and then one too short, otherwise up to two longer than needed.
 fn some_room(d: &mut Draws, need: usize) -> usize {
     if d.chance(2) {
         need.saturating_sub(1)
@@ -195,7 +195,7 @@ fn sizes_case(route: u32, p: &Problem, room: usize, answer: Result<[usize; 11], 
     Case { words, values: problem_values(p) }
 }
 
-// what the outputs of a cut hold after the call: those of u32, and those of f64
+// returns what the outputs of a cut hold after the call: those of u32, and those of f64
 fn cut_after(c: Option<&Cut>, rooms: &[usize; 11]) -> ([Vec<u32>; 6], [Vec<f64>; 5]) {
     let words = [
         words_after(c.map(|c| &c.p.starts[..]), rooms[0]),
@@ -215,7 +215,7 @@ fn cut_after(c: Option<&Cut>, rooms: &[usize; 11]) -> ([Vec<u32>; 6], [Vec<f64>;
     (words, values)
 }
 
-// a case of a call that takes these numbers and a problem and gives a cut
+// returns a case of a call that takes these numbers and a problem and returns a cut
 fn cut_case(given: Vec<u32>, p: &Problem, rooms: &[usize; 11], answer: &Result<Cut, u32>) -> Case {
     let after = cut_after(answer.as_ref().ok(), rooms);
     let mut words = vec![given, vec![number(answer)]];
@@ -234,7 +234,7 @@ fn cut(d: &mut Draws, index: u64) -> Case {
     cut_case(vec![route.code(), p.n, p.m, p.pattern_count], &p, &rooms, &answer)
 }
 
-// the low limits stand in b's place, the high ones and their output last
+// the low limits are in b's place, the high limits and their output come last
 fn cut_between(d: &mut Draws, index: u64) -> Case {
     let p = some_problem_on(d, index);
     let [low, high] = random::limits(d, &p);
@@ -299,7 +299,7 @@ fn join(d: &mut Draws, index: u64) -> Case {
     solution_case(route.code(), &p, &solution, &rooms, &answer)
 }
 
-// a standard solution, and no map
+// a case with a standard solution, and no map
 fn changed_route(d: &mut Draws, index: u64) -> Case {
     let mut p = random::problem(d, random::SMALL);
     if index % 10 == 8 {
@@ -322,7 +322,7 @@ fn changed_route(d: &mut Draws, index: u64) -> Case {
     solution_case(Route::Standard.code(), &p, &solution, &rooms, &answer)
 }
 
-// a case of a call that takes a solution and gives one
+// returns a case of a call that takes a solution and returns one
 fn solution_case(
     route: u32,
     p: &Problem,
@@ -352,12 +352,12 @@ fn solution_case(
     Case { words, values }
 }
 
-// ---- the refusals that few random problems meet
+// ---- the refusals that few random problems reach
 
 const NO_ROUTE: u32 = 2;
 
-/// A problem without columns whose PSD cone has a clique for each vertex, with it all later ones. From 93 vertices on it has
-/// more overlaps than the compact route takes, from 115 on more rows than the standard one takes.
+/// Returns a problem without columns whose PSD cone has a clique for each vertex, made of it and all later ones. From 93 vertices
+/// on it has more overlaps than the compact route accepts, from 115 on more rows than the standard route accepts.
 fn crowded(vertices: u32) -> Problem {
     let clique = |v: u32| Clique {
         parent: if v + 1 < vertices { v + 1 } else { NONE },
@@ -412,7 +412,7 @@ fn cut_many_corners() -> Vec<Case> {
     vec![cut_case(vec![1, p.n, p.m, p.pattern_count], &p, &rooms, &answer)]
 }
 
-// a call with no solution and little room on a problem that is refused before these are looked at
+// returns a case without a solution and with short outputs, for a problem that is refused before these are checked
 fn refused_solution(
     route: Route,
     p: &Problem,
@@ -450,7 +450,7 @@ fn change_route_corners() -> Vec<Case> {
     [wide, unknown, crowded(93)].iter().map(|p| refused_solution(Route::Standard, p, call)).collect()
 }
 
-/// Writes a file of `cases` answers and some corners for each family into a folder.
+/// Writes, for each family, a file of `cases` answers and some corner cases into a folder.
 pub fn write(folder: &Path, cases: u64, seed: u64) -> io::Result<()> {
     type Family = fn(&mut Draws, u64) -> Vec<Case>;
     let families: [(&str, Family, Vec<Case>); 10] = [

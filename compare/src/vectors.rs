@@ -1,5 +1,5 @@
-//! Stored cases with answers (JSON, one case a line): the plain reading against what is stored, then clarabel and the
-//! door on the same inputs. The file's name says which call its cases are of; a call more is a function and its line in
+//! Stored cases with answers (JSON, one case for each line): compares the plain reading with what is stored, then clarabel and
+//! the door on the same inputs. The file's name says which call its cases are of; a further call needs a function and its line in
 //! `FORMS`.
 
 use crate::added;
@@ -173,8 +173,8 @@ impl Json {
     fn refused(&self) -> Option<u32> {
         self.get("refused").and_then(Json::number).ok()
     }
-    // Entries [orig_index, null or [pattern, clique], first row, row count] as words. One from before Q-3 ends after its
-    // block, and takes the first row and row count of the entry of `ours` at its place.
+    // Entries [orig_index, null or [pattern, clique], first row, row count] as words. An entry from before Q-3 ends after its
+    // block, and takes first row and row count from the entry of `ours` at the same index.
     fn map(&self, ours: &[u32]) -> Result<Vec<u32>, String> {
         let mut out = vec![];
         for entry in self.list()? {
@@ -210,7 +210,7 @@ fn problem(j: &Json) -> Result<Problem, String> {
     })
 }
 
-// a stored cut, `b` naming its right side
+// a stored cut; `b` is the name of its right side
 fn stored_cut(j: &Json, ours: &Cut, b: &str) -> Result<Cut, String> {
     let columns = |name: &str| -> Result<Columns, String> {
         Ok(Columns {
@@ -244,10 +244,10 @@ fn stored_solution(j: &Json) -> Result<Joined, String> {
 const NAMES: [&str; 11] =
     ["P_starts", "P_rows", "P_values", "q", "A_starts", "A_rows", "A_values", "b", "cones", "alpha", "cone_map"];
 
-// how often the door is asked about a case, now and then with a room too short
+// how often the door is called for a case, now and then with an output that is too short
 const TIMES: usize = 4;
 
-/// What the cases of a file are compared into, and with which draws. `base` cases are from before document 02.
+/// Where the results for the cases of a file are counted, and the draws. `base` cases are from before document 02.
 struct Run<'a> {
     report: &'a mut Report,
     draws: &'a mut Draws,
@@ -255,7 +255,7 @@ struct Run<'a> {
 }
 
 impl Run<'_> {
-    // counts an answer that is the stored one; `wrong` says in what it is not
+    // counts an answer that equals the stored one; `wrong` says what differs
     fn judge(&mut self, call: &str, wrong: Option<String>, p: &Problem) {
         match wrong {
             None => self.report.count(format!("stored {call}: equal")),
@@ -263,7 +263,7 @@ impl Run<'_> {
         }
     }
 
-    // compares the refusal numbers of an answer and of what is stored or, where neither is refused, what they hold
+    // compares the refusal numbers of an answer and of what is stored or, if neither is refused, their results
     fn answered<T>(
         &mut self,
         call: &str,
@@ -295,7 +295,7 @@ impl Run<'_> {
         Ok(())
     }
 
-    // sizes and the cut on a route; a stored size counts `entry` for an entry of the map
+    // sizes and the cut on a route; a stored size counts `entry` for each entry of the map
     fn cut(&mut self, route: Route, p: &Problem, stored: &Json, entry: usize) -> Result<(), String> {
         let r = route.name();
         let sizes = expected::sizes(route, p, 11);
@@ -350,7 +350,7 @@ fn our_map(route: Route, p: &Problem) -> Vec<u32> {
     expected::solution_shape(route, p).map(|shape| shape.2).unwrap_or_default()
 }
 
-// a problem; on each route sizes, cut, and a solution with what it is joined to
+// a problem; on each route sizes, cut, and a solution with the joined one
 fn base(run: &mut Run, case: &Json) -> Result<(), String> {
     let p = problem(case.get("problem")?)?;
     for route in [Route::Compact, Route::Standard] {
@@ -363,7 +363,7 @@ fn base(run: &mut Run, case: &Json) -> Result<(), String> {
     Ok(())
 }
 
-// a problem; sizes and cut on each route; mostly a compact solution, its cone map and what it is joined to
+// a problem; sizes and cut on each route; mostly a compact solution, its cone map and the joined solution
 fn cuts(run: &mut Run, case: &Json, entry: usize) -> Result<(), String> {
     let p = problem(case.get("problem")?)?;
     for route in [Route::Compact, Route::Standard] {
@@ -393,7 +393,7 @@ fn same_layout(run: &mut Run, case: &Json) -> Result<(), String> {
     Ok(())
 }
 
-// what a standard joining takes, and the compact solution
+// the input of a standard joining, and the compact solution
 fn changes(run: &mut Run, case: &Json) -> Result<(), String> {
     let p = Problem {
         n: case.get("n")?.number()?,
@@ -493,7 +493,7 @@ fn loads(run: &mut Run, case: &Json) -> Result<(), String> {
     Ok(())
 }
 
-// a file, what is read, and what the program writes
+// a file, what the reader returns, and what the program writes
 fn handed_over(run: &mut Run, case: &Json) -> Result<(), String> {
     let (file, stored) = (case.get("file")?.bytes()?, case.get("program")?.bytes()?);
     let p = problem_file::read(&file).map(|(_, p)| p);
@@ -503,7 +503,7 @@ fn handed_over(run: &mut Run, case: &Json) -> Result<(), String> {
         let same = problem_file::counts(ours) == problem_file::counts(&stored);
         Ok((!same || problem_file::laid_out(ours, 8) != problem_file::laid_out(&stored, 8)).then(|| "differs".into()))
     })?;
-    // which NaN stands in A and b is left free
+    // which NaN is in A and b is unspecified
     let one_nan = |bytes: Vec<u8>| match problem_file::read(&bytes) {
         Ok((_, p)) => problem_file::laid_out(&problem_file::with_one_nan(p), 8),
         Err(_) => bytes,
@@ -519,7 +519,7 @@ fn handed_over(run: &mut Run, case: &Json) -> Result<(), String> {
     Ok(())
 }
 
-// what reads and compares a case of a file
+// the function that reads and compares a case of a file
 type Form = fn(&mut Run, &Json) -> Result<(), String>;
 
 const FORMS: [(&str, Form); 11] = [
@@ -536,7 +536,7 @@ const FORMS: [(&str, Form); 11] = [
     ("q-2", handed_over),
 ];
 
-/// Compares each case of the file, whose name without its ending is one of `FORMS`.
+/// Compares each case of the file, whose name without its extension is one of `FORMS`.
 pub fn compare(report: &mut Report, draws: &mut Draws, file: &Path) -> Result<(), String> {
     let stem = file.file_stem().and_then(|s| s.to_str()).unwrap_or_default();
     let (_, form) = FORMS.iter().find(|(name, _)| *name == stem).ok_or(format!("{stem}: no such cases are known"))?;
