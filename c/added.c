@@ -1,4 +1,4 @@
-/* The calls beside the cut and the joining, each on three projectors, printed and held to what must come out. */
+/* The calls besides the cut and the joining, each on three projectors: prints the results and compares them with the expected ones. */
 #include "three_projectors.h"
 
 static int done(const char *what, uint32_t refusal) {
@@ -8,7 +8,7 @@ static int done(const char *what, uint32_t refusal) {
     return refusal == CHORDAL_DONE;
 }
 
-/* a standard solution goes on as a compact one: blocks from last to first, the added unknown 0, tau and kappa copied */
+/* a standard solution becomes a compact one: blocks from last to first, the added unknown 0, tau and kappa copied */
 static int change_route(void) {
     static const double x[] = {0.5, 9, 9, 9, 9, 9, 9};
     static const double solved[] = {0, 0, 0, 0, 0, 0, 1, 2, 7, 3, 4, 5};
@@ -22,7 +22,7 @@ static int change_route(void) {
            equal("scalars", scalars_out, scalars, 2);
 }
 
-/* what the compact cut of three projectors writes beside b: the room of each table */
+/* the buffers for what the compact cut of three projectors writes besides b */
 #define CUT_P_Q ALL(p_starts_out), p_rows_out, 0, p_values_out, 0, ALL(q_out)
 #define CUT_A ALL(a_starts_out), ALL(a_rows_out), ALL(a_values_out)
 #define CUT_CONES ALL(cones_out), alphas_out, 0, ALL(map_out)
@@ -31,7 +31,7 @@ static int change_route(void) {
 static uint32_t p_starts_out[3], p_rows_out[1], a_starts_out[3], a_rows_out[7], cones_out[6], map_out[10];
 static double p_values_out[1], q_out[2], a_values_out[7], alphas_out[1];
 
-/* each marker known to a half: both limits move to the same places */
+/* each marker known to within a half: both limits move to the same rows */
 static int cut_between(void) {
     static const double low[M] = {0.5, 1.5, 2.5, 0, 3.5, 4.5}, high[M] = {1.5, 2.5, 3.5, 0, 4.5, 5.5};
     static const double want_low[] = {2.5, 3.5, 4.5, 0.5, 1.5, 0}, want_high[] = {3.5, 4.5, 5.5, 1.5, 2.5, 0};

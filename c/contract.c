@@ -1,4 +1,4 @@
-/* What chordal.h says of the tables, sentence by sentence, each tried on three projectors through the structs at its end.
+/* Tests what chordal.h says about the tables, sentence by sentence, on three projectors and through the structs at its end.
  * Compiles as C and as C++. */
 #include "three_projectors.h"
 
@@ -41,7 +41,7 @@ static struct chordal_problem three_projectors(void) {
     return p;
 }
 
-/* room for any cut here; the lengths are then those of the problem */
+/* buffers for any cut in this file; cut_into sets the lengths to those of the problem */
 struct room {
     uint32_t p_starts[MOST], p_rows[MOST], a_starts[MOST], a_rows[MOST], cones[MOST], map[MOST];
     double p_values[MOST], q[MOST], a_values[MOST], b[MOST], alphas[MOST];
@@ -111,7 +111,7 @@ static void ordering(void) {
 
 static void scaling(void) {
     struct chordal_problem p = three_projectors();
-    /* a factor of 8 in the rows beside the diagonal: 1, 3 and 4, and so at the pair (1, 2) of the root and (0, 1) of the leaf */
+    /* a factor of 8 in the off-diagonal rows 1, 3 and 4, and so at the pair (1, 2) of the root and (0, 1) of the leaf */
     static const double scaled_a[] = {10, 160, 30, 320, 50}, scaled_b[] = {1, 16, 3, 0, 32, 5};
     static const double moved_b[] = {3, 32, 5, 1, 16, 0}, moved_a[] = {30, 320, 50, 10, 160, -1, 1};
     p.a_values = VALUES(scaled_a), p.b = VALUES(scaled_b);
@@ -163,7 +163,7 @@ static void covering(void) {
     CHECK("a stored 0.0 of A is an entry: 9", chordal_problem_covered(&p) == CHORDAL_UNCOVERED);
 }
 
-/* slacks that meet the augmented equations at the unknowns x */
+/* writes the slacks that satisfy the augmented equations at the unknowns x */
 static void slacks(const struct room *cut, const double *x, double *s) {
     for (uint32_t r = 0; r < cut->length.b; r++) s[r] = cut->b[r];
     for (uint32_t c = 0; c < cut->length.q; c++)
@@ -198,7 +198,7 @@ static void joining(void) {
     CHECK("standard joining", chordal_problem_join(STANDARD, &p, &v, words_of(0, 0), &o) == CHORDAL_DONE);
     CHECK("s adds, z is the mean", same_values(s_out, sum, M) && same_values(z_out, mean, M));
 
-    /* a solution of the augmented equations, and one of equations with the overlap in a wrong row */
+    /* a solution of the augmented equations, and one of the equations with the overlap tied to a wrong row */
     slacks(&one, x, s);
     v.x = values_of(x, 2), v.s = values_of(s, 6), v.z = VALUES(ones);
     CHECK("joining of a solution", chordal_problem_join(COMPACT, &p, &v, map, &o) == CHORDAL_DONE);
@@ -218,7 +218,7 @@ static void joining(void) {
     CHECK("tau and kappa are copied, blocks move", o.tau == 2 && o.kappa == 3 && same_values(compact_s, blocks, 6));
 }
 
-/* three projectors read back from their file, in the tables of `two` */
+/* reads three projectors back from their file, into the tables of `two` */
 static uint32_t read_back(const uint8_t *file, size_t length, uint32_t *word_room, uint32_t *pattern_room,
                           struct chordal_problem *read) {
     struct chordal_words words = words_of(word_room, length / 4);
@@ -241,7 +241,7 @@ static void files(void) {
     struct chordal_problem p = three_projectors(), read;
     static uint8_t file[400], again[400];
     static uint32_t words[100], patterns[MOST];
-    /* a NaN with bits of its own */
+    /* a NaN with a payload */
     static const uint64_t bits[] = {UINT64_C(0x7ff00000deadbeef)};
     double nan_q[1];
     uint32_t same = 0;

@@ -1,8 +1,8 @@
-/* A problem file (docs/FILE.md) that another tool hands over: read, cut on the compact route, and written as a file again.
+/* Reads a problem file (docs/FILE.md) from another tool, cuts it on the compact route, and writes the result as a file again.
  *
  *     file < problem.bin > compact.bin
  *
- * Where a call refuses, nothing is written, and a line on standard error says which number and why. Compiles as C and as C++. */
+ * If a call refuses, nothing is written, and a line on standard error has the number and the reason. Compiles as C and as C++. */
 #include "chordal.h"
 
 #include <stdio.h>
@@ -43,7 +43,7 @@ static uint8_t *read_all(FILE *from, size_t *length) {
     return bytes;
 }
 
-/* the problem of a file, in tables of its own */
+/* returns the problem of a file, in newly allocated tables */
 static struct chordal_problem read_problem(const uint8_t *file, size_t length) {
     struct chordal_words_out made = words_room(length / 4);
     refused("words", chordal_file_words(file, length, made.at, made.len));
@@ -64,7 +64,7 @@ static struct chordal_problem read_problem(const uint8_t *file, size_t length) {
     return problem;
 }
 
-/* the compact problem, which has no patterns */
+/* returns the compact problem, which has no patterns */
 static struct chordal_problem cut(const struct chordal_problem *problem) {
     struct chordal_lengths len;
     refused("sizes", chordal_problem_sizes(COMPACT, problem, &len));

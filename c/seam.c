@@ -1,11 +1,11 @@
-/* Three projectors, one seam: cut and joined on both routes through the door, printed and held to what must come out. */
+/* Three projectors, one seam: cuts and joins them on both routes through the door, prints the results and compares them with the expected ones. */
 #include "three_projectors.h"
 
 /* what the cut writes: eleven tables, in the order of chordal_sizes */
 enum { P_STARTS, P_ROWS, P_VALUES, Q, A_STARTS, A_ROWS, A_VALUES, B, CONES, ALPHAS, MAP, TABLES };
 static const size_t element[TABLES] = {4, 4, 8, 8, 4, 4, 8, 8, 4, 8, 4};
 
-/* the words of a cone map's entry */
+/* the words of a cone map entry */
 enum { ORIG_INDEX, PATTERN, CLIQUE, FIRST_ROW, ROWS, ENTRY };
 #define CLIQUES 2
 
@@ -18,7 +18,7 @@ static void print_columns(const uint32_t *starts, const uint32_t *rows, const do
     }
 }
 
-/* A clique's values of b, found by one entry of the compact map: the only pattern's cliques stand from last to first. */
+/* Prints and checks a clique's values of b, found from one entry of the compact map: the only pattern's cliques come from last to first. */
 static int view_block(uint32_t clique, const uint32_t *map, const double *augmented_b, const double *want, size_t count) {
     const uint32_t *entry = map + ENTRY * (CLIQUES - 1 - clique);
     printf("  clique %u: %u rows from row %u\n", (unsigned)entry[CLIQUE], (unsigned)entry[ROWS], (unsigned)entry[FIRST_ROW]);
@@ -27,12 +27,12 @@ static int view_block(uint32_t clique, const uint32_t *map, const double *augmen
            equal("the block", augmented_b + entry[FIRST_ROW], want, count);
 }
 
-/* After a joining a site watches the original equations: a solution of the augmented ones leaves nothing there. */
+/* Checks the original residual after a joining: it is 0 for a solution of the augmented equations. */
 static int watch(uint32_t route, const uint32_t *starts, const uint32_t *rows, const double *values,
                  size_t columns, const double *augmented_b, size_t augmented_rows, const uint32_t *map, size_t map_len) {
     struct chordal_problem problem = {.n = N, .m = M, .a_starts = {ALL(a_starts)}, .a_rows = {ALL(a_rows)},
                                       .a_values = {ALL(a_values)}, .b = {ALL(b)}};
-    /* x = 0.5, and added unknowns: any on the compact route; on the standard one those that leave the zero cone none */
+    /* x = 0.5, and added unknowns: any on the compact route; on the standard route those that make the zero cone's slacks zero */
     static const double compact_x[] = {0.5, 2}, standard_x[] = {0.5, -4, -8, -6, -6, -16, -20};
     const double *x = route ? compact_x : standard_x;
     double slack[12], x_out[N], s[M], z[M], scalars[2], left[M];
@@ -78,7 +78,7 @@ static int run(uint32_t route, const double *solved, const double *joined_s, con
                    view_block(1, table[MAP], table[B], root, 3);
         }
 
-        /* here the solver solves; these values show which rows are joined */
+        /* here a solver would run; these values show which rows are joined */
         double x[7] = {0.5}, x_out[N], s[M], z[M], scalars[2];
         print_values("solved s and z", solved, size[B]);
         refusal = chordal_join(route, N, M, ALL(cones), 1, ALL(pattern_words), x, size[Q], solved, size[B],

@@ -294,7 +294,7 @@ def check_crates(places, report):
 
 def check_edits(text, places, report):
     """Edits that PROOFS names exist; those that it does not name are in crates of which it names none."""
-    exist = {(path.parent.parent.name, path.stem) for path in (ROOT / "crates").glob("*/must-fail/*.edit")}
+    exist = {(path.parent.parent.name, path.stem) for path in (ROOT / "crates").glob("*/must-fail*/*.edit")}
     named, tables = set(), False
     for number, line in enumerate(bare(text).split("\n"), 1):
         tables = (tables or line.startswith("## Wrong programs")) and not line.startswith("## What rests")

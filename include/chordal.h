@@ -1,28 +1,28 @@
 /* The chordal cut and join of semidefinite problems: the calls of libdoor.a, which `rt staticlib door` makes.
  *
  * CALLS
- * Each call returns 0 where it is done, and otherwise the number of the first check that fails; its outputs then hold
- * what they held. A slice is a pointer, never null, and a length; an output longer than its result keeps its rest.
- * No output may overlap another argument. Whatever the tables hold, a call reads and writes within their lengths and
- * ends. It fits a thread with 2 MB of stack, and calls on several threads do not meet. The end of this header has
- * structs and inline functions over the calls, for callers who would not spell out 48 arguments.
+ * Each call returns 0 on success, and otherwise the number of the first check that fails; its outputs are then left
+ * unchanged. A slice is a pointer, never null, and a length; where an output is longer than its result, its rest is
+ * unchanged. No output may overlap another argument. Whatever the tables hold, a call stays within their lengths and
+ * terminates. It needs less than 2 MB of stack, and calls on several threads do not affect each other. The end of this
+ * header has structs and inline functions over the calls, so that callers need not spell out 48 arguments.
  *
  * PROBLEM
- * Minimise x'Px / 2 + q'x with Ax + s = b and s in the cones. P and A are compressed columns: starts, rows, which rise in
- * a column (A may repeat one), and values. P is passed on as it is, whole or upper, whichever the solver reads. A cone is
- * three words, its kind and two sizes, an unused size being 0: 0 Zero, 1 Nonnegative, 2 SecondOrder (dimension);
- * 3 Exponential; 4 Power (takes one of alphas); 5 GenPower (how many of alphas it takes, dim2); 6 PSDTriangle (dimension).
- * The rows of a PSD cone are the upper triangle of its matrix column by column: (0,0), (0,1), (1,1), (0,2), (1,2), (2,2).
- * Values of A and b are only moved, never scaled: whatever factor a solver has beside the diagonal (clarabel has the root
- * of 2), it finds again in the blocks.
+ * Minimise x'Px / 2 + q'x with Ax + s = b and s in the cones. P and A are in compressed columns: starts, rows, which
+ * increase in a column (A may repeat one), and values. P is passed on as it is, whole or upper triangle, whichever the
+ * solver reads. A cone is three words, its kind and two sizes, an unused size being 0: 0 Zero, 1 Nonnegative, 2 SecondOrder
+ * (dimension); 3 Exponential; 4 Power (takes one of alphas); 5 GenPower (how many of alphas it takes, dim2); 6 PSDTriangle
+ * (dimension). The rows of a PSD cone are the upper triangle of its matrix column by column: (0,0), (0,1), (1,1), (0,2),
+ * (1,2), (2,2). Values of A and b are only moved, never scaled: a factor that a solver has off the diagonal (clarabel has
+ * the root of 2) is in the blocks too.
  *
  * PATTERN
- * The clique tree that a PSD cone is cut by: orig_index (the cone, by its place among the cones), vertex count, clique
- * count, the ordering, and for each clique its parent, snode count, separator count, snode and separator. The parent of
- * the last clique, and the pattern of a cone map's entry that has none, is CHORDAL_NONE. Cliques stand each before its
- * parent. Patterns stand by rising orig_index.
- * Members of snodes and separators are vertices: places in the ordering, and not rows of the matrix. ordering[v] is the
- * row of the matrix that vertex v is. Three projectors, their matrix cut into the rows {0, 1} and {1, 2}:
+ * The clique tree that a PSD cone is cut by: orig_index (the cone's index among the cones), vertex count, clique count, the
+ * ordering, and for each clique its parent, snode count, separator count, snode and separator. The parent of the last
+ * clique, and the pattern number of a cone map entry without a pattern, is CHORDAL_NONE. Each clique comes before its
+ * parent. Patterns are in the order of increasing orig_index.
+ * Members of snodes and separators are vertices, that is, places in the ordering, and not rows of the matrix. ordering[v]
+ * is the matrix row of vertex v. Three projectors, whose matrix is cut into the rows {0, 1} and {1, 2}:
  *
  *     ordering 0 1 2:  0,3,2, 0,1,2,  1,1,1, 0, 1,  CHORDAL_NONE,2,0, 1,2       clique 0 has the vertices 0 and 1
  *     ordering 2 0 1:  0,3,2, 2,0,1,  1,1,1, 1, 2,  CHORDAL_NONE,2,0, 2,0       vertex 1 is row 0, vertex 2 is row 1
@@ -31,26 +31,26 @@
  * rows of its pair are in one clique.
  *
  * COVERING: A WARNING
- * The patterns must cover A and b. The compact route refuses a problem where they do not, number 9; there a stored 0.0 of
- * A is an entry, and a b of 0.0 or -0.0 is none. The standard route takes such a problem: an uncovered row has no slack
- * there, the fit is another, stricter one, and no residual shows it. chordal_sizes on the compact route asks, and
+ * The patterns must cover A and b. The compact route refuses a problem where they do not, number 9; a stored 0.0 of A
+ * counts as an entry, a b of 0.0 or -0.0 does not. The standard route accepts such a problem: an uncovered row has no slack
+ * there, the fit is another, stricter one, and no residual shows it. chordal_sizes on the compact route tells, and
  * chordal_problem_cut_covered below refuses on either route.
  *
  * ROUTES
- * A route is 0 standard, 1 compact. Both mean one problem.
+ * A route is 0 standard, 1 compact. Both mean the same problem.
  *   standard  cones: Zero(m), which has all original rows, then the cones in order, a cut one as its cliques from first to
  *             last. Each row after m is a new unknown; A becomes A beside H over 0 beside -I, where column k of H has a 1
  *             in the original row of entry k.
  *   compact   cones: the cones in order, a cut one as its cliques from last to first. A row of A and b moves to the block
- *             of the clique that owns its pair; a pair that lies wholly in the separator is an overlap, a new unknown with
+ *             of the clique that owns its pair; a pair with both members in the separator is an overlap, a new unknown with
  *             +1 in its own row and -1 in the row of the same pair in the parent's block.
  * Both extend P by empty columns and q by 0.0.
  *
  * JOINING
- * The first n of x are copied. s adds the blocks. z of a cut cone is, on the compact route, the value of the block walked
- * last, that of the first clique that has the row, and on the standard one the mean of the blocks; where no clique covers
- * it is 0. So it is no positive semidefinite matrix as it is: completing it is for the caller. tau and kappa are not read
- * and come out as 1: a caller with a homogeneous embedding divides x, s and z by tau first.
+ * The first n of x are copied. The joined s is the sum of the blocks. z of a cut cone is, on the compact route, the value
+ * of the block walked last, that of the first clique that has the row, and on the standard route the mean of the blocks; in
+ * a row that no clique covers it is 0. So z need not be positive semidefinite: the caller completes it. tau and kappa are
+ * not read and are returned as 1: a caller with a homogeneous embedding divides x, s and z by tau first.
  * What to watch after each joining is the largest |Ax + s - b| of the original rows, chordal_original_residual below. A
  * solver's residuals are those of the augmented equations, and vanish for wrong ones too.
  */
@@ -69,43 +69,43 @@ extern "C" {
 enum chordal_refusal {
     CHORDAL_DONE = 0,
     CHORDAL_BOUND = 1,       /* a bound is exceeded: n or m 65,536, entries of A or P 262,144, cones 1,024, a size in a
-                                record 65,536, a PSD size 256, an index 255 (32,895 back); or the route is no route, or the
-                                count of right sides is 0 or above 64 */
-    CHORDAL_STARTS = 2,      /* starts of A or P that are not n + 1 numbers from 0 to the number of values, never falling,
-                                or rows that are not as many as values */
-    CHORDAL_ROWS = 3,        /* rows in a column of A fall or in one of P do not strictly rise, or lie outside */
-    CHORDAL_CONES = 4,       /* a cone record, the cones' rows, or the length of alphas, q or b */
-    CHORDAL_PATTERNS = 5,    /* pattern words, orig_index, vertex count or ordering; no permutation */
-    CHORDAL_TREE = 6,        /* no clique, a parent that is not later, a last clique with parent or separator */
-    CHORDAL_CLIQUES = 7,     /* snodes that do not hold each vertex once or an empty one, a separator that repeats a
-                                member or has one that its parent's clique does not hold */
-                             /* 8 does not occur any more and is not used again */
-    CHORDAL_UNCOVERED = 9,   /* compact: an entry of A or a b unequal to zero in a row that no clique covers */
+                                record 65,536, a PSD size 256, an index 255 (32,895 back); or the route is neither 0 nor 1, or
+                                the count of right sides is 0 or above 64 */
+    CHORDAL_STARTS = 2,      /* the starts of A or P are not n + 1 non-decreasing numbers from 0 to the number of values, or
+                                there are not as many rows as values */
+    CHORDAL_ROWS = 3,        /* rows decrease in a column of A, do not strictly increase in one of P, or are out of range */
+    CHORDAL_CONES = 4,       /* a cone record, the cones' rows, or the length of alphas, q or b is wrong */
+    CHORDAL_PATTERNS = 5,    /* pattern words, an orig_index or a vertex count are wrong, or an ordering is not a permutation */
+    CHORDAL_TREE = 6,        /* a pattern has no clique, a parent is not later, or the last clique has a parent or a separator */
+    CHORDAL_CLIQUES = 7,     /* a snode is empty, a vertex is not in exactly one snode, or a separator repeats a member or has
+                                one that its parent's clique does not have */
+                             /* 8 is never returned; the number is reserved */
+    CHORDAL_UNCOVERED = 9,   /* compact: a stored entry of A or a nonzero b is in a row that no clique covers */
     CHORDAL_TOO_LARGE = 10,  /* more than 262,144 augmented rows or, compact, 131,072 overlaps */
     CHORDAL_SHORT = 11,      /* an output is too short */
-    CHORDAL_SOLUTION = 12,   /* a solution's lengths, or the cone map, are not those that the problem gives */
-    CHORDAL_FILE_LENGTH = 13, /* a problem file shorter than its header, or whose length is not the one in it; comes first */
-    CHORDAL_FILE_TABLES = 14, /* a problem file's offsets, gaps or end other than its counts give; comes before 1 */
-    CHORDAL_RANGES = 15,     /* the seed of a problem to be generated is 0, or its vertex count, band or column count is out of its
+    CHORDAL_SOLUTION = 12,   /* a solution's lengths, or the cone map, are not those of this problem */
+    CHORDAL_FILE_LENGTH = 13, /* a problem file is shorter than its header, or the length in it is not its own; comes first */
+    CHORDAL_FILE_TABLES = 14, /* a problem file's offsets, gaps or end are not those that its counts give; comes before 1 */
+    CHORDAL_RANGES = 15,     /* the seed of a problem to be generated is 0, or its vertex count, band or column count is out of
                                 range; comes before anything else */
-    CHORDAL_LIMITS = 16,     /* a low limit above its high one, or a NaN in either; comes after 4 */
+    CHORDAL_LIMITS = 16,     /* a low limit is above its high limit, or either is a NaN; comes after 4 */
     CHORDAL_UNKNOWNS = 17    /* two problems to be pooled have different n; comes after both have passed 1 to 7 */
 };
 
-/* out[0]: the index of the pair (i, j) in the packed upper triangle. Refusals 1, 11. */
+/* Writes to out[0] the index of the pair (i, j) in the packed upper triangle. Refusals 1, 11. */
 uint32_t chordal_pair_index(uint32_t i, uint32_t j, uint32_t *out, size_t out_len);
 
-/* out[0], out[1]: row and column of an index. Refusals 1, 11. */
+/* Writes to out[0] and out[1] the row and column of an index. Refusals 1, 11. */
 uint32_t chordal_pair_back(uint32_t index, uint32_t *out, size_t out_len);
 
-/* out[w]: the place of w in the permutation p. Refusals 5, 11. */
+/* Writes to out[w] the index of w in the permutation p. Refusals 5, 11. */
 uint32_t chordal_inverse(const uint32_t *p, size_t p_len, uint32_t *out, size_t out_len);
 
-/* One pattern's words with its vertices numbered by rising clique. Refusals 5 to 7, 11. */
+/* Writes one pattern's words with its vertices renumbered clique by clique, in increasing order. Refusals 5 to 7, 11. */
 uint32_t chordal_renumber(const uint32_t *words, size_t words_len, uint32_t *out, size_t out_len);
 
-/* The lengths of the cut's eleven outputs: p starts, p rows, p values, q, a starts, a rows, a values, b, cones, alphas,
- * map. Refusals 1 to 7, 9 to 11. */
+/* Writes the lengths of the cut's eleven outputs: p starts, p rows, p values, q, a starts, a rows, a values, b, cones,
+ * alphas, map. Refusals 1 to 7, 9 to 11. */
 uint32_t chordal_sizes(
     uint32_t route, uint32_t n, uint32_t m,
     const uint32_t *p_starts, size_t p_starts_len, const uint32_t *p_rows, size_t p_rows_len,
@@ -116,10 +116,10 @@ uint32_t chordal_sizes(
     uint32_t pattern_count, const uint32_t *pattern_words, size_t pattern_words_len,
     uint32_t *out, size_t out_len);
 
-/* The augmented problem. Repeats of a row in a column of A are added from left to right on the compact route, each sum
- * rounded, and make one entry, a sum of zero too; the standard route keeps them as stored. The map has five words for
- * each cone: orig_index, pattern number or CHORDAL_NONE, clique number or 0, first augmented row (the number of rows
- * before it), row count; it is empty on the standard route. Refusals 1 to 7, 9 to 11. */
+/* Writes the augmented problem. Repeats of a row in a column of A are added from left to right on the compact route, each
+ * sum rounded, and make one entry, even where the sum is zero; the standard route keeps them as stored. The map has five
+ * words for each cone: orig_index, pattern number or CHORDAL_NONE, clique number or 0, first augmented row (the number of
+ * rows before it), row count; it is empty on the standard route. Refusals 1 to 7, 9 to 11. */
 uint32_t chordal_cut(
     uint32_t route, uint32_t n, uint32_t m,
     const uint32_t *p_starts, size_t p_starts_len, const uint32_t *p_rows, size_t p_rows_len,
@@ -135,8 +135,9 @@ uint32_t chordal_cut(
     uint32_t *cones_out, size_t cones_out_len, double *alphas_out, size_t alphas_out_len,
     uint32_t *map_out, size_t map_out_len);
 
-/* The original problem's solution from the augmented one's: n, m and m values, and tau and kappa, which are 1. Cones and
- * patterns are the original ones, the map is the cut's; the standard route reads none. Refusals 1, 4 to 7, 10 to 12. */
+/* Writes the original problem's solution, from the augmented problem's: n values of x, m of s, m of z, and tau and kappa,
+ * which are 1. Cones and patterns are the original ones, the map is the cut's; the standard route reads no map. Refusals
+ * 1, 4 to 7, 10 to 12. */
 uint32_t chordal_join(
     uint32_t route, uint32_t n, uint32_t m,
     const uint32_t *cones, size_t cones_len,
@@ -146,10 +147,10 @@ uint32_t chordal_join(
     double *x_out, size_t x_out_len, double *s_out, size_t s_out_len, double *z_out, size_t z_out_len,
     double *scalars_out, size_t scalars_out_len);
 
-/* A standard solution as a compact one of the same problem: the first n of x and +0.0 for each overlap; s and z without
- * their first m, block by block in compact order; tau and kappa, which are copied. Cones and patterns are the original
- * ones. The outputs are n plus overlaps, the blocks' rows twice, and 2 long. Refusals 1, 4 to 7, 10 (of both routes),
- * 11, 12. */
+/* Writes a standard solution as a compact one of the same problem: the first n of x and +0.0 for each overlap; s and z
+ * without their first m, block by block in compact order; tau and kappa, which are copied. Cones and patterns are the
+ * original ones. The lengths are n plus the overlaps for x, the augmented rows of the compact cut for s and z, and 2 for the
+ * scalars. Refusals 1, 4 to 7, 10 (of both routes), 11, 12. */
 uint32_t chordal_change_route(
     uint32_t n, uint32_t m,
     const uint32_t *cones, size_t cones_len,
@@ -159,9 +160,9 @@ uint32_t chordal_change_route(
     double *x_out, size_t x_out_len, double *s_out, size_t s_out_len, double *z_out, size_t z_out_len,
     double *scalars_out, size_t scalars_out_len);
 
-/* The augmented problem on the compact route, where each value of b is known only as a low and a high limit: both are
- * carried to the same places, everything else is the cut's. b_low and b_high are each as long as the cut's b. A row that
- * no clique covers needs both limits zero. Refusals 1 to 4, 16, 5 to 7, 9 to 11. */
+/* Writes the augmented problem on the compact route, where each value of b is known only as a low and a high limit: both
+ * are moved to the same rows, everything else is the cut's. b_low_out and b_high_out are each as long as the cut's b. In a
+ * row that no clique covers both limits must be zero. Refusals 1 to 4, 16, 5 to 7, 9 to 11, in this order. */
 uint32_t chordal_cut_between(
     uint32_t n, uint32_t m,
     const uint32_t *p_starts, size_t p_starts_len, const uint32_t *p_rows, size_t p_rows_len,
@@ -179,10 +180,10 @@ uint32_t chordal_cut_between(
     uint32_t *cones_out, size_t cones_out_len, double *alphas_out, size_t alphas_out_len,
     uint32_t *map_out, size_t map_out_len);
 
-/* The augmented problem on the compact route for 1 to 64 right sides, which b holds one after another, m values each:
- * everything but b once, and each side's augmented b in turn, so that b_out is count times as long as the cut's. A list
- * that is not count times m long is refused as 4. Checks up to 10 are made on each side wholly before the next. Refusals
- * 1 to 7, 9 to 11. */
+/* Writes the augmented problem on the compact route for 1 to 64 right sides, which b holds one after another, m values
+ * each: everything but b once, and each side's augmented b in turn, so that b_out is count times as long as the cut's. A
+ * list whose length is not count times m is refused as 4. All checks up to 10 are made on one side before the next.
+ * Refusals 1 to 7, 9 to 11. */
 uint32_t chordal_cut_many(
     uint32_t count, uint32_t n, uint32_t m,
     const uint32_t *p_starts, size_t p_starts_len, const uint32_t *p_rows, size_t p_rows_len,
@@ -198,11 +199,11 @@ uint32_t chordal_cut_many(
     uint32_t *cones_out, size_t cones_out_len, double *alphas_out, size_t alphas_out_len,
     uint32_t *map_out, size_t map_out_len);
 
-/* The tables of the pooled problem of two passes that share their unknowns: A over A, b over b, cones, alphas and patterns
- * in turn, with the second's orig_index raised by the first's cone count; P and q are the first's. Its n is theirs; its m,
- * cone count and pattern count are the sums. The outputs are as long as both problems' tables together, save that P's, q
- * and A's starts are as long as the first's. Refusals 1 to 7 of the first, of the second, 17, 1 (the pool exceeds a
- * bound), 11. */
+/* Writes the tables of the problem pooled from two passes that share their unknowns: A over A, b over b, cones, alphas and
+ * patterns one after the other, with the second's orig_index raised by the first's cone count; P and q are the first's. Its
+ * n is that of both; its m, cone count and pattern count are the sums. The outputs are as long as both problems' tables
+ * together, except that P's, q and A's starts are as long as the first's. Refusals 1 to 7 of the first, 1 to 7 of the
+ * second, 17, 1 (the pool exceeds a bound), 11. */
 uint32_t chordal_pool(
     uint32_t n, uint32_t m,
     const uint32_t *p_starts, size_t p_starts_len, const uint32_t *p_rows, size_t p_rows_len,
@@ -225,15 +226,15 @@ uint32_t chordal_pool(
     uint32_t *cones_out, size_t cones_out_len, double *alphas_out, size_t alphas_out_len,
     uint32_t *pattern_words_out, size_t pattern_words_out_len);
 
-/* The lengths of the eleven tables of a generated problem: p starts, p rows, p values, q, a starts, a rows, a values, b,
- * cones, alphas, pattern words. Refusals 15, 11. */
+/* Writes the lengths of the eleven tables of a generated problem: p starts, p rows, p values, q, a starts, a rows,
+ * a values, b, cones, alphas, pattern words. Refusals 15, 11. */
 uint32_t chordal_generate_sizes(uint64_t seed, uint32_t v, uint32_t w, uint32_t n, uint32_t *out, size_t out_len);
 
-/* A problem that any site can make again, from a seed that is not 0, a vertex count v of 2 to 64, a band w with 1 <= w < v,
- * and n of 1 to 64. Its one cone is PSDTriangle of dimension v, its m is v (v + 1) / 2, and it has one pattern. A draw
- * changes a uint64_t by exclusive or with itself shifted left 13, right 7 and left 17. Drawn are, in this order, the ordering,
- * the entries of A over the rows that a clique covers, column by column, and b there; values are whole, from -100 to 100.
- * Both routes accept it. Refusals 15, 11. */
+/* Writes a problem that any site can make again, from a seed that is not 0, a vertex count v of 2 to 64, a band w with
+ * 1 <= w < v, and n of 1 to 64. Its only cone is PSDTriangle of dimension v, its m is v (v + 1) / 2, and it has one pattern.
+ * A draw changes a uint64_t by exclusive or with itself shifted left 13, then right 7, then left 17. The ordering is drawn
+ * first, then the entries of A in the rows that a clique covers, column by column, then b in these rows; values are whole
+ * numbers from -100 to 100. Both routes accept the problem. Refusals 15, 11. */
 uint32_t chordal_generate(
     uint64_t seed, uint32_t v, uint32_t w, uint32_t n,
     uint32_t *p_starts_out, size_t p_starts_out_len, uint32_t *p_rows_out, size_t p_rows_out_len,
@@ -243,15 +244,15 @@ uint32_t chordal_generate(
     uint32_t *cones_out, size_t cones_out_len, double *alphas_out, size_t alphas_out_len,
     uint32_t *pattern_words_out, size_t pattern_words_out_len);
 
-/* The whole little-endian words of a file, file_len / 4 of them; a caller on a little-endian machine whose bytes are
- * aligned may read them in place instead. Refusal 11. */
+/* Writes the complete little-endian words of a file, file_len / 4 of them; a caller on a little-endian machine whose bytes
+ * are aligned may use them in place instead. Refusal 11. */
 uint32_t chordal_file_words(const uint8_t *file, size_t file_len, uint32_t *out, size_t out_len);
 
-/* The tables of a problem file (docs/FILE.md) of `length` bytes, of which words are the whole words: counts, which are n, m,
+/* Writes the tables of a problem file (docs/FILE.md) of `length` bytes, whose complete words are `words`: the counts n, m,
  * entries of P, entries of A, cones, alphas, patterns and pattern words, then each table. A double is its 64-bit pattern, so
- * that every NaN keeps its bits; lend the doubles' memory. The first eight words tell how long each output has to be: 8,
+ * that every NaN keeps its bits; pass the doubles' memory. The first eight words give the needed length of each output: 8,
  * n + 1, the entries of P twice, n, n + 1, the entries of A twice, m, three for each cone, alphas, pattern words. Refusals 13,
- * 14, 1 to 7, 11; 13 too where the words are not length / 4 many. */
+ * 14, 1 to 7, 11; 13 also where words_len is not length / 4. */
 uint32_t chordal_read_file(
     const uint32_t *words, size_t words_len, size_t length, uint32_t *counts_out, size_t counts_out_len,
     uint32_t *p_starts_out, size_t p_starts_out_len, uint32_t *p_rows_out, size_t p_rows_out_len,
@@ -261,9 +262,9 @@ uint32_t chordal_read_file(
     uint32_t *cones_out, size_t cones_out_len, uint64_t *alphas_out, size_t alphas_out_len,
     uint32_t *pattern_words_out, size_t pattern_words_out_len);
 
-/* The file of a problem, doubles given as their 64-bit patterns. It ends where its last table does: each begins at the
- * lowest multiple of 8 not below the end of the one before, the first at byte 80. A file that was read, written again, has
- * the same bytes. Refusals 1 to 7, 11. */
+/* Writes the file of a problem, with doubles given as their 64-bit patterns. The file ends where its last table does: each
+ * table begins at the lowest multiple of 8 not below the end of the one before, the first at byte 80. A file that is read
+ * and written again has the same bytes. Refusals 1 to 7, 11. */
 uint32_t chordal_write_file(
     uint32_t n, uint32_t m,
     const uint32_t *p_starts, size_t p_starts_len, const uint32_t *p_rows, size_t p_rows_len,
@@ -274,9 +275,9 @@ uint32_t chordal_write_file(
     uint32_t pattern_count, const uint32_t *pattern_words, size_t pattern_words_len,
     uint8_t *out, size_t out_len);
 
-/* out[0]: 1 where two problems agree in n, m, cone records, pattern words, alphas, and the starts and rows of A and of P, else 0.
- * Alphas are compared bit by bit: +0.0 and -0.0 differ; one NaN is not told from another. Where it is 1 and a route accepts both
- * problems, their cuts on it have the same starts and rows of A and P, cones and map, and outputs of one length serve both.
+/* Writes to out[0] 1 where two problems agree in n, m, cone records, pattern words, alphas, and the starts and rows of A and of P,
+ * else 0. Alphas are compared bit by bit: +0.0 and -0.0 differ; all NaNs count as equal. Where it is 1 and a route accepts both
+ * problems, their cuts on that route have the same starts and rows of A and P, cones, map and output lengths.
  * Refusals 1 to 7, 11. */
 uint32_t chordal_same_layout(
     uint32_t n, uint32_t m,
@@ -299,7 +300,7 @@ uint32_t chordal_same_layout(
 
 #define CHORDAL_VERSION 200 /* 0.2.0 */
 
-/* What a refusal number means, in a few words; a number that no call answers has a text too. */
+/* Returns what a refusal number means, in a few words; a number that no call returns has a text too. */
 static inline const char *chordal_refusal_text(uint32_t number) {
     switch (number) {
     case CHORDAL_DONE: return "done";
@@ -323,13 +324,13 @@ static inline const char *chordal_refusal_text(uint32_t number) {
     }
 }
 
-/* A table that is read, and one that is written. Where the length is 0 the pointer may be null. */
+/* Tables that are read, and tables that are written. Where the length is 0 the pointer may be null. */
 struct chordal_words { const uint32_t *at; size_t len; };
 struct chordal_values { const double *at; size_t len; };
 struct chordal_words_out { uint32_t *at; size_t len; };
 struct chordal_values_out { double *at; size_t len; };
 
-/* A problem; all zero, it has no unknowns, no rows and no tables. */
+/* A problem. With all fields zero it has no unknowns, no rows and no tables. */
 struct chordal_problem {
     uint32_t n, m;
     struct chordal_words p_starts, p_rows;
@@ -342,10 +343,10 @@ struct chordal_problem {
     struct chordal_words pattern_words;
 };
 
-/* The lengths of the cut's outputs: b is the number of augmented rows, q of augmented unknowns. */
+/* The lengths of the cut's outputs: b is the number of augmented rows, q that of augmented unknowns. */
 struct chordal_lengths { uint32_t p_starts, p_rows, p_values, q, a_starts, a_rows, a_values, b, cones, alphas, map; };
 
-/* The cut's outputs, each with the caller's room and its length. */
+/* The cut's outputs: for each the caller's buffer and its length. */
 struct chordal_augmented {
     struct chordal_words_out p_starts, p_rows;
     struct chordal_values_out p_values, q;
@@ -356,7 +357,7 @@ struct chordal_augmented {
     struct chordal_words_out map;
 };
 
-/* The rooms for the tables of a file that is read, each with its length. */
+/* The buffers for the tables of a file that is read, each with its length. */
 struct chordal_tables {
     struct chordal_words_out p_starts, p_rows;
     struct chordal_values_out p_values, q;
@@ -367,7 +368,7 @@ struct chordal_tables {
     struct chordal_words_out pattern_words;
 };
 
-/* A solution that is read, and the room for one that is written. */
+/* A solution that is read, and the buffers for one that is written. */
 struct chordal_solution { struct chordal_values x, s, z; double tau, kappa; };
 struct chordal_joined { struct chordal_values_out x, s, z; double tau, kappa; };
 
@@ -388,7 +389,7 @@ static inline double *chordal_values_room(struct chordal_values_out t) {
     return t.at ? t.at : none;
 }
 
-/* A double's memory as that of its 64-bit pattern: the calls on files move patterns, and are no code that a compiler sees. */
+/* The memory of doubles as that of their 64-bit patterns: the calls on files copy patterns, in code that the C compiler does not see. */
 static inline const uint64_t *chordal_bits_at(struct chordal_values t) { return (const uint64_t *)chordal_values_at(t); }
 static inline uint64_t *chordal_bits_room(struct chordal_values_out t) { return (uint64_t *)chordal_values_room(t); }
 
@@ -411,7 +412,7 @@ static inline uint64_t *chordal_bits_room(struct chordal_values_out t) { return 
 #define CHORDAL_SKETCH(p) (p)->n, (p)->m, CHORDAL_W((p)->cones), (p)->pattern_count, CHORDAL_W((p)->pattern_words)
 #define CHORDAL_SOLVED(v) CHORDAL_V((v)->x), CHORDAL_V((v)->s), CHORDAL_V((v)->z), (v)->tau, (v)->kappa
 
-/* chordal_sizes. */
+/* chordal_sizes on structs. */
 static inline uint32_t chordal_problem_sizes(uint32_t route, const struct chordal_problem *problem,
                                              struct chordal_lengths *out) {
     uint32_t l[11];
@@ -422,14 +423,14 @@ static inline uint32_t chordal_problem_sizes(uint32_t route, const struct chorda
     return CHORDAL_DONE;
 }
 
-/* chordal_cut. */
+/* chordal_cut on structs. */
 static inline uint32_t chordal_problem_cut(uint32_t route, const struct chordal_problem *problem,
                                            const struct chordal_augmented *out) {
     return chordal_cut(route, CHORDAL_PROBLEM(problem), CHORDAL_OUT_BEFORE_B(out), CHORDAL_VO(out->b),
                        CHORDAL_OUT_AFTER_B(out));
 }
 
-/* Number 9 where the patterns do not cover A and b, 0 where they do, and another where the problem is refused before. */
+/* Returns 9 where the patterns do not cover A and b, 0 where they do, and another number where the problem is refused before. */
 static inline uint32_t chordal_problem_covered(const struct chordal_problem *problem) {
     uint32_t l[11];
     uint32_t number = chordal_sizes(1, CHORDAL_PROBLEM(problem), l, 11);
@@ -437,7 +438,7 @@ static inline uint32_t chordal_problem_covered(const struct chordal_problem *pro
     return number == CHORDAL_TOO_LARGE ? (uint32_t)CHORDAL_DONE : number;
 }
 
-/* chordal_cut of a problem whose patterns cover A and b; number 9 on either route where they do not. */
+/* chordal_cut of a problem whose patterns cover A and b; returns 9 on either route where they do not. */
 static inline uint32_t chordal_problem_cut_covered(uint32_t route, const struct chordal_problem *problem,
                                                    const struct chordal_augmented *out) {
     uint32_t number = chordal_problem_covered(problem);
@@ -463,7 +464,7 @@ static inline uint32_t chordal_problem_join(uint32_t route, const struct chordal
     return number;
 }
 
-/* chordal_change_route. */
+/* chordal_change_route on structs. */
 static inline uint32_t chordal_problem_change_route(const struct chordal_problem *problem,
                                                     const struct chordal_solution *solution, struct chordal_joined *out) {
     double scalars[2];
@@ -473,13 +474,13 @@ static inline uint32_t chordal_problem_change_route(const struct chordal_problem
     return number;
 }
 
-/* chordal_same_layout: *same is 1 or 0. */
+/* chordal_same_layout on structs: *same becomes 1 or 0. */
 static inline uint32_t chordal_problem_same_layout(const struct chordal_problem *first,
                                                    const struct chordal_problem *second, uint32_t *same) {
     return chordal_same_layout(CHORDAL_PROBLEM(first), CHORDAL_PROBLEM(second), same, 1);
 }
 
-/* The augmented problem that a cut has written, which has no patterns; the lengths are those of chordal_problem_sizes. */
+/* Returns the augmented problem that a cut has written, which has no patterns; the lengths are those of chordal_problem_sizes. */
 static inline struct chordal_problem chordal_augmented_problem(const struct chordal_lengths *lengths,
                                                                const struct chordal_augmented *augmented) {
     struct chordal_problem p;
@@ -498,9 +499,9 @@ static inline struct chordal_problem chordal_augmented_problem(const struct chor
     return p;
 }
 
-/* The lengths of the tables of a file with these words, in its order: p starts, p rows, p values, q, a starts, a rows,
- * a values, b, cones, alphas, pattern words. A count beyond the words is taken as theirs, so that a caller makes no more room
- * than a few times the file; the reader refuses such a file. */
+/* Writes the lengths of the tables of a file with these words, in the file's order: p starts, p rows, p values, q, a starts,
+ * a rows, a values, b, cones, alphas, pattern words. A count above the number of words is replaced by that number, so that a
+ * caller allocates no more than a few times the file; the reader refuses such a file. */
 static inline void chordal_file_table_lengths(struct chordal_words words, size_t out[11]) {
     size_t count[8];
     for (size_t k = 0; k < 8; k++) {
@@ -511,7 +512,7 @@ static inline void chordal_file_table_lengths(struct chordal_words words, size_t
     out[7] = count[1], out[8] = 3 * count[4], out[9] = count[5], out[10] = count[7];
 }
 
-/* chordal_read_file: the tables go to their rooms, and *out is the problem that stands there. The words are those of
+/* chordal_read_file: writes the tables to their buffers, and to *out the problem that they make up. The words are those of
  * chordal_file_words, the length is the file's in bytes. */
 static inline uint32_t chordal_problem_read_file(struct chordal_words words, size_t length, const struct chordal_tables *room,
                                                  struct chordal_problem *out) {
@@ -536,7 +537,7 @@ static inline uint32_t chordal_problem_read_file(struct chordal_words words, siz
     return CHORDAL_DONE;
 }
 
-/* The bytes of a problem's file: the header, then each table at a multiple of 8. */
+/* Returns how many bytes a problem's file has: the header, then each table at a multiple of 8. */
 static inline size_t chordal_file_length(const struct chordal_problem *problem) {
     const struct chordal_problem *p = problem;
     const size_t bytes[11] = {4 * p->p_starts.len, 4 * p->p_rows.len, 8 * p->p_values.len, 8 * p->q.len,
@@ -556,8 +557,8 @@ static inline uint32_t chordal_problem_write_file(const struct chordal_problem *
                               out_len);
 }
 
-/* The largest |Ax + s - b| of a joined solution in the original rows, or a NaN where one is; rows gets Ax + s - b. The
- * problem is one that a cut has accepted, x has n values, s and rows have m. */
+/* Returns the largest |Ax + s - b| of a joined solution in the original rows, or a NaN if one of them is; writes Ax + s - b
+ * to rows. The problem must be one that a cut has accepted, x has n values, s and rows have m. */
 static inline double chordal_original_residual(const struct chordal_problem *problem, const double *x, const double *s,
                                                double *rows) {
     double most = 0;
@@ -567,7 +568,7 @@ static inline double chordal_original_residual(const struct chordal_problem *pro
             rows[problem->a_rows.at[k]] += problem->a_values.at[k] * x[c];
     for (uint32_t r = 0; r < problem->m; r++) {
         double away = rows[r] < 0 ? -rows[r] : rows[r];
-        /* a NaN stays */
+        /* a NaN is kept */
         if (away > most || away != away) most = away;
     }
     return most;

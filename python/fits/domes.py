@@ -1,10 +1,11 @@
 """A dome's alignment fit from a seed: projectors in a ring and one at the zenith, markers on the seams between them.
 
 Projector i turns its own directions by a rotation R_i into the sky's. A marker on the seam of i and j is seen at m_i and m_j.
-The fit takes the rotations that bring both images of every marker together, in least squares: it maximises the sum of
-m_iᵀ R_iᵀ R_j m_j, that is ⟨C, Z⟩ over Z = (R_iᵀ R_j) with identities on the diagonal. The dual is the semidefinite problem
-that is solved here, min tr Λ with Λ − C positive semidefinite, Λ having a symmetric block of size 3 for each projector; the
-rotations stand in the kernel of Λ − C. C has blocks only where two projectors share a seam, so the cone is cut by that graph.
+The fit finds the rotations that bring both images of every marker together, in the least-squares sense: it maximises the sum
+of m_iᵀ R_iᵀ R_j m_j, that is ⟨C, Z⟩ over Z = (R_iᵀ R_j) with identities on the diagonal. The dual is the semidefinite problem
+that is solved here, min tr Λ with Λ − C positive semidefinite, where Λ has a symmetric block of size 3 for each projector; the
+rotations are read from the kernel of Λ − C. C has blocks only where two projectors share a seam, so the cone is cut by that
+graph.
 """
 import dataclasses
 import math
@@ -27,7 +28,8 @@ class Dome:
     seams: list
 
     def rotations(self, x):
-        """The rotations of a fit's unknowns: the kernel of Λ − C, each block made a rotation, the zenith's the identity."""
+        """Returns the rotations for a fit's unknowns: the blocks of the kernel of Λ − C, made orthogonal, and turned so that the
+        zenith's is the identity."""
         slack = numpy.asarray(self.problem.b) - self.problem.a.times(x, self.problem.m)
         _, vectors = numpy.linalg.eigh(smat(slack))
         kernel = vectors[:, :3]
@@ -39,7 +41,7 @@ class Dome:
         return [turned[-1].T @ r for r in turned]
 
     def images(self, x):
-        """For each marker its seam's number, its direction in the sky, and both images by the fit's rotations."""
+        """Returns for each marker its seam's number, its direction in the sky, and both images under the fit's rotations."""
         turn = self.rotations(x)
         return [
             (k, sky, turn[i] @ first, turn[j] @ second)
@@ -48,7 +50,7 @@ class Dome:
         ]
 
     def gaps(self, x):
-        """How far apart both images of each marker are, in arc seconds."""
+        """Returns how far apart both images of each marker are, in arc seconds."""
         pairs = self.images(x)
         return numpy.array([2 * math.asin(min(1.0, numpy.linalg.norm(p - q) / 2)) / ARC_SECOND for _, _, p, q in pairs])
 
@@ -66,7 +68,7 @@ def _rotation(draws, most):
 
 
 def dome(ring, seed, markers=6, noise=10.0):
-    """A dome with `ring` projectors in a ring and one at the zenith, `markers` on each seam, seen with `noise` arc seconds."""
+    """Returns a dome with `ring` projectors in a ring and one at the zenith, `markers` on each seam, seen with `noise` arc seconds."""
     draws = numpy.random.default_rng(seed)
     projectors, zenith = ring + 1, ring
     truth = [_rotation(draws, 0.6) for _ in range(ring)] + [numpy.eye(3)]

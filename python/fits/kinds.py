@@ -1,5 +1,5 @@
-"""Problems of other kinds from a seed: arrows, bands, random chordal ones and mixed ones, each with solutions inside the
-cones on both sides, so that a solver reaches its optimum."""
+"""Problems of other kinds from a seed: arrows, bands, random chordal and mixed ones, each with primal and dual solutions inside
+the cones, so that a solver reaches the optimum."""
 import dataclasses
 import math
 
@@ -12,7 +12,7 @@ from .trees import clique_tree
 
 
 def _inside(cone, draws, pairs, dual):
-    # values well inside the cone; a PSD slack has no entries beside `pairs`
+    # values well inside the cone; a PSD slack has off-diagonal entries at `pairs` only
     if cone.kind == 0:
         return draws.normal(size=cone.size) if dual else numpy.zeros(cone.size)
     if cone.kind == 1:
@@ -36,9 +36,9 @@ def _mask(size, pairs):
 
 
 def inside(cones, pairs, n, seed, density=0.4, quadratic=False, repeats=0, slack=None):
-    """A problem with `n` unknowns over `cones`, whose PSD cones have entries at their `pairs` alone and get a clique tree of
-    them. With `repeats`, so many entries of A are split into two; with `slack`, other pairs, there is a solution whose slack has
-    entries at these alone."""
+    """Returns a problem with `n` unknowns over `cones`, whose PSD cones have off-diagonal entries at their `pairs` only and get
+    a clique tree of these. `repeats` entries of A are split into two; with `slack`, other pairs, there is a solution whose slack
+    has entries at these only."""
     draws = numpy.random.default_rng(seed)
     blocks = []
     for place, cone in enumerate(cones):
@@ -49,7 +49,7 @@ def inside(cones, pairs, n, seed, density=0.4, quadratic=False, repeats=0, slack
             block *= numpy.array([mask[i, j] for i, j in triangle(cone.size)])[:, None]
         blocks.append(block)
     dense = numpy.concatenate(blocks)
-    # every unknown is held
+    # every column has an entry
     for column in range(n):
         if not dense[:, column].any():
             dense[0, column] = 1.0
@@ -71,7 +71,7 @@ def inside(cones, pairs, n, seed, density=0.4, quadratic=False, repeats=0, slack
 
 
 def _split(a, draws, count):
-    # two cameras see the same marker: an entry becomes two of its row
+    # two cameras see the same marker: an entry becomes two entries in its row
     chosen = set(draws.choice(len(a.values), size=min(count, len(a.values)), replace=False).tolist())
     starts, rows, values = [0], [], []
     for column in range(len(a.starts) - 1):
@@ -84,7 +84,7 @@ def _split(a, draws, count):
 
 
 def arrow(size, n, seed):
-    """A least-squares fit by an arrow: t above |Fx − g|², the matrix [[t, (Fx − g)ᵀ], [Fx − g, I]]."""
+    """Returns a least-squares fit with an arrow matrix: t is at least |Fx − g|² where [[t, (Fx − g)ᵀ], [Fx − g, I]] is PSD."""
     draws = numpy.random.default_rng(seed)
     f, g = draws.normal(size=(size - 1, n)), draws.normal(size=size - 1)
     head = numpy.zeros((size, size))
@@ -105,29 +105,29 @@ def arrow(size, n, seed):
 
 
 def band_pairs(size, width):
-    """The pairs of a band."""
+    """Returns the pairs of a band."""
     return [(i, j) for j in range(size) for i in range(max(0, j - width), j)]
 
 
 def random_pairs(size, count, seed):
-    """So many pairs at random."""
+    """Returns up to `count` random pairs."""
     draws = numpy.random.default_rng(seed)
     return sorted({tuple(sorted(draws.choice(size, size=2, replace=False).tolist())) for _ in range(count)})
 
 
 def band(size, width, n, seed):
-    """One PSD cone with entries in a band."""
+    """Returns a problem with one PSD cone with entries in a band."""
     return inside([Cone.psd_triangle(size)], {0: band_pairs(size, width)}, n, seed)
 
 
 def chordal(size, count, n, seed):
-    """One PSD cone with entries at random pairs."""
+    """Returns a problem with one PSD cone with entries at random pairs."""
     return inside([Cone.psd_triangle(size)], {0: random_pairs(size, count, seed + 1)}, n, seed)
 
 
 def mixed(n, seed):
-    """A quadratic cost over a zero, a nonnegative and a second order cone, a PSD cone that stays whole and two that are cut,
-    with entries of A repeated."""
+    """Returns a problem with a quadratic cost, a zero, a nonnegative and a second order cone, a PSD cone that stays whole and two
+    that are cut, with entries of A repeated."""
     cones = [Cone.zero(2), Cone.psd_triangle(12), Cone.nonnegative(4), Cone.psd_triangle(4), Cone.second_order(5),
              Cone.psd_triangle(10)]
     pairs = {1: band_pairs(12, 2), 5: random_pairs(10, 12, seed + 1)}
@@ -135,7 +135,7 @@ def mixed(n, seed):
 
 
 def forgotten(size, width, n, seed):
-    """A band, and the same problem with the pattern of a narrower one, which does not cover all of A. Both have solutions."""
+    """Returns a band, and the same problem with the pattern of a narrower band, which does not cover all of A. Both have solutions."""
     narrow = band_pairs(size, width - 1)
     right = inside([Cone.psd_triangle(size)], {0: band_pairs(size, width)}, n, seed, slack={0: narrow})
     return right, dataclasses.replace(right, patterns=[clique_tree(size, narrow)])

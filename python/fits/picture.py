@@ -1,4 +1,4 @@
-"""Draws a dome's seams from above as SVG: both images of each marker, their distance enlarged, of a right and a broken fit."""
+"""Draws a dome's seams from above as SVG: both images of each marker, their distance enlarged, for a right and a broken fit."""
 import math
 
 import numpy
@@ -16,7 +16,7 @@ def _text(x, y, s, size=13, anchor="middle", weight="normal", fill=INK):
 
 
 def _above(direction):
-    # the dome from above: the zenith in the middle, the horizon on the rim
+    # seen from above: the zenith in the middle, the horizon on the rim
     flat = math.hypot(direction[0], direction[1])
     away = math.atan2(flat, direction[2]) / (math.pi / 2)
     return (0.0, 0.0) if flat == 0 else (away * direction[0] / flat, away * direction[1] / flat)
@@ -51,7 +51,7 @@ def draw(dome, right, broken, path):
     out = [f'<svg xmlns="http://www.w3.org/2000/svg" viewBox="0 0 {WIDTH} {HEIGHT}" font-family="sans-serif">',
            f'<rect width="{WIDTH}" height="{HEIGHT}" fill="white"/>']
     halves = [(190, "right fit", right.solution, right), (570, f"overlap {broken.overlap} tied to a wrong row", wrong, broken.run.solved)]
-    # the broken seams are to be seen and not to cross the dome
+    # large enough to show the broken seams, small enough that they do not cross the dome
     enlarged = max(1, min(40, int(0.25 / (dome.gaps(wrong.x).max() * ARC_SECOND))))
     for cx, name, joined, solved in halves:
         out.append(_text(cx, 28, name, 16, weight="bold"))

@@ -1,4 +1,4 @@
-"""CVXOPT behind the cut: any problem whose cones are zero, nonnegative, second order and PSD. Seconds are the process's own."""
+"""CVXOPT as the solver behind the cut, for zero, nonnegative, second order and PSD cones. Seconds are process time."""
 import dataclasses
 import math
 import time
@@ -15,7 +15,7 @@ ROOT = math.sqrt(2)
 
 @dataclasses.dataclass
 class Solved:
-    """A solution, how the solver ended, and its own account: value, gap and the larger of its residuals."""
+    """A solution, how the solver ended, and what it reports: value, gap and the larger of its residuals."""
 
     solution: Solution
     status: str
@@ -27,7 +27,7 @@ class Solved:
 
 
 def _places(problem):
-    # for each row where it goes: CVXOPT takes equations apart, then nonnegative, second order, PSD as whole matrices
+    # the cones of each kind with their first rows: CVXOPT takes equations, nonnegative, second order and PSD cones separately
     rows = {Kind.ZERO: [], Kind.NONNEGATIVE: [], Kind.SECOND_ORDER: [], Kind.PSD_TRIANGLE: []}
     first = 0
     for cone in problem.cones:
@@ -37,10 +37,10 @@ def _places(problem):
 
 
 def solve(problem, tolerance=1e-9):
-    """Solves a problem by CVXOPT. Rows of PSD cones are scaled by the root of 2 beside the diagonal. Returns `Solved`."""
+    """Solves a problem by CVXOPT. Off-diagonal rows of PSD cones are scaled by the root of 2. Returns `Solved`."""
     rows, a, b = _places(problem), problem.a.dense(problem.m), numpy.asarray(problem.b, dtype=float)
     equal = [r for cone, first in rows[Kind.ZERO] for r in range(first, first + cone.size)]
-    # an equation without entries says 0 = 0, where no clique covers a row
+    # where no clique covers a row, its equation is 0 = 0 and is left out
     equal = [r for r in equal if a[r].any() or b[r] != 0]
     parts, back, height = [], [], 0
     for kind in (Kind.NONNEGATIVE, Kind.SECOND_ORDER):
@@ -67,7 +67,7 @@ def solve(problem, tolerance=1e-9):
     start = time.process_time()
     answer = _run(p, q, g, h, dims, a[equal], b[equal], tolerance)
     if answer["status"] != "optimal":
-        # some fits come no nearer than CVXOPT's own tolerance
+        # some fits reach only CVXOPT's own tolerance
         answer = _run(p, q, g, h, dims, a[equal], b[equal], 100 * tolerance)
     seconds = time.process_time() - start
     s, z = numpy.zeros(problem.m), numpy.zeros(problem.m)
@@ -83,7 +83,7 @@ def solve(problem, tolerance=1e-9):
 
 
 def _taken(values, length):
-    # a solver that finds a problem infeasible gives no values
+    # a solver that finds a problem infeasible returns no values
     return numpy.full(length, numpy.nan) if values is None else numpy.array(values).ravel()
 
 
@@ -106,7 +106,7 @@ def _run(p, q, g, h, dims, a, b, tolerance):
 
 @dataclasses.dataclass
 class Routed:
-    """A solve through a route: the augmented sizes, the joined solution, and the seconds of cut, solve and joining."""
+    """A solve on a route: the augmented sizes, the joined solution, and the seconds of cut, solve and joining."""
 
     rows: int
     columns: int

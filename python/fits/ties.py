@@ -1,4 +1,4 @@
-"""Wrong ties: an overlap of the compact cut whose −1 stands in another row of its parent's block."""
+"""Wrong ties: an overlap of the compact cut whose −1 is in another row of its parent's block."""
 import dataclasses
 import math
 
@@ -8,13 +8,13 @@ from tejiwakpa import Route, original_residual
 
 from .solver import Routed, solve_on
 
-# what would be taken for a good fit
+# bounds within which a fit would be taken for a good one
 GAP, RESIDUAL, ARC_MINUTE, CLOSE = 1e-7, 1e-7, 60.0, 1e-3
 
 
 @dataclasses.dataclass
 class Broken:
-    """A solve with one wrong tie: the overlap, the row where its −1 belongs and the one where it stood."""
+    """A solve with one wrong tie: the overlap, the row where its −1 belongs and the row where it was put."""
 
     overlap: int
     right: int
@@ -50,19 +50,19 @@ def run(dome, overlap, seed, tolerance=1e-9):
 
 
 def overlaps(problem):
-    """How many overlaps the compact cut of a problem has."""
+    """Returns how many overlaps the compact cut of a problem has."""
     return sum(len(c.separator) * (len(c.separator) + 1) // 2 for p in problem.patterns for c in p.cliques)
 
 
 def many(dome, count, seed, said=lambda done, total: None):
-    """Solves with one wrong tie after the other, each overlap once before any has a second wrong row."""
+    """Solves with one wrong tie at a time, `count` times; each overlap is broken once before any is broken again."""
     draws = numpy.random.default_rng(seed)
     total = overlaps(dome.problem)
     results = []
     chosen = [int(k) for _ in range(-(-count // total)) for k in draws.permutation(total)][:count]
     for done, overlap in enumerate(chosen, 1):
         try:
-            # the first time around as `--break-a-tie` has it, then with other rows
+            # in the first round the same row as `--break-a-tie` takes, then other rows
             results.append(run(dome, overlap, seed + (done - 1) // total))
         except (ArithmeticError, ValueError):
             # the solver gave up
@@ -72,18 +72,18 @@ def many(dome, count, seed, said=lambda done, total: None):
 
 
 def optimal(broken):
-    """Whether the solver ended as if all were well."""
+    """Returns whether the solver ended as if nothing were wrong."""
     return broken is not None and broken.run.solved.status == "optimal" and broken.run.solved.gap < GAP
 
 
 def clearest(dome, results):
-    """Of solves with a wrong tie that ended as if all were well, one whose seams a picture shows best."""
+    """Returns, of the solves with a wrong tie that ended as if nothing were wrong, the one whose seams a picture shows best."""
     ended = [r for r in results if optimal(r)]
     return min(ended, key=lambda r: abs(math.log(max(1.0, dome.gaps(r.run.joined.x).max()) / (15 * ARC_MINUTE))))
 
 
 def report(dome, results, right):
-    """The table of wrong ties beside the right fit, as Markdown."""
+    """Returns the table of wrong ties compared with the right fit, as Markdown."""
     ended = [r for r in results if optimal(r)]
     most = [dome.gaps(r.run.joined.x).max() for r in ended]
     away = [abs(r.run.solved.value - right.value) / max(1.0, abs(right.value)) for r in ended]

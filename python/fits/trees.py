@@ -1,10 +1,10 @@
-"""Clique trees of sparse symmetric matrices. The search is no part of the proved calls: any tree that they accept serves."""
+"""Clique trees of sparse symmetric matrices. The search is not one of the proved calls: any tree that they accept will do."""
 from tejiwakpa import Clique, Pattern
 
 
 def clique_tree(size, pairs, orig_index=0):
-    """The pattern of a PSD cone whose entries beside the diagonal stand at `pairs`, filled so that it is chordal: the vertex
-    with the fewest neighbours left goes first. Returns the pattern, whose vertices are places in that order."""
+    """Finds the pattern of a PSD cone whose off-diagonal entries are at `pairs`, with fill-in that makes it chordal: the vertex
+    with the fewest remaining neighbours is eliminated first. Returns the pattern, whose vertices are places in that order."""
     near = [set() for _ in range(size)]
     for i, j in pairs:
         if i != j:
@@ -25,7 +25,7 @@ def clique_tree(size, pairs, orig_index=0):
 
 
 def _cliques(higher):
-    # a vertex joins the snode of the one before it whose later neighbours are it and its own
+    # a vertex joins the snode of an earlier one whose later neighbours are exactly this vertex and its later neighbours
     snodes, of = [], {}
     for vertex, found in enumerate(higher):
         number = of.get(vertex)
@@ -36,7 +36,7 @@ def _cliques(higher):
         if found and found[0] not in of and len(higher[found[0]]) == len(found) - 1:
             of[found[0]] = number
     holder = {vertex: number for number, snode in enumerate(snodes) for vertex in snode}
-    # each before its parent: by the last vertex of the snode
+    # sorted by the last vertex of the snode, so that each clique comes before its parent
     rank = sorted(range(len(snodes)), key=lambda number: snodes[number][-1])
     new = {number: k for k, number in enumerate(rank)}
     cliques = []

@@ -1,4 +1,4 @@
-"""The calls: each gives its full result or raises one `Refusal`."""
+"""The calls: each returns its full result or raises one `Refusal`."""
 import ctypes
 import dataclasses
 
@@ -23,7 +23,7 @@ def _room(length, dtype):
 
 
 def pair_index(i, j):
-    """The index of the pair (i, j) in the packed upper triangle, column by column, in either order.
+    """Returns the index of the pair (i, j), in either order, in the upper triangle packed column by column.
 
     >>> pair_index(2, 5)
     17
@@ -34,7 +34,7 @@ def pair_index(i, j):
 
 
 def pair_back(index):
-    """Row and column of an index in the packed upper triangle.
+    """Returns row and column of an index in the packed upper triangle.
 
     >>> pair_back(17)
     (2, 5)
@@ -45,7 +45,7 @@ def pair_back(index):
 
 
 def inverse(permutation):
-    """The inverse of a permutation: for each number its place.
+    """Returns the inverse of a permutation: for each number its index.
 
     >>> inverse([2, 0, 1])
     [1, 2, 0]
@@ -56,7 +56,7 @@ def inverse(permutation):
 
 
 def renumber(pattern):
-    """The pattern with its vertices numbered by rising clique and, within a snode, by rising old number."""
+    """Returns the pattern with its vertices renumbered clique by clique and, within a snode, in the order of the old numbers."""
     words = door.words(pattern.words())
     out = _room(len(words), numpy.uint32)
     _done(door.call("chordal_renumber", words, out))
@@ -87,24 +87,24 @@ def _sizes(route, tables):
 
 
 def sizes(route, problem):
-    """The lengths of the outputs that `cut` makes of the problem: `b` is the number of augmented rows, `q` of unknowns."""
+    """Returns the lengths of the outputs of `cut` for this problem: `b` is the number of augmented rows, `q` that of unknowns."""
     number, lengths = _sizes(route, problem.tables())
     _done(number, lambda: fault(problem, route))
     return lengths
 
 
 def covers(problem):
-    """Whether the patterns cover A and b: no stored entry of A and no b unequal to zero lies in a row that no clique of
+    """Returns whether the patterns cover A and b: no stored entry of A and no nonzero b is in a row that no clique of
     its cone's pattern covers.
 
-    The standard route takes a problem whose patterns do not. Its fit then is another, stricter one, and no residual
-    shows it; the compact route refuses such a problem, number 9. A problem that is refused otherwise raises that.
+    The standard route accepts a problem whose patterns do not. The fit is then another, stricter one, and no residual
+    shows it; the compact route refuses such a problem, number 9. Any other refusal is raised.
     """
     try:
         sizes(Route.COMPACT, problem)
     except Refusal as refused:
         if refused.number == 10:
-            # the number of overlaps is no matter of covering, and 9 comes before it
+            # check 9 comes before 10, so a problem that is refused as too large is covered
             return True
         if refused.number != 9:
             raise
@@ -137,10 +137,10 @@ class _Buffers:
 
 
 def cut(route, problem):
-    """Cuts the PSD cones that have a pattern into their cliques: the augmented problem, and where its cones come from.
+    """Cuts the PSD cones that have a pattern into their cliques. Returns the augmented problem, and where its cones come from.
 
     On the standard route a pattern that does not cover A and b is accepted, and the fit is then another, stricter
-    problem; `cut_covered` asks first.
+    problem; `cut_covered` checks that first.
 
     >>> cut(Route.COMPACT, Problem.three_projectors()).problem.b.tolist()
     [3.0, 4.0, 5.0, 1.0, 2.0, 0.0]
@@ -154,7 +154,7 @@ def cut(route, problem):
 
 
 def cut_covered(route, problem):
-    """The cut of a problem whose patterns cover A and b; on either route number 9 where they do not."""
+    """Cuts a problem whose patterns cover A and b; refuses it on either route, number 9, where they do not."""
     if not covers(problem):
         found = fault(problem, Route.COMPACT)
         raise Refusal(9, found.where if found is not None and found.number == 9 else "")
@@ -162,8 +162,8 @@ def cut_covered(route, problem):
 
 
 def cut_between(problem, low, high):
-    """The compact cut of a problem whose b is known only as a low and a high limit: the augmented problem, whose b is the
-    low limits', and both augmented limits."""
+    """Cuts a problem on the compact route whose b is known only as a low and a high limit. Returns the augmented problem, with
+    the augmented low limits as its b, and both augmented limits."""
     tables = problem.tables(low, high)
     _, lengths = _sizes(Route.COMPACT, problem.tables(low))
     made = _Buffers(lengths, 2)
@@ -172,8 +172,8 @@ def cut_between(problem, low, high):
 
 
 def cut_many(problem, sides):
-    """The compact cut of one problem with 1 to 64 right sides, its own b being passed over: the augmented problem, whose b is
-    the first side's, and each side's augmented b in turn. Each is what `cut` gives for that side alone; where several sides
+    """Cuts one problem on the compact route with 1 to 64 right sides; its own b is not read. Returns the augmented problem, with
+    the first side's b, and each side's augmented b in turn. Each is what `cut` gives for that side alone; if several sides
     would be refused, the first of them gives the number.
 
     >>> problem = Problem.three_projectors()
@@ -185,7 +185,7 @@ def cut_many(problem, sides):
     _, lengths = _sizes(Route.COMPACT, problem.tables(taken[0] if taken else []))
     values = numpy.concatenate([*taken, numpy.zeros(0)])
     if any(len(side) != problem.m for side in taken) and len(values) == len(taken) * problem.m:
-        # lengths that only even out are wrong all the same
+        # sides of wrong lengths whose total is right are refused all the same
         values = numpy.append(values, 0.0)
     made = _Buffers(dataclasses.replace(lengths, b=lengths.b * len(taken)))
     number = door.call("chordal_cut_many", door.word(len(sides)), *problem.tables(values), *made.outputs())
@@ -196,22 +196,22 @@ def cut_many(problem, sides):
 
 
 def _tables(lengths):
-    """Rooms for a problem's eleven tables."""
+    """Returns buffers for a problem's eleven tables."""
     words, values = numpy.uint32, numpy.float64
     kinds = [words, words, values, values, words, words, values, values, words, values, words]
     return [_room(length, kind) for length, kind in zip(lengths, kinds)]
 
 
 def _problem(n, m, count, tables):
-    """The problem of tables that a call has written."""
+    """Returns the problem of tables that a call has written."""
     p_starts, p_rows, p_values, q, a_starts, a_rows, a_values, b, cones, alphas, patterns = tables
     return Problem(n, m, Columns(p_starts, p_rows, p_values), q, Columns(a_starts, a_rows, a_values), b, read_cones(cones, alphas),
                    Pattern.all_from_words(count, patterns))
 
 
 def pool(first, second):
-    """Pools two passes over one dome, which share their unknowns: A over A, b over b, cones and patterns in turn; P and q are
-    the first's.
+    """Pools two passes over one dome, which share their unknowns: A over A, b over b, cones and patterns one after the other; P
+    and q are the first's.
 
     >>> pooled = pool(Problem.three_projectors(), Problem.three_projectors())
     >>> pooled.m, [pattern.orig_index for pattern in pooled.patterns]
@@ -256,17 +256,17 @@ def _solved(problem, solution):
 
 
 def _size(number):
-    # a size beyond the bound is refused whatever the room
+    # a size above the bound is refused whatever the outputs' lengths
     return min(max(number, 0), MOST_SIZE)
 
 
 def join(route, problem, entries, solution):
-    """Joins a solution of the augmented problem to one of the original problem, of which only n, m, the cones and the
-    patterns are read. `entries` is the cut's map; the standard route reads none.
+    """Joins a solution of the augmented problem into one of the original problem, of which only n, m, the cones and the
+    patterns are read. `entries` is the cut's map; the standard route does not read it.
 
     In rows of cut cones z is the last walked block's value on the compact route and the blocks' mean on the standard one,
-    and zero where no clique covers: entries of a matrix to be completed, not a PSD matrix. See `original_residual` for
-    what to watch.
+    and zero in a row that no clique covers: entries of a matrix to be completed, not a PSD matrix. See `original_residual`
+    for what to watch.
     """
     outs = [_room(_size(problem.n), float), _room(_size(problem.m), float), _room(_size(problem.m), float), _room(2, float)]
     number = door.call("chordal_join", int(route), *_solved(problem, solution), _map_words(entries), *outs)
@@ -276,8 +276,8 @@ def join(route, problem, entries, solution):
 
 
 def change_route(problem, solution):
-    """A solution of the standard cut as one of the compact cut of the same problem: a fit that began on the standard route
-    goes on with the compact one from where it is. τ and κ are copied."""
+    """Returns a solution of the standard cut as one of the compact cut of the same problem, so that a fit that began on the
+    standard route can continue on the compact one. τ and κ are copied."""
     rows = sum(cone.nvars() for cone in problem.cones)
     overlaps = 0
     for pattern in problem.patterns:
@@ -296,18 +296,18 @@ def change_route(problem, solution):
 
 
 def same_layout(first, second):
-    """Whether n, m, the cones with their exponents, the patterns, and the starts and rows of A and P of two problems agree:
-    what was worked out from one cut's places then serves the other."""
+    """Returns whether n, m, the cones with their exponents, the patterns, and the starts and rows of A and P of two problems
+    agree: a symbolic result computed for one cut can then be reused for the other."""
     out = _room(1, numpy.uint32)
     _done(door.call("chordal_same_layout", *first.tables(), *second.tables(), out), lambda: fault(first) or fault(second))
     return bool(out[0])
 
 
 def original_residual(problem, solution):
-    """The largest |Ax + s − b| of a joined solution in the original problem's rows: what a site should watch.
+    """Returns the largest |Ax + s − b| of a joined solution in the original problem's rows: what a site should watch.
 
-    A solver's own residuals are those of the augmented equations. Where one of these were wrong, they would still
-    vanish; this one would not.
+    A solver's own residuals are those of the augmented equations. If one of these equations were wrong, the solver's
+    residuals would still vanish; this one would not.
 
     >>> problem = Problem.three_projectors()
     >>> original_residual(problem, Solution([0.0], problem.b, [0.0] * 6))

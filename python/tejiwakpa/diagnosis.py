@@ -1,7 +1,7 @@
-"""Finds the first place at fault in a problem that was refused: a plain walk of its own, a diagnosis and no promise.
+"""Finds the first place at fault in a problem that was refused, independently of the calls: a diagnosis and not a promise.
 
-Which number a call answers is decided by the call. `fault` walks the checks in the same order and names the column, row,
-cone, pattern or clique at which the first of them fails; the tests hold its number to the call's on damaged problems.
+The call decides the refusal number. `fault` makes the checks in the same order and names the column, row, cone, pattern or
+clique at which the first of them fails; the tests compare its number with the call's on damaged problems.
 """
 import dataclasses
 
@@ -152,7 +152,7 @@ def _cliques(problem):
 
 
 def uncovered(problem):
-    """The rows of cut cones that no clique covers, each with its cone and its pair."""
+    """Returns the rows of cut cones that no clique covers, each with its cone and its pair."""
     rows, first = {}, problem.first_rows()
     for pattern in problem.patterns:
         covered = set()
@@ -181,7 +181,7 @@ def _uncovered(problem, sides):
 
 
 def counts(problem):
-    """The rows of all blocks and whole cones, and how many of them are overlaps."""
+    """Returns the number of rows of all blocks and whole cones, and how many of them are overlaps."""
     rows, overlaps = sum(cone.nvars() for cone in problem.cones), 0
     for pattern in problem.patterns:
         rows -= problem.cones[pattern.orig_index].nvars()
@@ -229,12 +229,12 @@ def _of_route(problem, route, sides):
 
 
 def fault(problem, route=None):
-    """The first fault of a problem, on a route where one is given; none where nothing is found."""
+    """Returns the first fault of a problem, on a route if one is given, or None."""
     return _first(_before_patterns(problem) + _of_patterns(problem) + _of_route(problem, route, [("b", problem.b)]))
 
 
 def limits_fault(problem, low, high):
-    """The first fault of a problem with limits in place of b."""
+    """Returns the first fault of a problem with limits instead of b, or None."""
     sided = dataclasses.replace(problem, b=low)
 
     def length():
@@ -263,7 +263,7 @@ def _sketch(problem):
 
 
 def fault_of_solution(problem, route, solution):
-    """The first fault of what a joining takes, without the map."""
+    """Returns the first fault of a joining's input except its map, or None."""
 
     def lengths():
         rows, overlaps = counts(problem)
@@ -280,7 +280,7 @@ def fault_of_solution(problem, route, solution):
 
 
 def fault_of_map(problem, route, entries):
-    """The first entry of a compact joining's map that is not the cut's."""
+    """Returns the first fault of a compact joining's map, an entry that is not the cut's, or None."""
     if route != Route.COMPACT:
         return None
     patterns, row, place = {p.orig_index: (k, p) for k, p in enumerate(problem.patterns)}, 0, 0

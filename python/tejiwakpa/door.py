@@ -1,4 +1,4 @@
-"""The door: the calls of libdoor.a over numpy arrays. Arguments are checked by the calls alone."""
+"""The door: the calls of libdoor.a over numpy arrays. Only the calls check arguments."""
 import ctypes
 import os
 import pathlib
@@ -11,7 +11,7 @@ _library = None
 
 
 def library():
-    """The shared library: the file that CHORDAL_LIBRARY names, or else the one that python/setup has linked."""
+    """Returns the shared library: the file that CHORDAL_LIBRARY names, or else the one that python/setup has linked."""
     global _library
     if _library is None:
         path = os.environ.get("CHORDAL_LIBRARY", str(_SHARED))
@@ -23,7 +23,7 @@ def library():
 
 
 def words(values):
-    """The values as a table of u32. A number that no u32 holds becomes the largest, which the checks refuse."""
+    """Returns the values as a table of u32. A number that does not fit becomes the largest u32, which the checks refuse."""
     if isinstance(values, numpy.ndarray) and values.dtype == numpy.uint32 and values.flags.c_contiguous:
         return values
     wide = numpy.asarray(values, dtype=numpy.int64).reshape(-1)
@@ -31,29 +31,29 @@ def words(values):
 
 
 def word(value):
-    """The value as a u32; one that no u32 holds becomes the largest."""
+    """Returns the value as a u32; one that does not fit becomes the largest u32."""
     return int(value) if 0 <= value <= NONE else NONE
 
 
 def numbered(number):
-    """The word of a parent's or pattern's number, the mark for none. A number that is the mark or outside becomes the largest
-    word that is not the mark, which is refused."""
+    """Returns the word of a parent's or pattern's number, and the mark for None. A number that equals the mark or does not fit
+    becomes the largest word that is not the mark, which is refused."""
     return NONE if number is None else int(number) if 0 <= number < NONE else NONE - 1
 
 
 def doubles(values):
-    """The values as a table of f64."""
+    """Returns the values as a table of f64."""
     return numpy.ascontiguousarray(values, dtype=numpy.float64).reshape(-1)
 
 
 def call(name, *arguments):
-    """Calls `name`: an array passes as pointer and length, an int as u32, a float as double, and what ctypes made as it is.
+    """Calls `name`: passes an array as pointer and length, an int as u32, a float as double, and a ctypes value as it is.
     Returns the refusal number."""
     passed, kept = [], []
     for argument in arguments:
         if isinstance(argument, numpy.ndarray):
             if argument.size == 0:
-                # a pointer is never null
+                # the calls take no null pointer
                 argument = numpy.zeros(1, dtype=argument.dtype)
                 length = 0
             else:

@@ -1,4 +1,4 @@
-"""Problem files: docs/FILE.md says how one is laid out. `Problem.from_file` and `to_file` stand over these."""
+"""Problem files: docs/FILE.md has the format. `Problem.from_file` and `to_file` use these functions."""
 import ctypes
 
 import numpy
@@ -15,13 +15,13 @@ ENDS = Fault(5, "the pattern words end early or late")
 
 
 def lengths(counts):
-    """The lengths of a file's tables, from the eight counts of its header."""
+    """Returns the lengths of a file's tables, from the eight counts of its header."""
     n, m, p, a, cones, alphas, _, words = (int(count) for count in counts)
     return [n + 1, p, p, n, n + 1, a, a, m, 3 * cones, alphas, words]
 
 
 def offsets(sizes):
-    """Where the tables of these lengths begin, and where the last ends."""
+    """Returns where the tables of these lengths begin, and where the last ends."""
     begins, end = [], HEADER
     for size, width in zip(sizes, WIDTHS):
         begins.append(-(-end // STEP) * STEP)
@@ -30,11 +30,11 @@ def offsets(sizes):
 
 
 def from_bytes(data):
-    """The problem of a file's bytes. What is read passes checks 1 to 7; a cut may still refuse it."""
+    """Returns the problem of a file's bytes. A problem that is read passes checks 1 to 7; a cut may still refuse it."""
     data = numpy.frombuffer(data, dtype=numpy.uint8)
     words = _room(data.size // 4, numpy.uint32)
     _done(door.call("chordal_file_words", data, words))
-    # no table of a file that is accepted is longer than the file, whatever the counts say
+    # no table of an accepted file is longer than the file, so larger counts need no larger outputs
     counts = numpy.minimum(numpy.resize(words, 8) if words.size >= 8 else _room(8, numpy.uint32), words.size)
     read, tables = _room(8, numpy.uint32), _tables(lengths(counts))
     number = door.call("chordal_read_file", words, ctypes.c_size_t(data.size), read, *tables)
@@ -43,7 +43,7 @@ def from_bytes(data):
 
 
 def to_bytes(problem):
-    """The bytes of the problem's file, where checks 1 to 7 let it pass."""
+    """Returns the bytes of the problem's file, if it passes checks 1 to 7."""
     tables = problem.tables()
     _, end = offsets([len(table) for table in tables if isinstance(table, numpy.ndarray)])
     out = _room(end, numpy.uint8)
@@ -52,7 +52,7 @@ def to_bytes(problem):
 
 
 def _shape(data):
-    # the first of 13 and 14 that fails
+    # the first of checks 13 and 14 that fails
     if len(data) < HEADER:
         return Fault(13, f"the file has {len(data)} bytes, fewer than its header's {HEADER}")
     header = numpy.frombuffer(data[:HEADER], dtype="<u4").tolist()
@@ -75,7 +75,7 @@ def _shape(data):
 
 
 def fault_of_file(data):
-    """Finds the first place at fault in a file's bytes, as `fault` does in a problem; none where it finds nothing."""
+    """Finds the first place at fault in a file's bytes, as `fault` does in a problem. Returns None if it finds nothing."""
     found = _shape(data)
     if found is not None:
         return found
@@ -86,7 +86,7 @@ def fault_of_file(data):
     try:
         problem = _problem(header[0], header[1], 0, tables)
     except ValueError:
-        # a cone of no kind
+        # a cone of an unknown kind
         return None
     found = fault(problem)
     if found is not None:

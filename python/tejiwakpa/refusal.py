@@ -23,7 +23,7 @@ MEANINGS = {
 class Refusal(Exception):
     """The first check that fails, by its number; a refused call has written nothing.
 
-    `where` names the first place that a plain walk finds at fault, a diagnosis and no promise; it is empty where the walk
+    `where` names the first place at fault, found by a walk in Python: a diagnosis and not a promise. It is empty if the walk
     finds none.
     """
 

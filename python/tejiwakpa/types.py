@@ -10,14 +10,14 @@ from . import door
 
 
 class Route(enum.IntEnum):
-    """The two ways to cut a problem. Both mean one problem; docs/ROUTES.md says which to take."""
+    """The two ways to cut a problem. Both mean the same problem; docs/ROUTES.md says which to take."""
 
     STANDARD = 0
     COMPACT = 1
 
 
 class Kind(enum.IntEnum):
-    """The seven kinds of cones, by their codes."""
+    """The seven kinds of cones, with their codes."""
 
     ZERO = 0
     NONNEGATIVE = 1
@@ -43,41 +43,41 @@ class Cone:
 
     @staticmethod
     def zero(size):
-        """The zero cone of this dimension."""
+        """Returns the zero cone of this dimension."""
         return Cone(Kind.ZERO, size)
 
     @staticmethod
     def nonnegative(size):
-        """The nonnegative orthant of this dimension."""
+        """Returns the nonnegative orthant of this dimension."""
         return Cone(Kind.NONNEGATIVE, size)
 
     @staticmethod
     def second_order(size):
-        """The second order cone of this dimension."""
+        """Returns the second order cone of this dimension."""
         return Cone(Kind.SECOND_ORDER, size)
 
     @staticmethod
     def exponential():
-        """The exponential cone, in three rows."""
+        """Returns the exponential cone, in three rows."""
         return Cone(Kind.EXPONENTIAL)
 
     @staticmethod
     def power(alpha):
-        """The power cone with this exponent, in three rows."""
+        """Returns the power cone with this exponent, in three rows."""
         return Cone(Kind.POWER, alphas=(alpha,))
 
     @staticmethod
     def gen_power(alphas, second):
-        """The generalised power cone: its exponents, and the dimension of its second part."""
+        """Returns the generalised power cone with these exponents, whose second part has dimension `second`."""
         return Cone(Kind.GEN_POWER, len(alphas), second, tuple(alphas))
 
     @staticmethod
     def psd_triangle(size):
-        """The upper triangles, column by column, of the positive semidefinite matrices of this size."""
+        """Returns the cone of the upper triangles, column by column, of positive semidefinite matrices of this size."""
         return Cone(Kind.PSD_TRIANGLE, size)
 
     def nvars(self):
-        """How many rows the cone has."""
+        """Returns how many rows the cone has."""
         if self.kind == Kind.PSD_TRIANGLE:
             return self.size * (self.size + 1) // 2
         if self.kind in (Kind.EXPONENTIAL, Kind.POWER):
@@ -85,14 +85,14 @@ class Cone:
         return self.size + self.second
 
     def record(self):
-        """The cone's record: its kind, first size and second size."""
+        """Returns the cone's record: its kind, first size and second size."""
         return [self.kind, self.size, self.second]
 
 
 @dataclasses.dataclass
 class Columns:
-    """A matrix in compressed columns: the entries of column c are those from `starts[c]` to `starts[c + 1]`, with rising
-    rows. A problem's A may repeat a row; the entry then is the sum of the run."""
+    """A matrix in compressed columns: the entries of column c are those from `starts[c]` to `starts[c + 1]`, with increasing
+    rows. A problem's A may repeat a row; the entry is then the sum of the run."""
 
     starts: typing.Sequence
     rows: typing.Sequence = ()
@@ -100,19 +100,19 @@ class Columns:
 
     @staticmethod
     def empty(columns):
-        """So many columns without entries."""
+        """Returns a matrix with this many columns and no entries."""
         return Columns([0] * (columns + 1))
 
     @staticmethod
     def of(matrix):
-        """The entries unequal to zero of a dense matrix."""
+        """Returns the nonzero entries of a dense matrix."""
         matrix = numpy.asarray(matrix, dtype=float)
         columns, rows = numpy.nonzero(matrix.T)
         starts = numpy.searchsorted(columns, numpy.arange(matrix.shape[1] + 1))
         return Columns(starts.astype(numpy.uint32), rows.astype(numpy.uint32), matrix.T[columns, rows])
 
     def dense(self, rows):
-        """The matrix with so many rows; repeated entries are added."""
+        """Returns the dense matrix with `rows` rows; repeated entries are added."""
         matrix = numpy.zeros((rows, len(self.starts) - 1))
         starts = numpy.asarray(self.starts, dtype=numpy.int64)
         columns = numpy.repeat(numpy.arange(len(starts) - 1), numpy.diff(starts))
@@ -120,7 +120,7 @@ class Columns:
         return matrix
 
     def times(self, x, rows):
-        """The matrix, with so many rows, times `x`."""
+        """Returns the product of the matrix, with `rows` rows, and `x`."""
         starts = numpy.asarray(self.starts, dtype=numpy.int64)
         factors = numpy.repeat(numpy.asarray(x, dtype=float), numpy.diff(starts))
         weights = numpy.asarray(self.values, dtype=float) * factors
@@ -136,7 +136,7 @@ class Clique:
     separator: typing.Sequence = ()
 
     def members(self):
-        """The snode and the separator."""
+        """Returns the members of the snode and of the separator."""
         return list(self.snode) + list(self.separator)
 
 
@@ -145,7 +145,7 @@ class Pattern:
     """The clique tree that a PSD cone is cut by.
 
     `ordering[v]` is the original vertex, a row of the cone's matrix, of vertex v; members of cliques are such v and not
-    original vertices. Cliques stand each before its parent; the last has none.
+    original vertices. Each clique comes before its parent; the last has none.
     """
 
     orig_index: int
@@ -153,8 +153,8 @@ class Pattern:
     cliques: typing.Sequence
 
     def words(self):
-        """The pattern as words: `orig_index`, vertex count, clique count, the ordering, and for each clique its parent,
-        snode count, separator count, snode members and separator members."""
+        """Returns the pattern as words: `orig_index`, vertex count, clique count, the ordering, and for each clique its
+        parent, snode count, separator count, snode members and separator members."""
         words = [self.orig_index, len(self.ordering), len(self.cliques), *self.ordering]
         for clique in self.cliques:
             parent = door.numbered(clique.parent)
@@ -184,7 +184,7 @@ class Pattern:
         return patterns
 
     def originals(self, clique):
-        """The original vertices of a clique's members, sorted: the rows of the matrix that its block is."""
+        """Returns the original vertices of a clique's members, sorted: the rows of the matrix in its block."""
         return sorted(self.ordering[v] for v in self.cliques[clique].members())
 
 
@@ -192,8 +192,8 @@ class Pattern:
 class Problem:
     """A conic problem, ½ xᵀPx + qᵀx with Ax + s = b and s in the cones, and the clique trees of the PSD cones to be cut.
 
-    P is passed on as it is, whole or upper, whichever the solver reads. A PSD cone's rows are its matrix's upper
-    triangle column by column; entries are only moved, so any scaling of those beside the diagonal serves.
+    P is passed on as it is, whole or upper triangle, whichever the solver reads. A PSD cone's rows are its matrix's upper
+    triangle column by column; entries are only moved, so any scaling of the off-diagonal ones works.
     """
 
     n: int
@@ -207,8 +207,8 @@ class Problem:
 
     @staticmethod
     def three_projectors():
-        """The example of these pages: one unknown and a PSD cone of dimension 3, cut into the cliques {0, 1} and {1, 2},
-        which overlap in vertex 1: row 2 belongs to both."""
+        """Returns the example of these pages: one unknown and a PSD cone of dimension 3, cut into the cliques {0, 1} and
+        {1, 2}, which overlap in vertex 1: row 2 belongs to both."""
         return Problem(
             1, 6, Columns.empty(1), [0.0], Columns([0, 5], [0, 1, 2, 4, 5], [10.0, 20.0, 30.0, 40.0, 50.0]),
             [1.0, 2.0, 3.0, 0.0, 4.0, 5.0], [Cone.psd_triangle(3)],
@@ -217,23 +217,23 @@ class Problem:
 
     @staticmethod
     def from_bytes(data):
-        """The problem of a problem file's bytes; docs/FILE.md says how a file is laid out.
+        """Returns the problem of a problem file's bytes; docs/FILE.md has the format.
 
         >>> Problem.from_bytes(Problem.three_projectors().to_bytes()).b.tolist()
         [1.0, 2.0, 3.0, 0.0, 4.0, 5.0]
         """
-        from . import file  # stands over the calls, and these over the types
+        from . import file  # imported here, since it imports the calls, and these import this module
 
         return file.from_bytes(data)
 
     @staticmethod
     def from_file(path):
-        """Reads a problem file, as other tools hand it over. What is read passes checks 1 to 7; a cut may still refuse it."""
+        """Reads a problem file, as other tools write it. A problem that is read passes checks 1 to 7; a cut may still refuse it."""
         with open(path, "rb") as file:
             return Problem.from_bytes(file.read())
 
     def to_bytes(self):
-        """The bytes of the problem's file. Those of a file that was read are the same again, whatever NaNs it holds.
+        """Returns the bytes of the problem's file. A file that is read and written again has the same bytes, whatever NaNs it holds.
 
         >>> len(Problem.three_projectors().to_bytes())
         296
@@ -243,22 +243,22 @@ class Problem:
         return file.to_bytes(self)
 
     def to_file(self, path):
-        """Writes the problem as a file, for other tools. A problem that is refused writes none."""
+        """Writes the problem as a file, for other tools. If the problem is refused, no file is written."""
         data = self.to_bytes()
         with open(path, "wb") as file:
             file.write(data)
 
     def cone_words(self):
-        """The cones' records and their exponents."""
+        """Returns the cones' records and their exponents."""
         return (door.words([w for cone in self.cones for w in cone.record()]),
                 door.doubles([a for cone in self.cones for a in cone.alphas]))
 
     def pattern_words(self):
-        """The patterns' words, one pattern after the other."""
+        """Returns the patterns' words, one pattern after the other."""
         return door.words([w for pattern in self.patterns for w in pattern.words()])
 
     def tables(self, *sides):
-        """The arguments of a call that takes a problem, with `sides` in place of b where they are given."""
+        """Returns the arguments of a call that takes a problem, with `sides` instead of b if they are given."""
         cones, alphas = self.cone_words()
         return [
             door.word(self.n), door.word(self.m),
@@ -269,14 +269,14 @@ class Problem:
         ]
 
     def map_place(self, pattern, clique):
-        """The place in the compact cut's map of the entry of a pattern's clique; none where there is no such clique."""
+        """Returns the index, in the compact cut's map, of the entry of a pattern's clique; None if there is no such clique."""
         if not 0 <= pattern < len(self.patterns) or not 0 <= clique < len(self.patterns[pattern].cliques):
             return None
         more = sum(max(0, len(p.cliques) - 1) for p in self.patterns[:pattern])
         return self.patterns[pattern].orig_index + more + len(self.patterns[pattern].cliques) - 1 - clique
 
     def first_rows(self):
-        """The first row of each cone."""
+        """Returns the first row of each cone."""
         return [0, *numpy.cumsum([cone.nvars() for cone in self.cones]).tolist()][:-1]
 
 
@@ -284,7 +284,7 @@ class Problem:
 class Solution:
     """A solution: of the augmented problem before `join`, of the original one after it.
 
-    A joining reads neither τ nor κ and gives 1 for both: divide x, s and z of a homogeneous embedding by τ first.
+    A joining reads neither τ nor κ and returns 1 for both: divide x, s and z of a homogeneous embedding by τ first.
     """
 
     x: typing.Sequence
@@ -305,7 +305,7 @@ class ConeMapEntry:
     rows: int
 
     def range(self):
-        """The cone's rows: where its values stand in b, s and z of the augmented problem."""
+        """Returns the slice of the cone's rows: where its values are in b, s and z of the augmented problem."""
         return slice(self.first_row, self.first_row + self.rows)
 
 
@@ -319,7 +319,7 @@ class Augmented:
 
 
 def read_cones(records, alphas):
-    """The cones of records that a cut has written, with their exponents."""
+    """Returns the cones of the records that a cut has written, with their exponents."""
     cones, taken = [], 0
     for kind, first, second in numpy.reshape(records, (-1, 3)).tolist():
         count = {Kind.POWER: 1, Kind.GEN_POWER: first}.get(kind, 0)
@@ -329,19 +329,19 @@ def read_cones(records, alphas):
 
 
 def triangle(size):
-    """The rows of a PSD cone: pairs (i, j), i at most j, column by column."""
+    """Returns the pair of each row of a PSD cone: (i, j), i at most j, column by column."""
     return [(i, j) for j in range(size) for i in range(j + 1)]
 
 
 def svec(matrix, off_diagonal=math.sqrt(2)):
-    """The upper triangle of a symmetric matrix column by column, its entries beside the diagonal times `off_diagonal`."""
+    """Returns the upper triangle of a symmetric matrix column by column, its off-diagonal entries times `off_diagonal`."""
     matrix = numpy.asarray(matrix, dtype=float)
     j, i = numpy.tril_indices(matrix.shape[0])
     return matrix[i, j] * numpy.where(i == j, 1.0, off_diagonal)
 
 
 def smat(values, off_diagonal=math.sqrt(2)):
-    """The symmetric matrix whose `svec` these values are."""
+    """Returns the symmetric matrix whose `svec` these values are."""
     values = numpy.asarray(values, dtype=float)
     size = int((math.isqrt(8 * len(values) + 1) - 1) // 2)
     j, i = numpy.tril_indices(size)

@@ -24,7 +24,7 @@ def load_tests(loader, tests, ignore):
 
 
 class Refused:
-    """Expects a refusal by its number, and a word of its place."""
+    """Expects a refusal with this number, and `where` in the description of its place."""
 
     def refused(self, number, call, *arguments, where=""):
         with self.assertRaises(Refusal) as caught:
@@ -79,7 +79,7 @@ class Marked(unittest.TestCase, Refused):
     def test_uncovered(self):
         problem = Problem.three_projectors()
         entry = dataclasses.replace(problem, a=Columns([0, 6], [0, 1, 2, 3, 4, 5], [10.0, 20.0, 30.0, 0.0, 40.0, 50.0]))
-        # a stored 0.0 is an entry
+        # a stored 0.0 counts as an entry
         self.refused(9, cut, Route.COMPACT, entry, where="column 0, row 3: the pair (0, 2) of cone 0")
         value = dataclasses.replace(problem, b=[1.0, 2.0, 3.0, 1.0, 4.0, 5.0])
         self.refused(9, sizes, Route.COMPACT, value, where="b has 1.0 in row 3")
@@ -171,7 +171,7 @@ class Beside(unittest.TestCase, Refused):
 
 
 class Contract(unittest.TestCase, Refused):
-    """What the pages say of the tables, each tried."""
+    """Tests each sentence of the contract in python/README.md."""
 
     def test_members_are_places_in_the_ordering(self):
         # the same two cliques, {0, 1} and {1, 2} of the matrix, under another ordering: members change, the blocks do not
@@ -199,7 +199,7 @@ class Contract(unittest.TestCase, Refused):
         self.assertEqual(numpy.nonzero(standard.a.dense(14)[:7, 1:].T)[1].tolist(), [0, 1, 2, 3, 3, 5, 6])
 
     def test_entries_are_only_moved(self):
-        # so any scaling of the entries beside the diagonal serves
+        # so any scaling of the off-diagonal entries works
         problem = Problem.three_projectors()
         scale = numpy.array([1, 3, 1, 3, 3, 1.0])
         scaled = dataclasses.replace(problem, b=scale * problem.b, a=Columns.of(scale[:, None] * problem.a.dense(6)))
@@ -253,7 +253,7 @@ class Covering(unittest.TestCase, Refused):
         self.assertTrue(tejiwakpa.covers(problem))
         value = dataclasses.replace(problem, b=[1.0, 2.0, 3.0, 1.0, 4.0, 5.0])
         self.assertFalse(tejiwakpa.covers(value))
-        # the standard route takes it, unless it is asked first
+        # the standard route accepts it; `cut_covered` does not
         self.assertEqual(cut(Route.STANDARD, value).problem.m, 12)
         for route in Route:
             self.refused(9, tejiwakpa.cut_covered, route, value, where="row 3")

@@ -1,4 +1,4 @@
-"""The diagnosis beside the calls: on damaged problems the walk's number is the call's, and a place is named."""
+"""The diagnosis compared with the calls: on damaged problems `fault` finds the call's number, and names a place."""
 import dataclasses
 import random
 import unittest
@@ -12,7 +12,7 @@ PROBLEMS = 600
 
 
 def start():
-    """A right problem with two patterns, an undecomposed cone and a power cone."""
+    """Returns a valid problem with two patterns, an undecomposed cone, a power and a generalised power cone."""
     cones = [Cone.psd_triangle(5), Cone.nonnegative(2), Cone.psd_triangle(4)]
     problem = inside(cones, {0: band_pairs(5, 1), 2: band_pairs(4, 2)}, 3, 7, quadratic=True)
     power = [Cone.power(0.5), Cone.gen_power([0.25, 0.75], 1)]
@@ -32,7 +32,7 @@ def copy(problem):
 
 
 def damage(problem, draws):
-    """One fault at random."""
+    """Makes one random change to a problem."""
     number = draws.choice([0, 1, 2, 3, 4, 7, 9, 30, 257, 65_537, 4_294_967_294])
     matrix = draws.choice([problem.p, problem.a])
     pattern = draws.choice(problem.patterns)
@@ -89,7 +89,7 @@ class Diagnosis(unittest.TestCase):
             self.assertGreater(seen.get(number, 0), 3, number)
 
     def test_too_large(self):
-        # 256 vertices in 600 patterns of whole cliques
+        # 8 patterns, each of one clique with all 256 vertices
         whole = [Clique(None, range(256))]
         count = 8
         problem = Problem(0, count * 32_896, Columns.empty(0), [], Columns.empty(0), numpy.zeros(count * 32_896),
@@ -98,7 +98,7 @@ class Diagnosis(unittest.TestCase):
             sizes(Route.STANDARD, problem)
         self.assertEqual(caught.exception.number, 1)
         self.assertIn("m is 263168", caught.exception.where)
-        # two separators of 250 in each of the cliques make more rows than there may be
+        # 40 cliques with separators of 206 vertices have too many rows
         cliques = [Clique(40, [k], range(50, 256)) for k in range(40)] + [Clique(None, range(40, 256))]
         problem = Problem(0, 32_896, Columns.empty(0), [], Columns.empty(0), numpy.zeros(32_896), [Cone.psd_triangle(256)],
                           [Pattern(0, range(256), cliques)])

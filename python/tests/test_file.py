@@ -1,4 +1,4 @@
-"""Problem files: what is written is read back, every NaN with its bits, and what is no file is refused with its place."""
+"""Problem files: what is written is read back, every NaN with its bits, and a damaged file is refused with its place."""
 import dataclasses
 import pathlib
 import struct
@@ -14,7 +14,7 @@ SAMPLES = pathlib.Path(__file__).resolve().parents[2] / "crates" / "cut_samples"
 
 
 def every_table():
-    """Three projectors behind a Power cone, with a cost, so that each table has a number."""
+    """Returns three projectors behind a Power cone, with a quadratic cost, so that no table is empty."""
     plain = Problem.three_projectors()
     return dataclasses.replace(
         plain, m=9, b=[0.5] * 3 + plain.b, p=Columns([0, 1], [0], [2.0]), cones=[Cone.power(0.5), *plain.cones],
@@ -72,7 +72,7 @@ class Files(unittest.TestCase):
         self.refused(14, changed(13, 116), "A rows begin at byte 120")
         self.refused(14, changed(23, 1), "the gap before P values, bytes 92 to 95")
         self.refused(14, changed(19, len(data) + 8) + bytes(8), f"ends at byte {len(data)}")
-        # eight times this count is right where products wrap
+        # 8 times this count would be right if products wrapped at 32 bits
         self.refused(14, changed(5, 0x20000001), "α end at byte")
         self.refused(14, changed(0, 0xFFFFFFFF), "P starts end at byte")
         self.refused(2, changed(20, 1), "P's first start is 1")

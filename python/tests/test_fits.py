@@ -1,4 +1,4 @@
-"""The fits: clique trees that the calls accept, domes whose right unknowns close the seams, and what a wrong tie does."""
+"""The fits: clique trees that the calls accept, domes whose true unknowns close the seams, and the effect of a wrong tie."""
 import unittest
 
 import numpy
@@ -10,7 +10,7 @@ from tejiwakpa import Cone, Columns, Problem, Route, Solution, covers, cut, join
 
 
 def slacks(problem, x):
-    """The slacks that meet the equations of a problem at `x`."""
+    """Returns the slacks that satisfy the equations of a problem at `x`."""
     return numpy.asarray(problem.b) - problem.a.times(x, problem.m)
 
 
@@ -38,7 +38,7 @@ class Vectors(unittest.TestCase):
 
 class Domes(unittest.TestCase):
     def test_the_truth_closes_the_seams(self):
-        # without noise the sum of the seams' blocks is where Λ − C has the rotations in its kernel
+        # without noise, Λ made of the sums over each projector's seams gives Λ − C the rotations as its kernel
         fitted = dome(4, 3, noise=0.0)
         self.assertTrue(covers(fitted.problem))
         x = []

@@ -2,7 +2,7 @@ use crate::cone;
 use crate::solution::{map_entries, map_words};
 use crate::{count, flat, Augmented, Columns, ConeMapEntry, Pattern, Problem, Refusal, Route, Solution};
 
-/// The index of the pair (i, j) in the packed upper triangle, column by column, in either order. Both are up to 255.
+/// Returns the index of the pair (i, j), in either order, in the upper triangle packed column by column. Both are at most 255.
 ///
 /// ```
 /// use tejiwakpa::{pair_index, Refusal};
@@ -17,7 +17,7 @@ pub fn pair_index(i: u32, j: u32) -> Result<u32, Refusal> {
     Ok(out[0])
 }
 
-/// Row and column of an index in the packed upper triangle, up to 32,895.
+/// Returns row and column of an index in the packed upper triangle, which is at most 32,895.
 ///
 /// ```
 /// use tejiwakpa::{pair_back, Refusal};
@@ -31,7 +31,7 @@ pub fn pair_back(index: u32) -> Result<(u32, u32), Refusal> {
     Ok((out[0], out[1]))
 }
 
-/// The inverse of a permutation: for each number its place.
+/// Returns the inverse of a permutation: for each number its index.
 ///
 /// ```
 /// use tejiwakpa::{inverse, Refusal};
@@ -45,7 +45,7 @@ pub fn inverse(permutation: &[u32]) -> Result<Vec<u32>, Refusal> {
     Ok(out)
 }
 
-/// The pattern with its vertices numbered by rising clique and, within a snode, by rising old number.
+/// Returns the pattern with its vertices renumbered clique by clique and, within a snode, in the order of the old numbers.
 ///
 /// ```
 /// use tejiwakpa::{renumber, Clique, Pattern};
@@ -93,7 +93,7 @@ pub struct Sizes {
     pub q: usize,
     /// A's column starts.
     pub a_starts: usize,
-    /// A's rows. On the compact route a run of repeated entries counts once, on the standard one each of them.
+    /// A's rows. On the compact route a run of repeated entries counts once, on the standard route each entry counts.
     pub a_rows: usize,
     /// A's values.
     pub a_values: usize,
@@ -103,7 +103,7 @@ pub struct Sizes {
     pub cones: usize,
     /// The exponents of the power cones.
     pub alphas: usize,
-    /// The cone map, five words an entry.
+    /// The cone map, five words for each entry.
     pub map: usize,
 }
 
@@ -114,7 +114,7 @@ pub(crate) fn sizes_of(route: Route, tables: &flat::Tables) -> Result<Sizes, Ref
     Ok(Sizes { p_starts, p_rows, p_values, q, a_starts, a_rows, a_values, b, cones, alphas, map })
 }
 
-/// The lengths of the outputs that [`cut`] makes of the problem, as flat tables.
+/// Returns the lengths of the outputs of [`cut`] for this problem, as flat tables.
 ///
 /// ```
 /// use tejiwakpa::{sizes, Problem, Refusal, Route};
@@ -171,7 +171,7 @@ impl Buffers {
         }
     }
 
-    /// The augmented problem, of outputs that a call has written.
+    /// Returns the augmented problem made of outputs that a call has written.
     pub(crate) fn augmented(self) -> Augmented {
         let cones = cone::read(&self.cones, &self.alphas);
         let (n, m) = (count(self.q.len()), count(self.b.len()));
@@ -180,12 +180,12 @@ impl Buffers {
     }
 }
 
-/// Cuts the PSD cones that have a pattern into their cliques: the augmented problem, and where its cones come from.
-/// There may be nothing to adjust: with n = 0 the overlaps' columns are the only ones. A may repeat a row in a column: the
+/// Cuts the PSD cones that have a pattern into their cliques. Returns the augmented problem, and where its cones come from.
+/// n may be 0: the overlaps' columns are then the only ones. A may repeat a row in a column: the
 /// compact route adds the run from left to right into one entry, the standard route keeps it as stored.
 ///
 /// The standard route accepts patterns that do not cover A and b, and the fit is then another, stricter problem, which no
-/// residual shows: [`cut_covered`](crate::cut_covered) asks first.
+/// residual shows: [`cut_covered`](crate::cut_covered) checks that first.
 ///
 /// ```
 /// use tejiwakpa::{cut, Cone, Problem, Refusal, Route};
@@ -211,8 +211,8 @@ pub fn cut(route: Route, problem: &Problem) -> Result<Augmented, Refusal> {
     Ok(made.augmented())
 }
 
-/// Joins a solution of the augmented problem to one of the original problem, of which only n, m, the cones and the
-/// patterns are read. The map is that of the cut; the standard route reads none. What to watch afterwards is
+/// Joins a solution of the augmented problem into one of the original problem, of which only n, m, the cones and the
+/// patterns are read. The map is that of the cut; the standard route does not read it. What to watch afterwards is
 /// [`original_residual`](crate::original_residual).
 ///
 /// ```
@@ -243,7 +243,7 @@ pub fn join(route: Route, problem: &Problem, map: &[ConeMapEntry], solution: &So
         kappa: solution.kappa,
         map: &map_words(map),
     };
-    // sizes beyond the bound are refused whatever the room
+    // sizes above the bound are refused whatever the outputs' lengths
     let room = |size: u32| vec![0.0; size.min(65_536) as usize];
     let (mut x, mut s, mut z) = (room(problem.n), room(problem.m), room(problem.m));
     let mut scalars = [0.0; 2];
@@ -252,10 +252,10 @@ pub fn join(route: Route, problem: &Problem, map: &[ConeMapEntry], solution: &So
     Ok(Solution { x, s, z, tau: scalars[0], kappa: scalars[1] })
 }
 
-/// Whether n, m, the cones with their exponents, the patterns, and the starts and rows of A and P of two problems agree.
-/// Where a route accepts both, their cuts then have the same starts and rows of A and P, the same cones and the same map,
-/// so that buffers and all that was worked out from places serve both: examples/reuse.rs. Values of A, P, q and b are not
-/// compared. Exponents are compared bit by bit, +0.0 and -0.0 being two; which NaN one is does not count.
+/// Returns whether n, m, the cones with their exponents, the patterns, and the starts and rows of A and P of two problems agree.
+/// If a route accepts both, their cuts then have the same starts and rows of A and P, the same cones and the same map,
+/// so that buffers and a symbolic result can be reused: examples/reuse.rs. Values of A, P, q and b are not
+/// compared. Exponents are compared bit by bit: +0.0 and -0.0 differ, and all NaNs count as equal.
 ///
 /// ```
 /// use tejiwakpa::{same_layout, Cone, Problem};

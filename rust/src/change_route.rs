@@ -1,6 +1,6 @@
 use crate::{flat, Problem, Refusal, Solution};
 
-// more augmented rows or overlaps are refused whatever the room
+// more augmented rows or overlaps are refused whatever the outputs' lengths
 const MOST_ROWS: usize = 262_144;
 const MOST_OVERLAPS: usize = 131_072;
 
@@ -8,7 +8,7 @@ fn triangle(side: usize) -> usize {
     side.saturating_mul(side.saturating_add(1)) / 2
 }
 
-// the rows of all blocks and whole cones, and how many of them are overlaps, of patterns that pass the checks
+// returns the number of rows of all blocks and whole cones, and how many of them are overlaps, for patterns that pass the checks
 fn counts(problem: &Problem) -> (usize, usize) {
     let cones = problem.cones.iter().enumerate().map(|(i, cone)| {
         match problem.patterns.iter().find(|p| p.orig_index as usize == i) {
@@ -24,12 +24,12 @@ fn counts(problem: &Problem) -> (usize, usize) {
     (rows.min(MOST_ROWS), overlaps.min(MOST_OVERLAPS))
 }
 
-/// A solution of the standard cut as one of the compact cut of the same problem, of which only n, m, the cones and the
-/// patterns are read: a fit that began on the standard route goes on with the compact one from where it is.
+/// Returns a solution of the standard cut as one of the compact cut of the same problem, of which only n, m, the cones and
+/// the patterns are read, so that a fit that began on the standard route can continue on the compact one.
 ///
 /// The first n unknowns are copied and the added ones are +0.0. Each clique's slacks and dual values, and those of whole
 /// cones, move bit for bit to their compact rows. τ and κ are copied. The exact total of the slacks at each original row
-/// stays the same; what [`join`](crate::join) rounds it to may not, as it adds cliques the other way round.
+/// stays the same; what [`join`](crate::join) rounds it to may differ, as it adds the cliques in the opposite order.
 ///
 /// ```
 /// use tejiwakpa::{change_route, Problem, Solution};

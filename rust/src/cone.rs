@@ -28,7 +28,7 @@ pub enum Cone {
 }
 
 impl Cone {
-    /// How many rows the cone has.
+    /// Returns how many rows the cone has.
     ///
     /// ```
     /// assert_eq!(tejiwakpa::Cone::PsdTriangle(3).nvars(), 6);
@@ -42,7 +42,7 @@ impl Cone {
         }
     }
 
-    /// The cone's record: its kind, first size and second size.
+    /// Returns the cone's record: its kind, first size and second size.
     ///
     /// ```
     /// use tejiwakpa::Cone;
@@ -62,7 +62,7 @@ impl Cone {
         }
     }
 
-    /// The exponents that the cone takes from the table of α.
+    /// Returns the exponents that the cone takes from the table of α.
     ///
     /// ```
     /// use tejiwakpa::Cone;
@@ -79,7 +79,7 @@ impl Cone {
     }
 }
 
-/// The cones of records that a call has written, with their exponents.
+/// Returns the cones of the records that a call has written, with their exponents.
 pub(crate) fn read(records: &[u32], mut alphas: &[f64]) -> Vec<Cone> {
     let mut taken = |count: u32| {
         let (first, rest) = alphas.split_at(count as usize);

@@ -1,11 +1,11 @@
-//! What the tables mean, in full, for callers who have no other paper: each sentence with an example. This module has no items.
+//! What the tables mean, in full, for callers who have no other document: each sentence with an example. This module has no items.
 //!
-//! **The problem** is ½ xᵀPx + qᵀx with Ax + s = b and s in the cones. P is passed on as it is, whole or upper, whichever the
-//! solver reads. The rows of a PSD cone are the upper triangle of its matrix column by column: (0,0), (0,1), (1,1), (0,2), …
-//! Values of A and b are only moved, never scaled: whatever factor a solver has beside the diagonal (clarabel has √2), it finds
-//! again in the blocks.
+//! **The problem** is ½ xᵀPx + qᵀx with Ax + s = b and s in the cones. P is passed on as it is, whole or upper triangle, whichever
+//! the solver reads. The rows of a PSD cone are the upper triangle of its matrix column by column: (0,0), (0,1), (1,1), (0,2), …
+//! Values of A and b are only moved, never scaled: a factor that a solver has off the diagonal (clarabel has √2) is in the blocks
+//! too.
 //!
-//! **Members of cliques are places in the ordering**, and not rows of the matrix: `ordering[v]` is the row that vertex v is. A
+//! **Members of cliques are places in the ordering**, and not rows of the matrix: `ordering[v]` is the matrix row of vertex v. A
 //! clique's block is the PSD cone of its members' rows, sorted.
 //!
 //! ```
@@ -29,16 +29,16 @@
 //! **The order of blocks.** Standard: the zero cone of all m original rows, then the cones in order, a cut one as its cliques from
 //! first to last; A becomes A beside H over 0 beside −I, where column k of H has a 1 in the original row of entry k. Compact: the
 //! cones in order, a cut one as its cliques from last to first; a row moves to the block of the clique that owns its pair, and a
-//! pair that lies wholly in the separator is an overlap, a new unknown with +1 in its own row and −1 in the row of the same pair in
+//! pair with both members in the separator is an overlap, a new unknown with +1 in its own row and −1 in the row of the same pair in
 //! the parent's block. Both extend P by empty columns and q by +0.0.
 //!
 //! ```
 //! use tejiwakpa::{cut, Columns, Cone, Problem, Route};
 //!
 //! let mut problem = Problem::three_projectors();
-//! // whole; its upper part alone would be passed on as well
+//! // whole; its upper triangle alone would be passed on as well
 //! problem.p = Columns { starts: vec![0, 1], rows: vec![0], values: vec![7.0] };
-//! // a factor beside the diagonal
+//! // a factor off the diagonal
 //! problem.b = vec![1.0, 2.0 * 1.4, 3.0, 0.0, 4.0 * 1.4, 5.0];
 //! let standard = cut(Route::Standard, &problem)?.problem;
 //! assert_eq!(standard.cones[0], Cone::Zero(6));
@@ -52,9 +52,9 @@
 //! # Ok::<(), tejiwakpa::Refusal>(())
 //! ```
 //!
-//! **The patterns must cover A and b.** The compact route refuses a problem where they do not; there a stored 0.0 of A is an entry,
-//! and a b of 0.0 or −0.0 is none. The standard route takes such a problem: an uncovered row has no slack there, the fit is another,
-//! stricter one, and no residual shows it. [`covers`](crate::covers) asks, and [`cut_covered`](crate::cut_covered) refuses on either
+//! **The patterns must cover A and b.** The compact route refuses a problem where they do not; a stored 0.0 of A counts as an entry,
+//! a b of 0.0 or −0.0 does not. The standard route accepts such a problem: an uncovered row has no slack there, the fit is another,
+//! stricter one, and no residual shows it. [`covers`](crate::covers) tells, and [`cut_covered`](crate::cut_covered) refuses on either
 //! route.
 //!
 //! ```
@@ -70,10 +70,10 @@
 //! assert!(cut(Route::Standard, &problem).is_ok());
 //! ```
 //!
-//! **A joining** copies the first n of x and adds the blocks of s. Its z in a cut cone is the value of the block walked last, that of
-//! the first clique that has the row, on the compact route, the mean of the blocks on the standard one, and 0 where no clique covers:
-//! entries of a matrix that the caller completes, and no PSD matrix as it is. τ and κ are not read and come out as 1: a caller with a homogeneous
-//! embedding divides x, s and z by τ first. What to watch after it is [`original_residual`](crate::original_residual).
+//! **A joining** copies the first n of x and adds the blocks of s. Its z in a cut cone is, on the compact route, the value of the block
+//! walked last, that of the first clique that has the row, on the standard route the mean of the blocks, and 0 in a row that no clique
+//! covers: entries of a matrix that the caller completes, not yet a PSD matrix. τ and κ are not read and are returned as 1: a caller with
+//! a homogeneous embedding divides x, s and z by τ first. What to watch after it is [`original_residual`](crate::original_residual).
 //!
 //! ```
 //! use tejiwakpa::{cut, join, Problem, Route, Solution};
@@ -84,7 +84,7 @@
 //! let solution = Solution { x: vec![0.5, 0.0], s: vec![2.0; 6], z: vec![1.0; 6], tau: 2.0, kappa: 0.5 };
 //! let joined = join(Route::Compact, &problem, &map, &solution)?;
 //! assert_eq!((joined.tau, joined.kappa, joined.s[2]), (1.0, 1.0, 4.0));
-//! // and the joined one has a determinant below zero
+//! // the joined z has a negative determinant
 //! let z = joined.z;
 //! assert_eq!(z, [1.0, 1.0, 1.0, 0.0, 1.0, 1.0]);
 //! assert!(z[0] * (z[2] * z[5] - z[4] * z[4]) - z[1] * z[1] * z[5] < 0.0);

@@ -9,7 +9,7 @@ const MOST_PSD_SIZE: u32 = 256;
 const MOST_ROWS: usize = 262_144;
 const MOST_OVERLAPS: usize = 131_072;
 
-/// A check that fails, and the first place where a plain walk finds it failing.
+/// A check that fails, and the first place where it fails.
 ///
 /// ```
 /// use tejiwakpa::{fault, Problem, Route};
@@ -39,8 +39,8 @@ impl fmt::Display for Fault {
     }
 }
 
-/// The first fault of a problem, on a route where one is given: for a call that was refused, where to look. It walks the
-/// checks in their order by itself. Which number a call answers is for the call to say: this is a diagnosis and no promise.
+/// Finds the first fault of a problem, on a route if one is given, to locate what a refused call found. It makes the checks
+/// in their order, independently of the calls. The call decides the refusal number: this is a diagnosis and not a promise.
 ///
 /// ```
 /// use tejiwakpa::{cut, fault, Problem, Refusal, Route};

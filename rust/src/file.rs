@@ -9,8 +9,8 @@ fn floats(bits: Vec<u64>) -> Vec<f64> {
 }
 
 impl Problem {
-    /// Reads a problem file, as other tools hand it over; docs/FILE.md says how one is laid out. What is read passes the
-    /// checks 1 to 7; a cut may still refuse it.
+    /// Reads a problem from the bytes of a problem file, as other tools write it; docs/FILE.md has the format. A problem that is
+    /// read passes checks 1 to 7; a cut may still refuse it.
     ///
     /// ```
     /// use tejiwakpa::{Problem, Refusal};
@@ -27,7 +27,7 @@ impl Problem {
     pub fn from_file_bytes(bytes: &[u8]) -> Result<Problem, Refusal> {
         let mut words = vec![0; bytes.len() / 4];
         flat::file_words(bytes, &mut words)?;
-        // no table of a file that is accepted is longer than the file, whatever the counts say
+        // no table of an accepted file is longer than the file, so larger counts need no larger outputs
         let count = |k: usize| words.get(k).map_or(0, |&count| (count as usize).min(words.len()));
         let [n, m, p_entries, a_entries, cones, alphas, _, pattern_words] = std::array::from_fn(count);
         let mut counts = [0; 8];
@@ -62,7 +62,7 @@ impl Problem {
         })
     }
 
-    /// Writes the problem as a file, where the checks 1 to 7 let it pass. A file that was read, written again, has the same
+    /// Returns the bytes of the problem as a file, if it passes checks 1 to 7. A file that is read and written again has the same
     /// bytes, whatever NaNs it holds.
     ///
     /// ```

@@ -1,8 +1,8 @@
-//! The same calls over lent slices, for callers who keep their own tables and buffers.
+//! The same calls over slices that the caller passes, for callers who keep their own tables and buffers.
 //!
-//! Anything at all may be passed: a call ends with its full result at the front of its outputs, the rest of a longer
-//! output being kept, or with a [`Refusal`] and outputs that hold what they held. Routes are numbers, 0 standard and 1
-//! compact. A call fits a thread with 2 MB of stack.
+//! The slices may hold anything: a call writes its full result to the front of its outputs, leaving the rest of a longer
+//! output unchanged, or returns a [`Refusal`] and leaves its outputs unchanged. Routes are numbers, 0 standard and 1
+//! compact. A call needs less than 2 MB of stack.
 //!
 //! ```
 //! use tejiwakpa::{flat, Refusal};
@@ -28,13 +28,13 @@ use crate::Refusal;
 /// ```
 pub const NONE: u32 = u32::MAX;
 
-// The word of a parent's or pattern's number. The mark itself is no such number: it becomes the largest word that is not
-// the mark, which is refused as it is, being beyond every clique and every pattern.
+// The word of a parent's or pattern's number. A number equal to the mark becomes the largest word that is not the mark; a
+// call refuses it, since no clique and no pattern has that number.
 pub(crate) fn numbered(number: Option<u32>) -> u32 {
     number.map_or(NONE, |number| number.min(NONE - 1))
 }
 
-/// A problem as flat tables. Nothing is checked before a call checks it.
+/// A problem as flat tables. Only the calls check it.
 ///
 /// ```
 /// use tejiwakpa::flat::Tables;
@@ -110,7 +110,7 @@ pub struct CutOutputs<'a> {
     pub cones: &'a mut [u32],
     /// The exponents of the power cones.
     pub alphas: &'a mut [f64],
-    /// The cone map, five words an entry: `orig_index`, pattern number or [`NONE`], clique number or 0, first row, row
+    /// The cone map, five words for each entry: `orig_index`, pattern number or [`NONE`], clique number or 0, first row, row
     /// count.
     pub map: &'a mut [u32],
 }
@@ -148,12 +148,12 @@ pub struct BetweenOutputs<'a> {
     pub cones: &'a mut [u32],
     /// The exponents of the power cones.
     pub alphas: &'a mut [f64],
-    /// The cone map, five words an entry.
+    /// The cone map, five words for each entry.
     pub map: &'a mut [u32],
 }
 
 impl<'a> BetweenOutputs<'a> {
-    /// The outputs of a cut, whose b takes the low limits, and another for the high ones.
+    /// Returns the outputs of a cut, whose b takes the low limits, together with one for the high limits.
     ///
     /// ```
     /// use tejiwakpa::flat::{BetweenOutputs, CutOutputs};
@@ -250,7 +250,7 @@ pub struct Joining<'a> {
     pub map: &'a [u32],
 }
 
-/// The outputs of a joining: n, m, m and two values.
+/// The outputs of a joining: n values of x, m of s, m of z and two scalars.
 ///
 /// ```
 /// use tejiwakpa::flat::JoinOutputs;
@@ -278,7 +278,7 @@ fn answer(number: u32) -> Result<(), Refusal> {
     }
 }
 
-/// `out[0]`: the index of the pair (i, j) in the packed upper triangle.
+/// Writes to `out[0]` the index of the pair (i, j) in the packed upper triangle.
 ///
 /// ```
 /// let mut out = [0];
@@ -287,11 +287,11 @@ fn answer(number: u32) -> Result<(), Refusal> {
 /// # Ok::<(), tejiwakpa::Refusal>(())
 /// ```
 pub fn pair_index(i: u32, j: u32, out: &mut [u32]) -> Result<(), Refusal> {
-    // SAFETY: `c` says what its calls ask for, and slices are it.
+    // SAFETY: `c` says what its calls require; slices meet it.
     answer(unsafe { c::chordal_pair_index(i, j, out.as_mut_ptr(), out.len()) })
 }
 
-/// `out[0]` and `out[1]`: row and column of an index in the packed upper triangle.
+/// Writes to `out[0]` and `out[1]` the row and column of an index in the packed upper triangle.
 ///
 /// ```
 /// let mut out = [0, 0];
@@ -304,7 +304,7 @@ pub fn pair_back(index: u32, out: &mut [u32]) -> Result<(), Refusal> {
     answer(unsafe { c::chordal_pair_back(index, out.as_mut_ptr(), out.len()) })
 }
 
-/// `out[w]`: the place of w in the permutation.
+/// Writes to `out[w]` the index of w in the permutation.
 ///
 /// ```
 /// let mut out = [0; 3];
@@ -318,7 +318,7 @@ pub fn inverse(permutation: &[u32], out: &mut [u32]) -> Result<(), Refusal> {
     answer(unsafe { c::chordal_inverse(p.as_ptr(), p.len(), out.as_mut_ptr(), out.len()) })
 }
 
-/// One pattern's words with its vertices numbered by rising clique; as many words as are given.
+/// Writes one pattern's words with its vertices renumbered clique by clique; there are as many words as in the input.
 ///
 /// ```
 /// use tejiwakpa::flat::{renumber, NONE};
@@ -333,7 +333,7 @@ pub fn renumber(words: &[u32], out: &mut [u32]) -> Result<(), Refusal> {
     answer(unsafe { c::chordal_renumber(words.as_ptr(), words.len(), out.as_mut_ptr(), out.len()) })
 }
 
-/// The lengths of the cut's eleven outputs, in the order of [`CutOutputs`].
+/// Writes the lengths of the cut's eleven outputs, in the order of [`CutOutputs`].
 ///
 /// ```
 /// use tejiwakpa::{flat, Problem};
@@ -362,7 +362,7 @@ pub fn sizes(route: u32, problem: &Tables, out: &mut [u32]) -> Result<(), Refusa
     })
 }
 
-/// The augmented problem.
+/// Writes the augmented problem.
 ///
 /// ```
 /// use tejiwakpa::flat::{cut, CutOutputs};
@@ -413,8 +413,8 @@ pub fn cut(route: u32, problem: &Tables, out: &mut CutOutputs) -> Result<(), Ref
     })
 }
 
-/// The augmented problem on the compact route, for a b that lies between two lists; the problem's own b is not read. Both
-/// lists' outputs are as long as the cut's b.
+/// Writes the augmented problem on the compact route, for a b that lies between two lists; the problem's own b is not read.
+/// Both lists' outputs are as long as the cut's b.
 ///
 /// ```
 /// use tejiwakpa::flat::{cut_between, BetweenOutputs};
@@ -468,8 +468,8 @@ pub fn cut_between(problem: &Tables, low: &[f64], high: &[f64], out: &mut Betwee
     })
 }
 
-/// The augmented problem on the compact route, for `count` right hand sides of m values each, which the problem's b holds
-/// one after another. The output b is as many times as long as the cut's, and holds each side's in turn.
+/// Writes the augmented problem on the compact route, for `count` right hand sides of m values each, which the problem's b
+/// holds one after another. The output b is `count` times as long as the cut's, and holds each side's augmented b in turn.
 ///
 /// ```
 /// use tejiwakpa::flat::{cut_many, CutOutputs, Tables};
@@ -519,7 +519,7 @@ pub fn cut_many(count: u32, problem: &Tables, out: &mut CutOutputs) -> Result<()
     })
 }
 
-/// The original problem's solution.
+/// Writes the original problem's solution.
 ///
 /// ```
 /// use tejiwakpa::flat::{join, JoinOutputs, Joining};
@@ -561,8 +561,8 @@ pub fn join(route: u32, joining: &Joining, out: &mut JoinOutputs) -> Result<(), 
     })
 }
 
-/// A standard solution as a compact one. The outputs are as long as a solution of the compact cut: n and the overlaps, the
-/// blocks' rows twice, and τ and κ, which are copied. The map is not read.
+/// Writes a standard solution as a compact one. The outputs are as long as a solution of the compact cut: x has n values and
+/// one for each overlap, s and z have the compact cut's rows; τ and κ are copied. The map is not read.
 ///
 /// ```
 /// use tejiwakpa::flat::{change_route, JoinOutputs, Joining};
@@ -605,8 +605,8 @@ pub fn change_route(joining: &Joining, out: &mut JoinOutputs) -> Result<(), Refu
     })
 }
 
-/// The tables of the pooled problem: each as long as those of both problems together, save that P's, q and A's starts are
-/// as long as the first's. Its n is theirs, its m, cone count and pattern count are the sums.
+/// Writes the tables of the pooled problem: each is as long as those of both problems together, except that P's, q and A's
+/// starts are as long as the first's. Its n is that of both; its m, cone count and pattern count are the sums.
 ///
 /// ```
 /// use tejiwakpa::flat::{pool, TableOutputs};
@@ -662,7 +662,7 @@ pub fn pool(first: &Tables, second: &Tables, out: &mut TableOutputs) -> Result<(
     })
 }
 
-/// The lengths of the eleven tables of a generated problem, in the order of [`TableOutputs`].
+/// Writes the lengths of the eleven tables of a generated problem, in the order of [`TableOutputs`].
 ///
 /// ```
 /// let mut lengths = [0; 11];
@@ -675,8 +675,8 @@ pub fn generate_sizes(seed: u64, v: u32, w: u32, n: u32, out: &mut [u32]) -> Res
     answer(unsafe { c::chordal_generate_sizes(seed, v, w, n, out.as_mut_ptr(), out.len()) })
 }
 
-/// A problem that any site can make again: from a seed, a vertex count, a band and a column count, each table at the front
-/// of its output. It has `v (v + 1) / 2` rows and one pattern.
+/// Writes a problem that any site can make again, from a seed, a vertex count, a band and a column count, each table to the
+/// front of its output. It has `v (v + 1) / 2` rows and one pattern.
 ///
 /// ```
 /// use tejiwakpa::flat::{generate, TableOutputs};
@@ -716,8 +716,8 @@ pub fn generate(seed: u64, v: u32, w: u32, n: u32, out: &mut TableOutputs) -> Re
     })
 }
 
-/// `out[0]`: 1 where n, m, cone records, exponents bit by bit (save for which NaN), pattern words, and the starts and rows
-/// of A and P of two problems agree, else 0.
+/// Writes to `out[0]` 1 where n, m, cone records, exponents bit by bit (all NaNs count as equal), pattern words, and the starts
+/// and rows of A and P of two problems agree, else 0.
 ///
 /// ```
 /// use tejiwakpa::{flat, Problem};
@@ -760,8 +760,8 @@ pub fn same_layout(first: &Tables, second: &Tables, out: &mut [u32]) -> Result<(
     })
 }
 
-// The calls of libdoor.a, as include/chordal.h has them. Each is proved to read and write within the lengths that it is
-// given, for whatever they hold; it asks that each pointer has so many elements behind it, and that no output overlaps
+// The calls of libdoor.a, as include/chordal.h declares them. Each is proved to read and write within the given lengths,
+// whatever the memory holds; it requires that each pointer is valid for its length, and that no output overlaps
 // another argument.
 #[rustfmt::skip]
 mod c {

@@ -1,10 +1,10 @@
 use crate::{cone, flat, pattern, Columns, Problem, Refusal};
 
-/// Generates a problem that any site can make again, for a test load: from a seed that is not 0, a vertex count `v` of 2 to
+/// Generates a problem that any site can make again, as a test load: from a seed that is not 0, a vertex count `v` of 2 to
 /// 64, a band `w` with 1 ≤ w < v, and `n` of 1 to 64 columns.
 ///
-/// Its one cone is PSD of dimension `v`. Its ordering, the entries of A over the rows that the cliques cover, and b are
-/// drawn from the seed; their values are whole numbers from −100 to 100. Both routes accept it.
+/// Its only cone is PSD of dimension `v`. Its ordering, the entries of A in the rows that the cliques cover, and b are
+/// drawn from the seed; the values are whole numbers from −100 to 100. Both routes accept it.
 ///
 /// ```
 /// use tejiwakpa::{cut, generate, Cone, Refusal, Route};

@@ -1,31 +1,31 @@
 //! The chordal cut and join of semidefinite problems, proved.
 //!
 //! A solver cuts a large matrix cone into the cliques of its sparsity pattern before the solve, and joins the solution
-//! again afterwards. [`cut`] and [`join`] do that; the other calls stand beside them:
+//! again afterwards. [`cut`] and [`join`] do that; all calls are:
 //!
 //! | call | what it gives |
 //! |---|---|
-//! | [`pair_index`], [`pair_back`] | places in a packed upper triangle |
+//! | [`pair_index`], [`pair_back`] | the index of a pair in a packed upper triangle, and back |
 //! | [`inverse`] | the inverse of a permutation |
-//! | [`renumber`] | a pattern with its vertices numbered by rising clique |
+//! | [`renumber`] | a pattern with its vertices numbered clique by clique |
 //! | [`sizes`] | how large the augmented problem is |
 //! | [`cut`] | the augmented problem on a [`Route`] |
-//! | [`join`] | the original problem's solution from the augmented one's |
+//! | [`join`] | the original problem's solution from the augmented problem's |
 //! | [`cut_between`] | the compact cut where b is known only within [`Limits`] |
 //! | [`cut_many`] | the compact cut for many right hand sides at once |
-//! | [`pool`] | one problem of two passes that share their unknowns |
+//! | [`pool`] | one problem from two passes that share their unknowns |
 //! | [`change_route`] | a compact solution from a standard one |
 //! | [`generate`] | a problem that any site can make again |
 //! | [`Problem::from_file_bytes`], [`Problem::to_file_bytes`] | a problem file read and written, for other tools |
-//! | [`same_layout`] | whether what was worked out from one problem's places serves another |
+//! | [`same_layout`] | whether a symbolic result computed for one problem can be reused for another |
 //!
-//! Beside the calls, in Rust alone: [`original_residual`] is what to watch after a joining, [`covers`] and [`cut_covered`] ask
-//! whether the patterns cover the problem, and [`fault`] says where a refused problem is wrong. [`contract`] has what the tables
-//! mean, in full.
+//! Besides the calls, written in Rust alone: [`original_residual`] is what to watch after a joining, [`covers`] and [`cut_covered`]
+//! test whether the patterns cover the problem, and [`fault`] says where a refused problem is wrong. [`contract`] says what the
+//! tables mean, in full.
 //!
-//! The code behind the calls is proved: given anything at all, a call ends with its full result or with one [`Refusal`].
-//! Each fits a thread with 2 MB of stack, Rust's usual one, and calls on several threads do not meet. [`flat`] has the
-//! same calls over lent slices.
+//! The code behind the calls is proved: on any input a call returns its full result or one [`Refusal`].
+//! Each needs less than 2 MB of stack, the default of a Rust thread, and calls on several threads do not affect each other.
+//! [`flat`] has the same calls over slices that the caller passes.
 //!
 //! ```
 //! use tejiwakpa::{cut, join, Clique, Columns, Cone, Pattern, Problem, Refusal, Route, Solution};
@@ -93,7 +93,7 @@ pub use sides::{cut_between, cut_many, Limits};
 pub use solution::{Augmented, ConeMapEntry, Solution};
 pub use watch::{covers, cut_covered, original_residual};
 
-// A length as a u32. One that is too long becomes the largest, which is beyond every bound.
+// A length as a u32. One that does not fit becomes the largest u32, which exceeds every bound.
 fn count(length: usize) -> u32 {
     u32::try_from(length).unwrap_or(u32::MAX)
 }

@@ -14,7 +14,7 @@ pub struct Clique {
     /// The clique's parent, a later clique of the pattern; none for the last clique. Any other number is refused as
     /// [`Refusal::Tree`], `Some(u32::MAX)` too.
     pub parent: Option<u32>,
-    /// Its own vertices: each vertex stands in exactly one snode.
+    /// Its own vertices: each vertex is in exactly one snode.
     pub snode: Vec<u32>,
     /// The vertices that it shares with its parent.
     pub separator: Vec<u32>,
@@ -37,7 +37,7 @@ pub struct Clique {
 /// ```
 #[derive(Clone, Debug, Default, PartialEq, Eq)]
 pub struct Pattern {
-    /// The cone that is cut, by its place among the cones.
+    /// The index of the cone that is cut.
     pub orig_index: u32,
     /// The original vertex of each vertex. Its length is the number of vertices.
     pub ordering: Vec<u32>,
@@ -46,9 +46,9 @@ pub struct Pattern {
 }
 
 impl Pattern {
-    /// The pattern as words: `orig_index`, vertex count, clique count, the ordering, and for each clique its parent,
-    /// snode count, separator count, snode members and separator members. Only a parent that is none has the mark
-    /// [`flat::NONE`]; `Some(u32::MAX)` becomes the word before it, which no call takes for a parent either.
+    /// Returns the pattern as words: `orig_index`, vertex count, clique count, the ordering, and for each clique its parent,
+    /// snode count, separator count, snode members and separator members. Only the parent `None` becomes the mark
+    /// [`flat::NONE`]; `Some(u32::MAX)` becomes `u32::MAX - 1`, which no call accepts as a parent either.
     ///
     /// ```
     /// use tejiwakpa::Problem;
@@ -90,7 +90,7 @@ impl Pattern {
     }
 }
 
-/// The patterns of words that a call has written.
+/// Returns the patterns of the words that a call has written.
 pub(crate) fn read_all(mut words: &[u32]) -> Vec<Pattern> {
     let mut patterns = vec![];
     while !words.is_empty() {
@@ -99,7 +99,7 @@ pub(crate) fn read_all(mut words: &[u32]) -> Vec<Pattern> {
     patterns
 }
 
-// the next words, or none where they end early
+// takes the next `count` words, or returns none where there are fewer
 fn taken<'a>(words: &mut &'a [u32], count: u32) -> Option<&'a [u32]> {
     let (first, rest) = words.split_at_checked(count as usize)?;
     *words = rest;

@@ -1,9 +1,9 @@
 use crate::{cone, flat, pattern, Columns, Problem, Refusal};
 
-/// Pools two passes over one dome, which share their unknowns: A over A, b over b, cones and patterns in turn; P and q are
-/// the first's. The second's patterns name their cones by their new places.
+/// Pools two passes over one dome, which share their unknowns: A over A, b over b, cones and patterns one after the other; P and
+/// q are the first's. The second's patterns name their cones by their new indices.
 ///
-/// Where the compact route accepts both passes and the pool, the pool's cut is the first's rows above the second's, the
+/// Where the compact route accepts both passes and the pool, the pool's cut has the first's rows above the second's, the
 /// first's overlap columns before the second's, and in its map the second's entries follow the first's.
 ///
 /// ```

@@ -13,14 +13,14 @@ use crate::{count, flat, Clique, Cone, Pattern};
 #[derive(Clone, Copy, Debug, PartialEq, Eq, Hash)]
 #[repr(u32)]
 pub enum Route {
-    /// All rows are kept, in a zero cone, and each block entry is a new unknown in a new row.
+    /// All original rows are kept, in a zero cone, and each block entry is a new unknown in a new row.
     Standard = 0,
     /// Each row moves to the block of the clique that owns it, and only overlaps are new rows and unknowns.
     Compact = 1,
 }
 
 impl Route {
-    /// The route's number: 0 standard, 1 compact.
+    /// Returns the route's number: 0 standard, 1 compact.
     ///
     /// ```
     /// assert_eq!(tejiwakpa::Route::Compact.number(), 1);
@@ -30,8 +30,8 @@ impl Route {
     }
 }
 
-/// A matrix in compressed columns: the entries of column c are those from `starts[c]` to `starts[c + 1]`, with rising
-/// rows. A problem's A may repeat a row, for a marker that two cameras see; the entry then is the sum of the run.
+/// A matrix in compressed columns: the entries of column c are those from `starts[c]` to `starts[c + 1]`, with increasing
+/// rows. A problem's A may repeat a row, for a marker that two cameras see; the entry is then the sum of the run.
 ///
 /// ```
 /// use tejiwakpa::Columns;
@@ -43,7 +43,7 @@ impl Route {
 /// ```
 #[derive(Clone, Debug, Default, PartialEq)]
 pub struct Columns {
-    /// Where each column begins, and the number of entries at the end.
+    /// Where each column begins, and at the end the number of entries.
     pub starts: Vec<u32>,
     /// Each entry's row.
     pub rows: Vec<u32>,
@@ -52,7 +52,7 @@ pub struct Columns {
 }
 
 impl Columns {
-    /// So many columns without entries.
+    /// Returns a matrix with this many columns and no entries.
     ///
     /// ```
     /// assert_eq!(tejiwakpa::Columns::empty(2).starts, [0, 0, 0]);
@@ -61,11 +61,11 @@ impl Columns {
         Columns { starts: vec![0; columns + 1], ..Columns::default() }
     }
 
-    /// The rows and values of a column.
+    /// Iterates over the rows and values of a column.
     ///
     /// # Panics
     ///
-    /// Where there is no such column, or its entries are not there.
+    /// If there is no such column, or its entries are missing.
     ///
     /// ```
     /// assert_eq!(tejiwakpa::Columns::empty(2).column(1).count(), 0);
@@ -100,17 +100,17 @@ pub struct Problem {
     pub n: u32,
     /// The number of rows.
     pub m: u32,
-    /// The quadratic cost, n by n. Rows in a column rise.
+    /// The quadratic cost, n by n. Rows in a column strictly increase.
     pub p: Columns,
     /// The linear cost, n values.
     pub q: Vec<f64>,
-    /// The constraints, m by n. Rows in a column may repeat but not fall.
+    /// The constraints, m by n. Rows in a column may repeat but not decrease.
     pub a: Columns,
     /// The constraints' right hand side, m values.
     pub b: Vec<f64>,
     /// The cones, whose rows are the m rows in order.
     pub cones: Vec<Cone>,
-    /// The clique trees, by rising `orig_index`.
+    /// The clique trees, in the order of increasing `orig_index`.
     pub patterns: Vec<Pattern>,
 }
 
@@ -127,7 +127,7 @@ pub struct Words {
     pub cones: Vec<u32>,
     /// The exponents of the power cones, in order.
     pub alphas: Vec<f64>,
-    /// How many patterns there are.
+    /// The number of patterns.
     pub pattern_count: u32,
     /// The patterns' words, one pattern after the other.
     pub pattern_words: Vec<u32>,
@@ -145,7 +145,7 @@ impl Words {
 }
 
 impl Problem {
-    /// The cones and patterns as words.
+    /// Returns the cones and patterns as words.
     ///
     /// ```
     /// let words = tejiwakpa::Problem::three_projectors().words();
@@ -155,7 +155,7 @@ impl Problem {
         Words::of(&self.cones, &self.patterns)
     }
 
-    /// The problem as flat tables, with the words that [`Problem::words`] has made of it.
+    /// Returns the problem as flat tables, with the words that [`Problem::words`] has returned for it.
     ///
     /// ```
     /// use tejiwakpa::{flat, Problem, Route};
@@ -186,8 +186,8 @@ impl Problem {
         }
     }
 
-    /// The place in the compact cut's map of the entry of a pattern's clique, if there is such a clique. A viewer so finds
-    /// a projector's block by one entry, without walking the map.
+    /// Returns the index, in the compact cut's map, of the entry of a pattern's clique, if there is such a clique. So a viewer
+    /// finds a projector's block from one entry, without walking the map.
     ///
     /// ```
     /// use tejiwakpa::{cut, Cone, Problem, Route};
@@ -209,20 +209,20 @@ impl Problem {
     /// ```
     pub fn map_place(&self, pattern: usize, clique: usize) -> Option<usize> {
         let cut = self.patterns.get(pattern)?;
-        // each cone before it has one entry, but a cut one has an entry for each clique; cliques go from last to first
+        // each cone before it has one entry, or an entry for each clique if it is cut; cliques go from last to first
         let more: usize = self.patterns[..pattern].iter().map(|p| p.cliques.len().saturating_sub(1)).sum();
         let after = cut.cliques.len().checked_sub(clique)?.checked_sub(1)?;
         Some(cut.orig_index as usize + more + after)
     }
 
-    /// The example of these pages: three projectors, one seam. One unknown and a PSD cone of dimension 3, cut into the
-    /// cliques {0, 1} and {1, 2}, which overlap in vertex 1: row 2 belongs to both.
+    /// Returns the example of these pages: three projectors, one seam. It has one unknown and a PSD cone of dimension 3, cut into
+    /// the cliques {0, 1} and {1, 2}, which overlap in vertex 1: row 2 belongs to both.
     ///
     /// ```
     /// use tejiwakpa::{cut, Problem, Route};
     ///
     /// let augmented = cut(Route::Compact, &Problem::three_projectors())?;
-    /// // the overlap's column ties row 5, its own, to row 0, its parent's
+    /// // the overlap's column ties row 5, its own, to row 0 in the parent's block
     /// let tie: Vec<(u32, f64)> = augmented.problem.a.column(1).collect();
     /// assert_eq!(tie, [(0, -1.0), (5, 1.0)]);
     /// # Ok::<(), tejiwakpa::Refusal>(())

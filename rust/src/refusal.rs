@@ -1,6 +1,6 @@
 use std::fmt;
 
-/// Why a call is refused: the first check that fails, in the order of the numbers save where one says otherwise. A refused
+/// Why a call is refused: the first check that fails, in the order of the numbers except where one says otherwise. A refused
 /// call has written nothing.
 ///
 /// ```
@@ -14,54 +14,54 @@ use std::fmt;
 #[repr(u32)]
 pub enum Refusal {
     /// 1: a bound is exceeded: n or m 65,536, entries of A or of P 262,144, cones 1,024, a size in a cone record 65,536,
-    /// a PSD size 256, an index argument 255 (32,895 for the way back); or the route is neither 0 nor 1,
+    /// a PSD size 256, an index argument 255 (32,895 for `pair_back`); or the route is neither 0 nor 1,
     /// or there are no right hand sides or more than 64.
     Bound = 1,
-    /// 2: the starts of A or P are not n + 1 numbers, do not begin at 0, fall, or do not end at the number of values;
-    /// or the rows are not as many as the values.
+    /// 2: the starts of A or P are not n + 1 numbers, do not begin at 0, decrease, or do not end at the number of values;
+    /// or there are not as many rows as values.
     Starts = 2,
-    /// 3: rows in a column of A fall or lie outside, or rows in a column of P do not strictly rise or lie outside. A may
+    /// 3: rows decrease in a column of A, do not strictly increase in a column of P, or are out of range. A may
     /// repeat a row.
     Rows = 3,
-    /// 4: a cone record does not read as one of the seven kinds, the cones' rows are not m, or the count of α or the
-    /// length of q or b disagrees.
+    /// 4: a cone record is not one of the seven kinds, the cones' rows do not add up to m, or the count of α or the
+    /// length of q or b is wrong.
     Cones = 4,
-    /// 5: pattern words end early or late, a pattern's `orig_index` does not rise or names no PSD cone, its vertex count
-    /// is not the cone's dimension, or an ordering (for the inverse, its argument) is no permutation.
+    /// 5: pattern words end early or late, a pattern's `orig_index` is not above that of the pattern before or names no PSD
+    /// cone, its vertex count is not the cone's dimension, or an ordering (for the inverse, its argument) is not a permutation.
     Patterns = 5,
     /// 6: a pattern has no clique, a parent is not a later clique, or the last clique has a parent or a separator.
     Tree = 6,
-    /// 7: snodes have an empty one or do not hold each vertex exactly once and no other number, or a separator repeats a
-    /// member or has one that its parent's clique does not hold.
+    /// 7: a snode is empty, a vertex is not in exactly one snode, a snode has a number that is no vertex, or a separator repeats
+    /// a member or has one that its parent's clique does not have.
     Cliques = 7,
-    /// 8: does not occur any more, since the compact route takes a problem without columns too. The number is not used
-    /// again.
+    /// 8: never returned, since the compact route accepts a problem without columns. The number is not used for anything
+    /// else.
     NoColumns = 8,
-    /// 9: the route is compact, and a stored entry of A or a b unequal to zero lies in a decomposed cone's row that no
+    /// 9: the route is compact, and a stored entry of A or a nonzero b is in a row of a decomposed cone that no
     /// clique covers.
     Uncovered = 9,
     /// 10: more than 262,144 augmented rows or, on the compact route, 131,072 overlaps.
     TooLarge = 10,
-    /// 11: an output is too short. The calls that make their own outputs never answer it.
+    /// 11: an output is too short. The calls that allocate their own outputs never return it.
     Short = 11,
-    /// 12: the lengths of a solution, or the cone map, are not those that the problem gives.
+    /// 12: the lengths of a solution, or the cone map, are not those of this problem.
     Solution = 12,
     /// 13: a file is shorter than its header, or the length in its header is not its own. A reader checks this first.
     FileLength = 13,
     /// 14: a file's offsets, a gap between its tables or the end of its last table are not those that its counts give. This
     /// check comes before 1.
     FileTables = 14,
-    /// 15: the seed of a problem to be generated is 0, or its vertex count, band or column count is out of its range. This
+    /// 15: the seed of a problem to be generated is 0, or its vertex count, band or column count is out of range. This
     /// check comes before any other.
     Ranges = 15,
-    /// 16: a low limit is above its high one, or one of them is a NaN. This check comes after 4.
+    /// 16: a low limit is above its high limit, or either is a NaN. This check comes after 4.
     Limits = 16,
     /// 17: two problems that are to be pooled have different n. This check comes after 7 of the second problem.
     Unknowns = 17,
 }
 
 impl Refusal {
-    /// All refusals, by number, the one that does not occur any more among them.
+    /// All refusals in the order of their numbers, including the one that is never returned.
     ///
     /// ```
     /// use tejiwakpa::Refusal;
@@ -88,7 +88,7 @@ impl Refusal {
         Refusal::Unknowns,
     ];
 
-    /// The number of the check.
+    /// Returns the number of the check.
     ///
     /// ```
     /// assert_eq!(tejiwakpa::Refusal::Uncovered.number(), 9);
@@ -97,7 +97,7 @@ impl Refusal {
         self as u32
     }
 
-    /// The refusal that has this number.
+    /// Returns the refusal that has this number.
     ///
     /// ```
     /// use tejiwakpa::Refusal;
@@ -109,7 +109,7 @@ impl Refusal {
         Refusal::ALL.into_iter().find(|refusal| refusal.number() == number)
     }
 
-    /// What the check found, in a few words.
+    /// Returns what the check found, in a few words.
     ///
     /// ```
     /// assert_eq!(tejiwakpa::Refusal::Short.meaning(), "an output is too short");

@@ -21,7 +21,7 @@ pub struct Limits {
 }
 
 impl Limits {
-    /// Whether a right hand side has as many values as there are limits, each between its own.
+    /// Returns whether a right hand side has as many values as there are limits, each between its limits.
     ///
     /// ```
     /// use tejiwakpa::Limits;
@@ -37,12 +37,12 @@ impl Limits {
     }
 }
 
-/// The compact cut of a problem whose b is known only within limits, its own b being passed over: the augmented problem,
-/// whose b is the low limits', and the augmented limits.
+/// Cuts a problem on the compact route whose b is known only within limits; its own b is not read. Returns the augmented
+/// problem, with the augmented low limits as its b, and the augmented limits.
 ///
 /// Every b between the limits is augmented into something between the results, and every vector between the results is,
-/// as numbers, the augmentation of exactly one such b. Zeros of either sign are one number, infinities are allowed. A
-/// row that no clique covers needs both its limits zero.
+/// as numbers, the augmentation of exactly one such b. Zeros of either sign are one number, infinities are allowed. In a
+/// row that no clique covers both limits must be zero.
 ///
 /// ```
 /// use tejiwakpa::{cut_between, Limits, Problem, Refusal};
@@ -62,7 +62,7 @@ impl Limits {
 pub fn cut_between(problem: &Problem, limits: &Limits) -> Result<(Augmented, Limits), Refusal> {
     let words = problem.words();
     let tables = problem.tables(&words);
-    // where sizes refuses the low limits, the call refuses both, in its own order
+    // where sizes refuses the low limits, the call refuses too, with the number that its own order gives
     let sizes = sizes_of(Route::Compact, &flat::Tables { b: &limits.low, ..tables }).unwrap_or_default();
     let mut made = Buffers::new(&sizes);
     let mut high = vec![0.0; sizes.b];
@@ -73,12 +73,12 @@ pub fn cut_between(problem: &Problem, limits: &Limits) -> Result<(Augmented, Lim
     Ok((augmented, Limits { low, high }))
 }
 
-/// The most right hand sides that [`cut_many`] takes.
+/// The largest number of right hand sides that [`cut_many`] accepts.
 const SIDES: usize = 64;
 
-/// The compact cut of one problem with 1 to 64 right hand sides, its own b being passed over: the augmented problem, whose
-/// b is the first side's, and each side's augmented b in turn. Each is what [`cut`](crate::cut) gives for that side alone,
-/// and where several sides would be refused, so is the call, by the first of them.
+/// Cuts one problem on the compact route with 1 to 64 right hand sides; its own b is not read. Returns the augmented problem,
+/// with the first side's b, and each side's augmented b in turn. Each is what [`cut`](crate::cut) gives for that side alone.
+/// If a side would be refused, the call is refused, with the number of the first such side.
 ///
 /// ```
 /// use tejiwakpa::{cut_many, Problem, Refusal};
@@ -99,20 +99,20 @@ pub fn cut_many(problem: &Problem, sides: &[Vec<f64>]) -> Result<(Augmented, Vec
     let words = problem.words();
     let tables = problem.tables(&words);
     let first = sides.first().map_or(&[][..], Vec::as_slice);
-    // where sizes refuses the first side, the call refuses all, in its own order
+    // where sizes refuses the first side, the call refuses too, with the number that its own order gives
     let mut sizes = sizes_of(Route::Compact, &flat::Tables { b: first, ..tables }).unwrap_or_default();
     let rows = sizes.b;
     sizes.b *= sides.len().min(SIDES);
     let mut list: Vec<f64> = sides.iter().take(SIDES).flatten().copied().collect();
     if sides.iter().any(|side| side.len() != problem.m as usize) && list.len() == sides.len() * problem.m as usize {
-        // lengths that only even out are wrong all the same
+        // sides of wrong lengths whose total is right are refused all the same
         list.push(0.0);
     }
     let mut made = Buffers::new(&sizes);
     flat::cut_many(count(sides.len()), &flat::Tables { b: &list, ..tables }, &mut made.outputs())?;
     let all = made.b.clone();
     made.b.truncate(rows);
-    // without rows each side is empty
+    // where there are no rows each side is empty
     let each = (0..sides.len()).map(|k| all[k * rows..(k + 1) * rows].to_vec());
     Ok((made.augmented(), each.collect()))
 }

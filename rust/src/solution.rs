@@ -17,9 +17,9 @@ pub struct Solution {
     pub s: Vec<f64>,
     /// The dual values, one for each row.
     pub z: Vec<f64>,
-    /// τ of the homogeneous embedding. A joining does not read it, and gives 1.
+    /// τ of the homogeneous embedding. A joining does not read it, and returns 1.
     pub tau: f64,
-    /// κ of the homogeneous embedding. A joining does not read it, and gives 1.
+    /// κ of the homogeneous embedding. A joining does not read it, and returns 1.
     pub kappa: f64,
 }
 
@@ -36,19 +36,19 @@ pub struct Solution {
 /// ```
 #[derive(Clone, Copy, Debug, PartialEq, Eq, Hash)]
 pub struct ConeMapEntry {
-    /// The original cone, by its place among the cones.
+    /// The index of the original cone.
     pub orig_index: u32,
     /// The pattern's number and the clique's number in it; none where the cone was not cut. No pattern has the number
     /// `u32::MAX`: a joining refuses an entry that names it.
     pub tree_and_clique: Option<(u32, u32)>,
-    /// Its first augmented row: the number of rows before it, also where it has no rows.
+    /// Its first augmented row: the number of rows before it, even where it has no rows.
     pub first_row: u32,
     /// How many rows it has.
     pub rows: u32,
 }
 
 impl ConeMapEntry {
-    /// The cone's rows: where its values stand in b, s and z of the augmented problem.
+    /// Returns the range of the cone's rows: where its values are in b, s and z of the augmented problem.
     ///
     /// ```
     /// use tejiwakpa::{cut, Problem, Route};
@@ -82,7 +82,7 @@ pub struct Augmented {
     pub map: Vec<ConeMapEntry>,
 }
 
-/// The words of a cone map, five an entry.
+/// Returns the words of a cone map, five for each entry.
 pub(crate) fn map_words(map: &[ConeMapEntry]) -> Vec<u32> {
     let words = map.iter().flat_map(|entry| {
         let pattern = flat::numbered(entry.tree_and_clique.map(|(pattern, _)| pattern));
@@ -92,7 +92,7 @@ pub(crate) fn map_words(map: &[ConeMapEntry]) -> Vec<u32> {
     words.collect()
 }
 
-/// The entries of a cone map's words.
+/// Returns the entries of a cone map's words.
 pub(crate) fn map_entries(words: &[u32]) -> Vec<ConeMapEntry> {
     let entries = words.chunks_exact(5).map(|word| ConeMapEntry {
         orig_index: word[0],

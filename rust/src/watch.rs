@@ -1,14 +1,14 @@
 use crate::{cut, sizes, Augmented, Problem, Refusal, Route, Solution};
 
-/// The largest |Ax + s − b| of a joined solution in the original problem's rows: what a site should watch after each
-/// joining. A NaN where one of them is a NaN.
+/// Returns the largest |Ax + s − b| of a joined solution in the original problem's rows, or a NaN if one of them is a NaN:
+/// what a site should watch after each joining.
 ///
-/// A solver's own residuals are those of the augmented equations. Were one of these wrong, an overlap tied to another row,
-/// they would vanish all the same; this one would not.
+/// A solver's own residuals are those of the augmented equations. If one of these equations were wrong, an overlap tied to
+/// another row, the solver's residuals would still vanish; this one would not.
 ///
 /// # Panics
 ///
-/// Where the problem is not one that a cut accepts, or the solution has not its lengths.
+/// If the problem is not one that a cut accepts, or the solution's lengths are not the problem's.
 ///
 /// ```
 /// use tejiwakpa::{cut, join, original_residual, Problem, Route, Solution};
@@ -27,7 +27,7 @@ use crate::{cut, sizes, Augmented, Problem, Refusal, Route, Solution};
 /// let joined = join(Route::Compact, &problem, &augmented.map, &solved(&augmented.problem))?;
 /// assert_eq!(original_residual(&problem, &joined), 0.0);
 ///
-/// // the overlap tied to row 1 in place of row 0: its equations are met too, and mean another sky
+/// // the overlap tied to row 1 instead of row 0: these equations can be solved too, and describe another sky
 /// augmented.problem.a.rows[5] = 1;
 /// let joined = join(Route::Compact, &problem, &augmented.map, &solved(&augmented.problem))?;
 /// assert_eq!(original_residual(&problem, &joined), 2.0);
@@ -38,14 +38,14 @@ pub fn original_residual(problem: &Problem, solution: &Solution) -> f64 {
     for column in 0..problem.n as usize {
         problem.a.column(column).for_each(|(row, value)| rows[row as usize] += value * solution.x[column]);
     }
-    // a NaN stays
+    // a NaN is kept
     rows.iter().fold(0.0, |most: f64, row| if row.abs() > most || row.is_nan() { row.abs() } else { most })
 }
 
-/// Whether the patterns cover A and b: no stored entry of A, and no b unequal to zero, lies in a row of a cut cone that no
-/// clique covers. A refusal where the problem is refused for another reason.
+/// Returns whether the patterns cover A and b: no stored entry of A, and no nonzero b, is in a row of a cut cone that no
+/// clique covers. Returns a refusal if the problem is refused for another reason.
 ///
-/// The standard route accepts a problem whose patterns do not cover it. Its fit then is another, stricter problem, in which
+/// The standard route accepts a problem whose patterns do not cover it. The fit is then another, stricter problem, in which
 /// those rows have no slack, and no residual shows it; the compact route refuses it as [`Refusal::Uncovered`].
 ///
 /// ```
@@ -61,14 +61,14 @@ pub fn original_residual(problem: &Problem, solution: &Solution) -> f64 {
 /// ```
 pub fn covers(problem: &Problem) -> Result<bool, Refusal> {
     match sizes(Route::Compact, problem) {
-        // 9 comes before 10, so that a problem too large is covered
+        // check 9 comes before 10, so a problem that is refused as too large is covered
         Ok(_) | Err(Refusal::TooLarge) => Ok(true),
         Err(Refusal::Uncovered) => Ok(false),
         Err(refusal) => Err(refusal),
     }
 }
 
-/// The cut of a problem whose patterns cover A and b; where they do not, [`Refusal::Uncovered`] on either route.
+/// Cuts a problem whose patterns cover A and b; where they do not, it is refused as [`Refusal::Uncovered`] on either route.
 ///
 /// ```
 /// use tejiwakpa::{cut, cut_covered, Problem, Refusal, Route};

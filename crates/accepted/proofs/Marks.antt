@@ -35,7 +35,7 @@ beq-same false false e = refl
 pub met-start : (n : ℕ) (marks : List Bool) → AllClear marks → Met true n marks []
 met-start n marks a = record { marked = λ v h. a v; later = λ v h. a v; once = tt; below = tt }
 
--- one number more
+-- a number that is below n and not marked can be met
 pub met-more : (b : Bool) (n : ℕ) (marks : List Bool) (met : List ℕ) (x : ℕ) → n ≤ length marks → x < n → (getD marks x false ≡ b → ⊥)
     → Met b n marks met → Met b n (set marks x b) (met ++ (x ∷ []))
 met-more b n marks met x room l free m = record {
@@ -67,7 +67,7 @@ met-more b n marks met x room l free m = record {
         ap (λ (t : Bool). cond t b (not b)) (or-false (has v met))
         ∙ sym (getD-set-other marks x v b false (eqb-false v x e) ∙ m .marked v h)
 
--- as many as there are
+-- if n numbers were met, they are a permutation of the numbers below n, and each of the n marks is b
 module _ (b : Bool) (n : ℕ) (marks : List Bool) (met : List ℕ) (m : Met b n marks met) (e : length met ≡ n) where
   all-in : T (isPermutation met)
   all-in =
@@ -80,15 +80,15 @@ module _ (b : Bool) (n : ℕ) (marks : List Bool) (met : List ℕ) (m : Met b n 
   met-marks : (v : ℕ) → v < n → getD marks v false ≡ b
   met-marks v h = m .marked v h ∙ ap (λ (t : Bool). cond t b (not b)) (passed (has v met) (permutation-has met all-in v .1 (omega arith)))
 
--- all marks are set: now they can be taken away
+-- once all n marks are set, clearing can start: no number has been met for it
 pub met-turn : (n : ℕ) (marks : List Bool) (met : List ℕ) → Met true n marks met → length met ≡ n → Met false n marks []
 met-turn n marks met m e = record { marked = met-marks true n marks met m e; later = m .later; once = tt; below = tt }
 
--- and all were taken away
+-- once n numbers have been met for clearing, no mark is set
 pub met-clear : (n : ℕ) (marks : List Bool) (met : List ℕ) → Met false n marks met → length met ≡ n → AllClear marks
 met-clear n marks met m e v = elim (lt-or-le v n) [ inl h ↦ met-marks false n marks met m e v h | inr h ↦ m .later v h ]
 
--- a part of the words, from none on
+-- an empty part of the words adds nothing
 pub part-none : (met ws : List ℕ) (a : ℕ) → met ≡ met ++ take (a - a) (drop a ws)
 part-none met ws a =
     let e : 0 ≡ a - a = omega arith in
@@ -102,7 +102,7 @@ part-more met ws a i l h =
     ap (λ (k : ℕ). met ++ take k (drop a ws)) e ∙ take-more met (drop a ws) (i - a) (omega (arith, length-drop a ws))
     ∙ ap (λ (x : ℕ). (met ++ take (i - a) (drop a ws)) ++ (x ∷ [])) (getD-drop a ws (i - a) 0 ∙ ap (λ (k : ℕ). getD ws k 0) f)
 
--- ---- what can be met
+-- ---- which numbers can be met
 
 pub met-once : (b : Bool) (n : ℕ) (marks : List Bool) (met : List ℕ) → Met b n marks met → onceBelow n met ≡ true
 met-once b n marks met m = passed _ (and-iff (all (λ x. ltb x n) met) (distinct met) .1 (m .below, m .once))
@@ -125,7 +125,7 @@ not-once n front x back bad = failed _ (λ h.
       | inr k ↦ distinct-append front (x ∷ back) .0 once .2 x k here
     ])
 
--- a part of the words around the i-th
+-- a part of the words is the words before index i, the word there, and the words after it
 part-around : (met ws : List ℕ) (a e i : ℕ) → a ≤ i → i < e → e ≤ length ws
     → met ++ take (e - a) (drop a ws) ≡ (met ++ take (i - a) (drop a ws)) ++ (getD ws i 0 ∷ take (e - (i + 1)) (drop (i + 1) ws))
 part-around met ws a e i l h f =
@@ -140,7 +140,7 @@ pub part-not-once : (n : ℕ) (met ws : List ℕ) (a e i : ℕ) → a ≤ i → 
 part-not-once n met ws a e i l h f bad =
     sym (ap (onceBelow n) (part-around met ws a e i l h f) ∙ not-once n (met ++ take (i - a) (drop a ws)) (getD ws i 0) _ bad)
 
--- a part that cannot be met, and what cannot be met with more after it
+-- if a list has no duplicates and only numbers below n, so has each prefix of it
 pub once-front : (n : ℕ) (xs ys : List ℕ) → onceBelow n (xs ++ ys) ≡ true → onceBelow n xs ≡ true
 once-front n xs ys h =
     let (below, once) = and-iff (all (λ y. ltb y n) (xs ++ ys)) (distinct (xs ++ ys)) .0 (passes _ h) in

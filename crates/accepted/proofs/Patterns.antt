@@ -1,4 +1,4 @@
--- A pattern from its parts; patterns from the first on.
+-- The checks of a pattern from those of its head, ordering, snodes and separators, and of all patterns from one after the other.
 use Prim.Native.Nat.{ℕ, suc, _+_, _-_, _*_, _≤_, _<_}
 use native.Mathlib.Nat.{le-trans}
 use native.Mathlib.Omega.{arith}
@@ -14,7 +14,7 @@ use Rattle.layout.specs.Triangle.{triangle}
 use Rattle.layout.specs.Patterns.{Read, read, short, andThen, readMany, Pattern, Clique, Head, withCliques, noPattern, readHead, readClique, readCliques, readPattern, readPatterns, patterns, endsRight}
 use Rattle.layout.specs.Blocks.{blockRows, overlapRows}
 use Rattle.layout.specs.Checks.{conesBounded, sizesBounded, noCone, namesItsCone, isPermutation, originsRise, orderingsRight, patternsRead, treeRight, cliquesRight, RightPattern}
-use Rattle.supernode_tree.specs.Reads.{headOf, patternRead, PatternInside, valueOr, whole, rest, patternAt}
+use Rattle.supernode_tree.specs.Reads.{headOf, patternRead, PatternInside, valueOr, isWhole, rest, patternAt}
 use Rattle.supernode_tree.specs.declared.Pattern.{Pattern as PatternAt}
 use Rattle.supernode_tree.specs.declared.PatternRead.the-variants.{Pattern as FoundPattern}
 use Rattle.supernode_tree.proofs.Sizes.{triangle-small, blocks-small}
@@ -34,35 +34,35 @@ use Rattle.accepted.specs.declared.Accepted.{Accepted}
 use Rattle.layout.proofs.Walks.{all-both}
 use Rattle.layout.proofs.Tests.{and-true, passed, passes, failed, differ}
 use Rattle.layout.proofs.Members.{all-at}
-use Rattle.supernode_tree.specs.Sizes.{atMost}
+use Rattle.supernode_tree.specs.Sizes.{blockAtMost}
 use Rattle.accepted.proofs.Walked.{and-parts, agree}
 use Rattle.accepted.proofs.Marks.{met-start, met-turn}
 use Rattle.vertex_set.specs.OnceIn.{onceBelow}
-use Rattle.accepted.specs.Accepted.{Summed, cutRows, AllClear, Met, Meets, filled, snodesRight, separatorsFit, headRight, cliquesAfter, verticesRight, patternHolds, VerticesHold, cliquesOf, SnodesHold, SeparatorsHold, noHead, headAt, HeadHolds, PatternHolds, Added}
+use Rattle.accepted.specs.Accepted.{Summed, patternRowCount, AllClear, Met, AddsOnce, filled, snodesRight, separatorsFit, headRight, cliquesAfter, verticesRight, patternHolds, VerticesHold, cliquesOf, SnodesHold, SeparatorsHold, noHead, headAt, HeadHolds, PatternHolds, Added}
 
 and-both : (a b : Bool) → a ≡ true → b ≡ true → (a && b) ≡ true
 and-both a b e f = rw (e, f)
 
--- separators that fit are right
+-- separators of blocks with at most 256 vertices and with members below n pass check 7
 fits-right : (n : ℕ) (cs : List Clique) → separatorsFit n cs ≡ true → separatorsOk cs ≡ true
 fits-right n cs h =
-    below-right n cs (and-parts (all (atMost 256) cs) (separatorsBelow n cs)
-    (sym (all-both (atMost 256) (λ (c : Clique). separatorBelow n cs (c .parent) (c .separator)) cs) ∙ h) .1)
+    below-right n cs (and-parts (all (blockAtMost 256) cs) (separatorsBelow n cs)
+    (sym (all-both (blockAtMost 256) (λ (c : Clique). separatorBelow n cs (c .parent) (c .separator)) cs) ∙ h) .1)
 
 -- ---- one pattern
 
 whole-of-cliques : (ws : List ℕ) (h : Head) (left : List ℕ) → readHead ws ≡ read h left
-    → whole (readCliques (h .cliqueCount) left) ≡ true → whole (readPattern ws) ≡ true
+    → isWhole (readCliques (h .cliqueCount) left) ≡ true → isWhole (readPattern ws) ≡ true
 whole-of-cliques ws h left e w = rw e (go (readCliques (h .cliqueCount) left) w)
   where
-    go : (r : Read (List Clique)) → whole r ≡ true → whole (andThen r (λ cs end. read (withCliques h cs) end)) ≡ true
+    go : (r : Read (List Clique)) → isWhole r ≡ true → isWhole (andThen r (λ cs end. read (withCliques h cs) end)) ≡ true
     go (read cs end) w = refl
     go short w = w
 
 abbrev made : ℕ → ℕ → ℕ → ℕ → ℕ → PatternAt
 made o v k a c = record { «orig_index» = o; «vertex_count» = v; «clique_count» = k; ordering = a; cliques = c }
 
--- one head is read as one pattern
+-- two patterns read at one offset with the same head are equal
 pub same-pattern : (ws : List ℕ) (at : ℕ) (p r : PatternAt) → patternRead ws (FoundPattern p) ≡ patternRead ws (FoundPattern r)
     → PatternInside (length ws) at (FoundPattern p) → PatternInside (length ws) at (FoundPattern r) → p ≡ r
 same-pattern ws at p r e f g =
@@ -78,12 +78,12 @@ same-pattern ws at p r e f g =
     ∙ ap (λ (i : ℕ). made (r .«orig_index») (r .«vertex_count») (r .«clique_count») i (p .cliques)) a
     ∙ ap (λ (i : ℕ). made (r .«orig_index») (r .«vertex_count») (r .«clique_count») (r .ordering) i) c
 
--- a head that was found right
+-- what holds of a head that passes
 pub head-held : (cones ws : List ℕ) (at least : ℕ) → headRight cones least (readHead (drop at ws)) ≡ true → HeadHolds cones ws at least
 head-held cones ws at least t =
     let h = headAt ws at in
     let psd = isPsdOf cones (h .origIndex) (h .vertexCount) in
-    let (stands, t1) = and-parts (whole (readHead (drop at ws))) _ t in
+    let (stands, t1) = and-parts (isWhole (readHead (drop at ws))) _ t in
     let (rises, t2) = and-parts (leb least (h .origIndex)) _ t1 in
     let (some, t3) = and-parts (not (eqb (h .cliqueCount) 0)) _ t2 in
     let (few, t4) = and-parts (leb (h .cliqueCount) 256) _ t3 in
@@ -97,7 +97,7 @@ head-held cones ws at least t =
       psd = psd;
     }
 
--- the ordering's words, which set the marks
+-- the part of the words that is the ordering
 module _ (ws : List ℕ) (at : ℕ) (p : PatternAt) (i : PatternInside (length ws) at (FoundPattern p)) where
   pub ordering-fits : (p .ordering ≤ p .cliques) × (p .cliques ≤ length ws)
   ordering-fits = (omega (arith, i .1), i .2)
@@ -106,11 +106,11 @@ module _ (ws : List ℕ) (at : ℕ) (p : PatternAt) (i : PatternInside (length w
   ordering-many = length-part (p .ordering) (p .«vertex_count») ws (omega (arith, i .1, i .2))
 
   module _ (marks new : List Bool) (clear : AllClear marks)
-      (r : Bool) (m : Meets true (p .«vertex_count») marks (take (p .cliques - p .ordering) (drop (p .ordering) ws)) new r) where
+      (r : Bool) (m : AddsOnce true (p .«vertex_count») marks (take (p .cliques - p .ordering) (drop (p .ordering) ws)) new r) where
     part : take (p .cliques - p .ordering) (drop (p .ordering) ws) ≡ headOf ws p .ordering
     part = let k : p .cliques - p .ordering ≡ p .«vertex_count» = omega (arith, i .1) in ap (λ (n : ℕ). take n (drop (p .ordering) ws)) k
 
-    -- the answer is whether it is a permutation
+    -- marking the ordering succeeds exactly if it is a permutation
     pub ordered : r ≡ isPermutation (headOf ws p .ordering)
     ordered =
         m [] (met-start (p .«vertex_count») marks clear) .0 ∙ ap (onceBelow (p .«vertex_count»)) part
@@ -123,11 +123,11 @@ module _ (ws : List ℕ) (at : ℕ) (p : PatternAt) (i : PatternInside (length w
 
 module _ (cones ws : List ℕ) (w : Walk) (p : PatternAt) (e : patternRead ws (FoundPattern p) ≡ readHead (drop (w .next) ws))
     (f : HeadHolds cones ws (w .next) (w .least)) where
-  -- the head as it was read
+  -- the head at the walk's offset is that of the pattern read there
   same-head : headAt ws (w .next) ≡ headOf ws p
   same-head = ap (valueOr noHead) (sym e)
 
-  -- its vertices, after its head was found right
+  -- if the head is valid, the checks of the vertices are those of the ordering and of the snodes
   pub vertices-are : headRight cones (w .least) (readHead (drop (w .next) ws)) ≡ true → verticesRight cones (w .least) (readHead (drop (w .next) ws))
       ≡ (isPermutation (headOf ws p .ordering) && snodesRight (p .«clique_count») (p .«vertex_count») (readCliques (p .«clique_count») (drop (p .cliques) ws)))
   vertices-are right =
@@ -177,16 +177,16 @@ module _ (cones ws : List ℕ) (w : Walk) (p : PatternAt) (e : patternRead ws (F
         overlaps = t .overlaps ∙ ap overlapRows (sym v);
       }
 
--- ---- a pattern that holds, taken apart
+-- ---- the parts of a pattern that passes
 
--- no snode is empty: there are no more cliques than vertices
+-- if no snode is empty, there are at most as many cliques as vertices
 filled-count : (cs : List Clique) → all filled cs ≡ true → length cs ≤ length (snodesOf cs)
 filled-count [] h = omega arith
 filled-count (c ∷ cs) h =
     let (some, others) = and-parts (filled c) (all filled cs) h in
     omega (arith, filled-count cs others, eqb-false (length (c .snode)) 0 (not-true _ some), length-append (c .snode) (snodesOf cs))
 
--- a PSD cone of bounded records has at most 256 rows and columns
+-- the side of a PSD cone within the bounds of check 1 is at most 256
 psd-small : (cones : List ℕ) (i v : ℕ) → conesBounded cones ≡ true → isPsdOf cones i v ≡ true → v ≤ 256
 psd-small cones i v b h =
     let c = recordAt cones i in
@@ -213,16 +213,16 @@ module _ (cones : List ℕ) (least : ℕ) (l : List ℕ) (h : Head) (left : List
   abbrev itsCliques : List Clique
   itsCliques = valueOr [] (readCliques (h .cliqueCount) left)
 
-  stands-whole : whole (readPattern l) ≡ true
-  stands-whole = and-parts (whole (readPattern l)) _ t .0
+  stands-whole : isWhole (readPattern l) ≡ true
+  stands-whole = and-parts (isWhole (readPattern l)) _ t .0
 
-  pub cliques-whole : whole (readCliques (h .cliqueCount) left) ≡ true
+  pub cliques-whole : isWhole (readCliques (h .cliqueCount) left) ≡ true
   cliques-whole = cliques-of-whole l h left e stands-whole
 
   is-made : valueOr noPattern (readPattern l) ≡ withCliques h itsCliques
   is-made = rw e (go (readCliques (h .cliqueCount) left) cliques-whole)
     where
-      go : (r : Read (List Clique)) → whole r ≡ true → valueOr noPattern (andThen r (λ cs end. read (withCliques h cs) end)) ≡ withCliques h (valueOr [] r)
+      go : (r : Read (List Clique)) → isWhole r ≡ true → valueOr noPattern (andThen r (λ cs end. read (withCliques h cs) end)) ≡ withCliques h (valueOr [] r)
       go (read cs end) w = refl
       go short w = absurd (differ false w refl)
 
@@ -231,7 +231,7 @@ module _ (cones : List ℕ) (least : ℕ) (l : List ℕ) (h : Head) (left : List
       let p = withCliques h itsCliques in
       let tests : (leb least (p .origIndex) && (patternRight cones p && (treeRight p && cliquesRight p))) ≡ true =
       sym (ap (λ (q : Pattern). leb least (q .origIndex) && (patternRight cones q && (treeRight q && cliquesRight q))) is-made)
-      ∙ and-parts (whole (readPattern l)) _ t .1 in
+      ∙ and-parts (isWhole (readPattern l)) _ t .1 in
       let (rises, t1) = and-parts (leb least (p .origIndex)) (patternRight cones p && (treeRight p && cliquesRight p)) tests in
       let (right, t2) = and-parts (patternRight cones p) (treeRight p && cliquesRight p) t1 in
       let (psd, ordering) = and-parts (isPsdOf cones (h .origIndex) (h .vertexCount)) (isPermutation (h .ordering)) right in
@@ -255,10 +255,10 @@ module _ (cones : List ℕ) (least : ℕ) (l : List ℕ) (h : Head) (left : List
         ∙ and-both (headRight cones least (read h left)) _
         (and-both (leb least (h .origIndex)) _ (o .rises) (and-both (not (eqb (h .cliqueCount) 0)) _ (o .some) (and-both (leb (h .cliqueCount) 256) _ (le-leb _ _ few)
         (and-both (leb (h .vertexCount) 256) (isPsdOf cones (h .origIndex) (h .vertexCount)) (le-leb _ _ small) (o .psd)))))
-        (and-both (isPermutation (h .ordering)) _ (o .ordering) (and-both (whole (readCliques (h .cliqueCount) left)) _ cliques-whole
+        (and-both (isPermutation (h .ordering)) _ (o .ordering) (and-both (isWhole (readCliques (h .cliqueCount) left)) _ cliques-whole
         (and-both (treeFrom (h .cliqueCount) 0 itsCliques) (snodesOk (h .vertexCount) itsCliques) (o .tree) (o .snodes))))
 
-    -- its blocks are no larger than its cone: a clique's separator lies in later snodes, so that no vertex stands twice in it
+    -- no block is larger than the cone: a separator has no duplicates and its members are in later snodes
     pub holds-fits : length (h .ordering) ≡ h .vertexCount → separatorsFit (h .vertexCount) itsCliques ≡ true
     holds-fits many =
         let o = opened in
@@ -268,25 +268,25 @@ module _ (cones : List ℕ) (least : ℕ) (l : List ℕ) (h : Head) (left : List
           cliques = passes _ (and-both (snodesOk (h .vertexCount) itsCliques) (separatorsOk itsCliques) (o .snodes) (o .separators));
           ordered = record { permutation = passes _ (o .ordering); vertices = many };
         } in
-        all-both (atMost 256) (λ (c : Clique). separatorBelow (h .vertexCount) itsCliques (c .parent) (c .separator)) itsCliques
-        ∙ and-both (all (atMost 256) itsCliques) (separatorsBelow (h .vertexCount) itsCliques)
+        all-both (blockAtMost 256) (λ (c : Clique). separatorBelow (h .vertexCount) itsCliques (c .parent) (c .separator)) itsCliques
+        ∙ and-both (all (blockAtMost 256) itsCliques) (separatorsBelow (h .vertexCount) itsCliques)
         (blocks-small p 256 ok (psd-small cones (h .origIndex) (h .vertexCount) b (o .psd))) (separators-below p (o .tree-whole) (o .snodes) ∙ o .separators)
 
--- a pattern that does not stand whole holds no more than one whose vertices are wrong
+-- a pattern fails if its head, its ordering or its snodes do
 pub vertices-needed : (cones : List ℕ) (least : ℕ) (l : List ℕ) → conesBounded cones ≡ true → verticesRight cones least (readHead l) ≡ false
     → patternHolds cones least (readPattern l) ≡ false
 vertices-needed cones least l b fell = failed _ (λ t.
     let holds = passed _ t in
-    let w = head-of-whole l (and-parts (whole (readPattern l)) _ holds .0) in
+    let w = head-of-whole l (and-parts (isWhole (readPattern l)) _ holds .0) in
     differ _ (holds-vertices cones least l (valueOr noHead (readHead l)) (rest (readHead l)) (whole-read noHead (readHead l) w) holds b) fell)
 
 pub pattern-passes : (cones ws : List ℕ) (w : Walk) (b : Blocks) → PatternHolds cones ws w b → patternHolds cones (w .least) (readPattern (drop (w .next) ws)) ≡ true
 pattern-passes cones ws w b h =
     let p = patternAt ws (w .next) in
-    and-both (whole (readPattern (drop (w .next) ws))) _ (h .stands) (and-both (leb (w .least) (p .origIndex)) _ (le-leb _ _ (subst (λ (i : ℕ). w .least ≤ i) (sym (h .origin)) (h .head .rises)))
+    and-both (isWhole (readPattern (drop (w .next) ws))) _ (h .stands) (and-both (leb (w .least) (p .origIndex)) _ (le-leb _ _ (subst (λ (i : ℕ). w .least ≤ i) (sym (h .origin)) (h .head .rises)))
     (and-both (patternRight cones p) _ (h .right) (and-both (treeRight p) (cliquesRight p) (h .tree) (h .cliques))))
 
--- ---- what is left to hold of the patterns from an offset on
+-- ---- what is left to check of the patterns from an offset on
 
 abbrev origin : Pattern → ℕ
 origin p = p .origIndex
@@ -320,14 +320,14 @@ module _ (cones ws : List ℕ) (least at left : ℕ) (more : 0 < left) (l : Left
   rising : (leb least (patternAt ws at .origIndex) ≡ true) × (risesFrom (suc (patternAt ws at .origIndex)) (map origin others) ≡ true)
   rising = and-parts _ _ (sym (ap (λ (ps : List Pattern). risesFrom least (map origin ps)) first) ∙ l .rise)
 
-  -- the first of those that are left is right
+  -- if all patterns left pass, the first of them does
   pub left-first : patternHolds cones least (readPattern (drop at ws)) ≡ true
   left-first =
       let p = patternAt ws at in
-      and-both (whole (readPattern (drop at ws))) _ (pattern-first ws at left more stands) (and-both (leb least (p .origIndex)) _ (rising .0)
+      and-both (isWhole (readPattern (drop at ws))) _ (pattern-first ws at left more stands) (and-both (leb least (p .origIndex)) _ (rising .0)
       (and-both (patternRight cones p) _ (each-of (patternRight cones) (l .right) .0) (and-both (treeRight p) (cliquesRight p) (each-of treeRight (l .trees) .0) (each-of cliquesRight (l .cliques) .0))))
 
-  -- and the others
+  -- if all patterns left pass, those after the first do
   pub left-next : (next lower : ℕ) → rest (readPattern (drop at ws)) ≡ drop next ws → suc (patternAt ws at .origIndex) ≡ lower → Left cones ws lower next (left - 1)
   left-next next lower e f =
       let same : others ≡ patternsFrom ws next (left - 1) = ap (λ (us : List ℕ). valueOr [] (readPatterns (left - 1) us)) e in
@@ -342,27 +342,27 @@ module _ (cones ws : List ℕ) (least at left : ℕ) (more : 0 < left) (l : Left
         cliques = ap (all cliquesRight) (sym same) ∙ each-of cliquesRight (l .cliques) .1;
       }
 
--- nothing is left only where the words end
+-- if no pattern is left, the offset is the end of the words
 pub left-ends : (cones ws : List ℕ) (least at left : ℕ) → left ≤ 0 → at ≤ length ws → Left cones ws least at left → at ≡ length ws
 left-ends cones ws least at left z m l =
     let n : left ≡ 0 = omega arith in
     omega (arith, leb-true (length ws) at (sym (ends-at [] ws at) ∙ sym (ap (λ (k : ℕ). endsRight (readPatterns k (drop at ws))) n) ∙ l .ends))
 
--- what is added so far, and what is left to add
+-- the walk's totals and those of the patterns left add up to the totals over all patterns
 pub record Summing (ws : List ℕ) (count : ℕ) (w : Walk) (left : ℕ) : Type 0 where
   pub dim : w .dim + sum (map blockRows (patternsFrom ws (w .next) left)) ≡ sum (map blockRows (patternsFrom ws 0 count))
-  pub cut : w .cut + sum (map cutRows (patternsFrom ws (w .next) left)) ≡ sum (map cutRows (patternsFrom ws 0 count))
+  pub cut : w .cut + sum (map patternRowCount (patternsFrom ws (w .next) left)) ≡ sum (map patternRowCount (patternsFrom ws 0 count))
   pub overlaps : w .overlaps + sum (map overlapRows (patternsFrom ws (w .next) left)) ≡ sum (map overlapRows (patternsFrom ws 0 count))
 
--- what was walked, and so many patterns left, are all of them
+-- if the patterns left pass, all patterns do, and the totals add up
 abbrev pub Going : List ℕ → ℕ → List ℕ → Walk → ℕ → Type 0
 Going cones count ws w left = Left cones ws (w .least) (w .next) left → Left cones ws 0 0 count × Summing ws count w left
 
--- and all of them are right only where those that are left are
+-- if all patterns pass, those left do
 abbrev pub Coming : List ℕ → ℕ → List ℕ → Walk → ℕ → Type 0
 Coming cones count ws w left = Left cones ws 0 0 count → Left cones ws (w .least) (w .next) left
 
--- no sum is large
+-- the walk's totals have room for the patterns left, so that no sum overflows
 pub record Bounded (count : ℕ) (w : Walk) (left : ℕ) : Type 0 where
   pub dim : w .dim + left * 8421376 ≤ count * 8421376
   pub cut : w .cut + left * 8421376 ≤ count * 8421376
@@ -440,7 +440,7 @@ module _ (cones ws : List ℕ) (count : ℕ) (w : Walk) (b : Blocks) (left : ℕ
         cliques = each cliquesRight (h .cliques) (l .cliques);
       }
 
-      -- the pattern is added to a sum
+      -- adding the next pattern to a total and removing it from those left keeps the sum
       sum-more : (f : Pattern → ℕ) (n t m s : ℕ) → m ≡ n + t → t ≡ f (patternAt ws (w .next)) → n + sum (map f (patternsFrom ws (w .next) left)) ≡ s
           → m + sum (map f (patternsFrom ws (r .next) (left - 1))) ≡ s
       sum-more f n t m s p q k = omega (arith, ap (λ (ps : List Pattern). sum (map f ps)) first-is)
@@ -451,7 +451,7 @@ module _ (cones ws : List ℕ) (count : ℕ) (w : Walk) (b : Blocks) (left : ℕ
             all,
             record {
               dim = sum-more blockRows (w .dim) (b .dim) (r .dim) _ (a .2) (h .dim) (s .dim);
-              cut = sum-more cutRows (w .cut) (triangle (headAt ws (w .next) .vertexCount)) (r .cut) _ (a .3) (ap triangle (sym (h .size))) (s .cut);
+              cut = sum-more patternRowCount (w .cut) (triangle (headAt ws (w .next) .vertexCount)) (r .cut) _ (a .3) (ap triangle (sym (h .size))) (s .cut);
               overlaps = sum-more overlapRows (w .overlaps) (b .overlaps) (r .overlaps) _ (a .4) (h .overlaps) (s .overlaps);
             },
           )
@@ -459,7 +459,7 @@ module _ (cones ws : List ℕ) (count : ℕ) (w : Walk) (b : Blocks) (left : ℕ
 sum-done : (f : Pattern → ℕ) (ws : List ℕ) (at left n s : ℕ) → left ≤ 0 → n + sum (map f (patternsFrom ws at left)) ≡ s → n ≡ s
 sum-done f ws at left n s z h = omega (arith, ap (λ (ps : List Pattern). sum (map f ps)) (patterns-none ws at left z))
 
--- nothing is left where the words end
+-- at the end of the words no pattern is left to check
 left-none : (cones ws : List ℕ) (least at left : ℕ) → left ≤ 0 → at ≡ length ws → Left cones ws least at left
 left-none cones ws least at left z e =
     let n : 0 ≡ left = omega arith in
@@ -471,7 +471,7 @@ left-none cones ws least at left z e =
       cliques = refl;
     })
 
--- all is left at the start
+-- checks 5, 6 and 7 of all patterns; they pass exactly if all patterns are left at the start and pass
 abbrev allHold : List ℕ → ℕ → List ℕ → Bool
 allHold cones count ws = patternsRead cones count ws && all treeRight (patterns count ws) && all cliquesRight (patterns count ws)
 
@@ -504,7 +504,7 @@ left-all cones count ws l =
     let found : patternsRead cones count ws ≡ true = rw (l .ends, rise) both in
     rw (found, ap (all treeRight) s ∙ l .trees, ap (all cliquesRight) s ∙ l .cliques)
 
--- the walk's sums, where it ends with the words
+-- if the walk ends at the end of the words, all patterns pass and its totals are those over all patterns
 pub going-done : (cones : List ℕ) (count : ℕ) (ws : List ℕ) (w : Walk) (left : ℕ) (r : Accepted) → left ≤ 0 → Going cones count ws w left
     → w .next ≡ length ws → r .dim ≡ w .dim → r .cut ≡ w .cut → r .overlaps ≡ w .overlaps → (allHold cones count ws ≡ true) × Summed (patterns count ws) r
 going-done cones count ws w left r z go e d c o =
@@ -513,18 +513,18 @@ going-done cones count ws w left r z go e d c o =
       left-all cones count ws all,
       (
         d ∙ sum-done blockRows ws (w .next) left (w .dim) _ z (s .dim) ∙ ap (λ (ps : List Pattern). sum (map blockRows ps)) same,
-        c ∙ sum-done cutRows ws (w .next) left (w .cut) _ z (s .cut) ∙ ap (λ (ps : List Pattern). sum (map cutRows ps)) same,
+        c ∙ sum-done patternRowCount ws (w .next) left (w .cut) _ z (s .cut) ∙ ap (λ (ps : List Pattern). sum (map patternRowCount ps)) same,
         o ∙ sum-done overlapRows ws (w .next) left (w .overlaps) _ z (s .overlaps) ∙ ap (λ (ps : List Pattern). sum (map overlapRows ps)) same,
       ),
     )
 
--- a pattern that is not right
+-- if the next pattern fails, the checks of all patterns fail
 pub coming-stops : (cones : List ℕ) (count : ℕ) (ws : List ℕ) (w : Walk) (left : ℕ) → 0 < left → Coming cones count ws w left
     → patternHolds cones (w .least) (readPattern (drop (w .next) ws)) ≡ false → false ≡ allHold cones count ws
 coming-stops cones count ws w left more go fell =
     sym (failed _ (λ t. differ _ (left-first cones ws (w .least) (w .next) left more (go (all-left cones count ws (passed _ t)))) fell))
 
--- no pattern is left: the words' end decides
+-- if no pattern is left, the checks pass exactly if the walk is at the end of the words
 pub coming-done : (cones : List ℕ) (count : ℕ) (ws : List ℕ) (w : Walk) (left : ℕ) → left ≤ 0 → w .next ≤ length ws
     → Going cones count ws w left → Coming cones count ws w left → eqb (w .next) (length ws) ≡ allHold cones count ws
 coming-done cones count ws w left z inside going coming = agree _ _

@@ -1,4 +1,4 @@
--- Separators and blocks walked: what was added, and what is left to add.
+-- The walk over separators and blocks: the totals so far, and those of the cliques left.
 use Prim.Native.Nat.{ℕ, _+_, _-_, _*_, _≤_, _<_}
 use native.Mathlib.Omega.{arith}
 use mathlib.Core.Path.{_≡_, refl, sym, ap, subst, _∙_}
@@ -9,9 +9,9 @@ use lib.Dec.{leb}
 use borrow.Author.Tests.{leb-true}
 use Rattle.layout.specs.Lists.{all, sum}
 use Rattle.layout.specs.Triangle.{triangle}
-use Rattle.layout.specs.Patterns.{Clique, blockSize, readClique, readCliques}
+use Rattle.layout.specs.Patterns.{blockSize, readClique, readCliques}
 use Rattle.supernode_tree.specs.Sizes.{dimOf, overlapsOf}
-use Rattle.supernode_tree.specs.Reads.{whole, Whole, rest, cliquesFrom, cliqueOf, cliqueRead, CliqueInside}
+use Rattle.supernode_tree.specs.Reads.{isWhole, Whole, rest, cliquesFrom, cliqueOf, cliqueRead, CliqueInside}
 use Rattle.supernode_tree.specs.declared.Clique.{Clique as CliqueAt}
 use Rattle.supernode_tree.specs.declared.CliqueRead.the-variants.{Clique as Found}
 use Rattle.supernode_tree.specs.declared.Pattern.{Pattern as PatternAt}
@@ -22,7 +22,7 @@ use Rattle.accepted.specs.Accepted.{cliquesOf, separatorFits, separators
 use Rattle.accepted.proofs.Walked.{and-parts}
 use Rattle.accepted.specs.declared.Blocks.{Blocks}
 
--- so many cliques are left
+-- `left` cliques are left from offset `b .next` on: they are complete, decide whether all separators fit, and make up what is missing in the totals of b
 pub record Seen (ws : List ℕ) (p : PatternAt) (b : Blocks) (left : ℕ) : Type 0 where
   pub stand : Whole ws (b .next) left
   pub later : separatorsFit (p .«vertex_count») (cliquesOf ws p) ≡ all (separatorFits (p .«vertex_count») (cliquesOf ws p)) (cliquesFrom ws (b .next) left)
@@ -39,7 +39,7 @@ pub seen-none : (ws : List ℕ) (p : PatternAt) (b : Blocks) → Whole ws (p .cl
 seen-none ws p b w l e =
     let n = sym (e .0) in
     record {
-      stand = ap (λ (i : ℕ). whole (readCliques (p .«clique_count») (drop i ws))) (e .0) ∙ w;
+      stand = ap (λ (i : ℕ). isWhole (readCliques (p .«clique_count») (drop i ws))) (e .0) ∙ w;
       later = ap (λ (i : ℕ). all (separatorFits (p .«vertex_count») (cliquesOf ws p)) (cliquesFrom ws i (p .«clique_count»))) n;
       dim = omega (arith, e .1, ap (λ (i : ℕ). sum (map dimOf (cliquesFrom ws i (p .«clique_count»)))) (e .0));
       overlaps = omega (arith, e .2, ap (λ (i : ℕ). sum (map overlapsOf (cliquesFrom ws i (p .«clique_count»)))) (e .0));
@@ -57,7 +57,7 @@ same-blocks : (r b : Blocks) → r .next ≡ b .next → r .dim ≡ b .dim → r
 same-blocks r b n d o =
     ap (λ (i : ℕ). made i (r .dim) (r .overlaps)) n ∙ ap (λ (i : ℕ). made (b .next) i (r .overlaps)) d ∙ ap (λ (i : ℕ). made (b .next) (b .dim) i) o
 
--- a clique's separator ends within the words
+-- a separator starts before it ends, inside the words
 pub block-fits : (ws : List ℕ) (at : ℕ) (q : CliqueAt) → CliqueInside (length ws) at (Found q) → (q .separator ≤ q .next) × (q .next ≤ length ws)
 block-fits ws at q inside = (omega (arith, inside .2), inside .3)
 
@@ -74,7 +74,7 @@ module _ (ws : List ℕ) (p : PatternAt) (b : Blocks) (left : ℕ) (s : Seen ws 
 
     module _ (q : CliqueAt) (e : cliqueRead ws (Found q) ≡ readClique (drop (b .next) ws)) (inside : CliqueInside (length ws) (b .next) (Found q))
         (r : Bool) (so : r ≡ (leb (q .«snode_count» + q .«separator_count») 256 && separatorBelow (p .«vertex_count») (cliquesOf ws p) (q .parent) (take (q .next - q .separator) (drop (q .separator) ws)))) where
-      -- the answer for it
+      -- the result is whether the clique's separator fits
       fit : r ≡ separatorFits (p .«vertex_count») (cliquesOf ws p) (cliqueOf ws q)
       fit =
           so ∙ ap (λ (n : ℕ). leb n 256 && separatorBelow (p .«vertex_count») (cliquesOf ws p) (q .parent) (take (q .next - q .separator) (drop (q .separator) ws))) (sym (block-size ws (b .next) q inside))

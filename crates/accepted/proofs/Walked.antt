@@ -1,4 +1,4 @@
--- Cliques walked from the first on.
+-- The walk over the cliques of a pattern, from the first on.
 use Prim.Native.Nat.{ℕ, zero, suc, _+_, _-_, _*_, _<_}
 use native.Mathlib.Numerals.{add-one}
 use native.Mathlib.Omega.{arith}
@@ -13,7 +13,7 @@ use Rattle.layout.specs.Lists.{all}
 use Rattle.layout.specs.Patterns.{Read, read, short, andThen, readMany, Clique, noClique, readClique, readCliques}
 use Rattle.layout.specs.Checks.{isPermutation}
 use Rattle.layout.proofs.Starts.{join-append}
-use Rattle.supernode_tree.specs.Reads.{cliqueOf, cliqueRead, CliqueInside, whole, rest, valueOr}
+use Rattle.supernode_tree.specs.Reads.{cliqueOf, cliqueRead, CliqueInside, isWhole, rest, valueOr, cliqueHere}
 use Rattle.supernode_tree.specs.declared.Clique.{Clique as CliqueAt}
 use Rattle.supernode_tree.specs.declared.Pattern.{Pattern as PatternAt}
 use Rattle.supernode_tree.specs.declared.CliqueRead.the-variants.{Clique as Found}
@@ -24,10 +24,10 @@ use Rattle.supernode_tree.proofs.Offsets.{after, Written, written-more, written
 use Rattle.clique_tree.specs.Trees.{parentOk, cliqueOk, treeFrom, snodesOf, snodesOk}
 use Rattle.layout.proofs.Walks.{all-append}
 use Rattle.vertex_set.specs.OnceIn.{onceBelow}
-use Rattle.accepted.specs.Accepted.{AllClear, Met, cliqueAt, filled, cliqueRight, snodesRight, cliquesOf, SnodeHolds, SnodesHold}
+use Rattle.accepted.specs.Accepted.{AllClear, Met, filled, cliqueRight, snodesRight, cliquesOf, SnodeHolds, SnodesHold}
 use Rattle.accepted.proofs.Marks.{met-all, met-clear, once-front}
 
--- ---- one more, after those that were read
+-- ---- one more clique after those read
 
 module _ {A : Type 0} (one : List ℕ → Read A) where
   last : List A → List ℕ → Read (List A)
@@ -79,7 +79,7 @@ tree-last k c (p ∷ qs) q h e = go (cliqueOk k c p) h (tree-last k (suc c) qs q
     go true h more = let s : suc c + length qs ≡ c + suc (length qs) = omega arith in more h (ap (λ (i : ℕ). cliqueOk k i q) s ∙ e)
     go false h more = h
 
--- a clique as it is read
+-- a clique that is read is valid exactly if its snode is not empty and its parent is valid
 pub clique-is : (ws : List ℕ) (at c count : ℕ) (q : CliqueAt) → readClique (drop at ws) ≡ read (cliqueOf ws q) (drop (q .next) ws)
     → CliqueInside (length ws) at (Found q)
     → cliqueRight count c (readClique (drop at ws)) ≡ (not (eqb (q .«snode_count») 0) && parentOk count c (q .parent) (q .«separator_count»))
@@ -88,7 +88,7 @@ clique-is ws at c count q e inside =
     ∙ ap (λ (n : ℕ). not (eqb n 0) && cliqueOk count c (cliqueOf ws q)) (snode-size ws at q inside)
     ∙ ap (λ (n : ℕ). not (eqb (q .«snode_count») 0) && parentOk count c (q .parent) n) (separator-size ws at q inside)
 
--- two tests that pass together
+-- two tests are equal if each passes where the other does
 pub agree : (a b : Bool) → (a ≡ true → b ≡ true) → (b ≡ true → a ≡ true) → a ≡ b
 agree true b f g = sym (f refl)
 agree false b f g = sym (failed b (λ t. differ false (g (passed b t)) refl))
@@ -96,10 +96,10 @@ agree false b f g = sym (failed b (λ t. differ false (g (passed b t)) refl))
 pub and-parts : (a b : Bool) → (a && b) ≡ true → (a ≡ true) × (b ≡ true)
 and-parts a b h = let (f, g) = and-iff a b .0 (passes (a && b) h) in (passed a f, passed b g)
 
--- ---- cliques to come, after those whose snodes were met, where all are right
+-- ---- the cliques left, where all of them pass
 
 pub record Later (k n c : ℕ) (met : List ℕ) (r : Read (List Clique)) : Type 0 where
-  pub stand : whole r ≡ true
+  pub stand : isWhole r ≡ true
   pub tree : treeFrom k c (valueOr [] r) ≡ true
   pub full : all filled (valueOr [] r) ≡ true
   pub many : length met + length (snodesOf (valueOr [] r)) ≡ n
@@ -108,7 +108,7 @@ pub record Later (k n c : ℕ) (met : List ℕ) (r : Read (List Clique)) : Type 
 pub later-start : (k n : ℕ) (r : Read (List Clique)) → snodesRight k n r ≡ true → Later k n 0 [] r
 later-start k n r h =
     let cs = valueOr [] r in
-    let (stand, others) = and-parts (whole r) (treeFrom k 0 cs && snodesOk n cs) h in
+    let (stand, others) = and-parts (isWhole r) (treeFrom k 0 cs && snodesOk n cs) h in
     let (tree, snodes) = and-parts (treeFrom k 0 cs) (snodesOk n cs) others in
     let (counts, permutation) = and-parts (all filled cs && eqb (length (snodesOf cs)) n) (isPermutation (snodesOf cs)) snodes in
     let (full, many) = and-parts (all filled cs) (eqb (length (snodesOf cs)) n) counts in
@@ -122,47 +122,47 @@ later-start k n r h =
     }
 
 module _ (ws : List ℕ) (k n c at left : ℕ) (met : List ℕ) (more : 0 < left) (h : Later k n c met (readCliques left (drop at ws))) where
-  first-read : readClique (drop at ws) ≡ read (cliqueAt ws at) (rest (readClique (drop at ws)))
+  first-read : readClique (drop at ws) ≡ read (cliqueHere ws at) (rest (readClique (drop at ws)))
   first-read = whole-read noClique (readClique (drop at ws)) (first-whole readClique left (drop at ws) more (h .stand))
 
   abbrev others : Read (List Clique)
   others = readCliques (left - 1) (rest (readClique (drop at ws)))
 
-  opened : valueOr [] (readCliques left (drop at ws)) ≡ cliqueAt ws at ∷ valueOr [] others
-  opened = many-value readClique left (drop at ws) more (cliqueAt ws at) (rest (readClique (drop at ws))) first-read (h .stand)
+  opened : valueOr [] (readCliques left (drop at ws)) ≡ cliqueHere ws at ∷ valueOr [] others
+  opened = many-value readClique left (drop at ws) more (cliqueHere ws at) (rest (readClique (drop at ws))) first-read (h .stand)
 
-  trees : (cliqueOk k c (cliqueAt ws at) ≡ true) × (treeFrom k (suc c) (valueOr [] others) ≡ true)
+  trees : (cliqueOk k c (cliqueHere ws at) ≡ true) × (treeFrom k (suc c) (valueOr [] others) ≡ true)
   trees = and-parts _ _ (sym (ap (treeFrom k c) opened) ∙ h .tree)
 
-  fulls : (filled (cliqueAt ws at) ≡ true) × (all filled (valueOr [] others) ≡ true)
+  fulls : (filled (cliqueHere ws at) ≡ true) × (all filled (valueOr [] others) ≡ true)
   fulls = and-parts _ _ (sym (ap (all filled) opened) ∙ h .full)
 
-  snodes-opened : met ++ snodesOf (valueOr [] (readCliques left (drop at ws))) ≡ (met ++ cliqueAt ws at .snode) ++ snodesOf (valueOr [] others)
-  snodes-opened = ap (λ (cs : List Clique). met ++ snodesOf cs) opened ∙ sym (append-assoc met (cliqueAt ws at .snode) (snodesOf (valueOr [] others)))
+  snodes-opened : met ++ snodesOf (valueOr [] (readCliques left (drop at ws))) ≡ (met ++ cliqueHere ws at .snode) ++ snodesOf (valueOr [] others)
+  snodes-opened = ap (λ (cs : List Clique). met ++ snodesOf cs) opened ∙ sym (append-assoc met (cliqueHere ws at .snode) (snodesOf (valueOr [] others)))
 
-  once-opened : onceBelow n ((met ++ cliqueAt ws at .snode) ++ snodesOf (valueOr [] others)) ≡ true
+  once-opened : onceBelow n ((met ++ cliqueHere ws at .snode) ++ snodesOf (valueOr [] others)) ≡ true
   once-opened = sym (ap (onceBelow n) snodes-opened) ∙ h .once
 
-  -- the first is right
-  pub later-first : (cliqueRight k c (readClique (drop at ws)) && onceBelow n (met ++ cliqueAt ws at .snode)) ≡ true
+  -- the first of the cliques left passes
+  pub later-first : (cliqueRight k c (readClique (drop at ws)) && onceBelow n (met ++ cliqueHere ws at .snode)) ≡ true
   later-first =
       let right : cliqueRight k c (readClique (drop at ws)) ≡ true = ap (cliqueRight k c) first-read ∙ rw (fulls .0, trees .0) in
-      rw (right, once-front n (met ++ cliqueAt ws at .snode) (snodesOf (valueOr [] others)) once-opened)
+      rw (right, once-front n (met ++ cliqueHere ws at .snode) (snodesOf (valueOr [] others)) once-opened)
 
-  -- and the others
-  pub later-next : (next : ℕ) (us : List ℕ) → rest (readClique (drop at ws)) ≡ drop next ws → cliqueAt ws at .snode ≡ us
+  -- the cliques after the first pass
+  pub later-next : (next : ℕ) (us : List ℕ) → rest (readClique (drop at ws)) ≡ drop next ws → cliqueHere ws at .snode ≡ us
       → Later k n (c + 1) (met ++ us) (readCliques (left - 1) (drop next ws))
   later-next next us e f =
       subst (λ (vs : List ℕ). Later k n (c + 1) (met ++ vs) (readCliques (left - 1) (drop next ws))) f
-      (subst (λ (l : List ℕ). Later k n (c + 1) (met ++ cliqueAt ws at .snode) (readCliques (left - 1) l)) e (record {
-        stand = sym (many-whole readClique left (drop at ws) more (cliqueAt ws at) (rest (readClique (drop at ws))) first-read) ∙ h .stand;
+      (subst (λ (l : List ℕ). Later k n (c + 1) (met ++ cliqueHere ws at .snode) (readCliques (left - 1) l)) e (record {
+        stand = sym (many-whole readClique left (drop at ws) more (cliqueHere ws at) (rest (readClique (drop at ws))) first-read) ∙ h .stand;
         tree = let s : c + 1 ≡ suc c = omega arith in ap (λ (i : ℕ). treeFrom k i (valueOr [] others)) s ∙ trees .1;
         full = fulls .1;
-        many = omega (arith, h .many, ap length snodes-opened, length-append met (snodesOf (valueOr [] (readCliques left (drop at ws)))), length-append (met ++ cliqueAt ws at .snode) (snodesOf (valueOr [] others)));
+        many = omega (arith, h .many, ap length snodes-opened, length-append met (snodesOf (valueOr [] (readCliques left (drop at ws)))), length-append (met ++ cliqueHere ws at .snode) (snodesOf (valueOr [] others)));
         once = once-opened;
       }))
 
--- ---- c of a pattern's cliques were walked
+-- ---- the state of the walk after c cliques
 
 pub record Walked (ws : List ℕ) (p : PatternAt) (marks : List Bool) (offsets : List ℕ) (total at c : ℕ) : Type 0 where
   pub cliques : List Clique
@@ -192,25 +192,25 @@ walked-none ws p marks offsets m = record {
 }
 
 module _ (ws : List ℕ) (p : PatternAt) (marks : List Bool) (offsets : List ℕ) (total at c : ℕ) (w : Walked ws p marks offsets total at c) where
-  -- the next was found right
+  -- the next clique passed
   module _ {new : List Bool} (r : Bool) (holds : SnodeHolds ws p at c marks new r) where
-    found : r ≡ true → (whole (readClique (drop at ws)) ≡ true) × (filled (cliqueAt ws at) ≡ true) × (cliqueOk (p .«clique_count») c (cliqueAt ws at) ≡ true)
+    found : r ≡ true → (isWhole (readClique (drop at ws)) ≡ true) × (filled (cliqueHere ws at) ≡ true) × (cliqueOk (p .«clique_count») c (cliqueHere ws at) ≡ true)
     found held =
         let right = and-parts (cliqueRight (p .«clique_count») c (readClique (drop at ws))) _ (sym (holds (snodesOf (w .cliques)) (w .met) .0) ∙ held) .0 in
-        let (stand, others) = and-parts (whole (readClique (drop at ws))) _ right in
-        let (full, tree) = and-parts (filled (cliqueAt ws at)) (cliqueOk (p .«clique_count») c (cliqueAt ws at)) others in
+        let (stand, others) = and-parts (isWhole (readClique (drop at ws))) _ right in
+        let (full, tree) = and-parts (filled (cliqueHere ws at)) (cliqueOk (p .«clique_count») c (cliqueHere ws at)) others in
         (stand, full, tree)
 
-    pub walked-stands : r ≡ true → whole (readClique (drop at ws)) ≡ true
+    pub walked-stands : r ≡ true → isWhole (readClique (drop at ws)) ≡ true
     walked-stands held = found held .0
 
-    -- or not
+    -- if the next clique fails, the check of all snodes fails
     pub walked-stops : c < p .«clique_count» → r ≡ false → false ≡ snodesRight (p .«clique_count») (p .«vertex_count») (readCliques (p .«clique_count») (drop (p .cliques) ws))
     walked-stops few fell = sym (failed _ (λ t. differ r
         (holds (snodesOf (w .cliques)) (w .met) .0 ∙ later-first ws (p .«clique_count») (p .«vertex_count») c at (p .«clique_count» - c) (snodesOf (w .cliques)) (omega arith) (w .later (passed _ t)))
         fell))
 
-  -- one more
+  -- the state after one more clique
   pub walked-more : (q : CliqueAt) (new : List Bool) (r : Bool) → cliqueRead ws (Found q) ≡ readClique (drop at ws) → CliqueInside (length ws) at (Found q)
       → SnodeHolds ws p at c marks new r → r ≡ true → c < length offsets → c < p .«clique_count»
       → Walked ws p new (set offsets c at) (total + q .«snode_count») (q .next) (c + 1)
@@ -218,7 +218,7 @@ module _ (ws : List ℕ) (p : PatternAt) (marks : List Bool) (offsets : List ℕ
       let cs = w .cliques in
       let count = p .«clique_count» in
       let first = p .cliques in
-      let d : cliqueAt ws at ≡ cliqueOf ws q = ap (valueOr noClique) (sym e) in
+      let d : cliqueHere ws at ≡ cliqueOf ws q = ap (valueOr noClique) (sym e) in
       let s : length (cliqueOf ws q .snode) ≡ q .«snode_count» = length-part (q .snode) (q .«snode_count») ws (omega arith) in
       let j : snodesOf (cs ++ (cliqueOf ws q ∷ [])) ≡ snodesOf cs ++ cliqueOf ws q .snode =
       join-append (λ (x : Clique). x .snode) cs (cliqueOf ws q ∷ []) ∙ ap (λ (r : List ℕ). snodesOf cs ++ r) (append-nil (cliqueOf ws q .snode)) in
@@ -241,7 +241,7 @@ module _ (ws : List ℕ) (p : PatternAt) (marks : List Bool) (offsets : List ℕ
             (later-next ws count (p .«vertex_count») c at (count - c) (snodesOf cs) (omega arith) (w .later all) (q .next) (cliqueOf ws q .snode) (sym (ap rest e)) (ap (λ (x : Clique). x .snode) d)));
       }
 
-  -- all of them
+  -- the walk has reached the end, with as many snode vertices as the pattern has vertices
   module _ (end : c ≡ p .«clique_count») (e : total ≡ p .«vertex_count») where
     from : readCliques (p .«clique_count») (drop (p .cliques) ws) ≡ read (w .cliques) (drop at ws)
     from = ap (λ (k : ℕ). readCliques k (drop (p .cliques) ws)) (sym end) ∙ w .reads
@@ -250,7 +250,7 @@ module _ (ws : List ℕ) (p : PatternAt) (marks : List Bool) (offsets : List ℕ
     walked-all =
         let f : cliquesOf ws p ≡ w .cliques = ap (valueOr []) from in
         record {
-          stand = ap whole from;
+          stand = ap isWhole from;
           starts = written-all ws (p .cliques) 1 offsets c (p .«clique_count») (omega arith) (w .starts);
           tree = ap (treeFrom (p .«clique_count») 0) f ∙ w .tree;
           full = ap (all filled) f ∙ w .full;
@@ -261,7 +261,7 @@ module _ (ws : List ℕ) (p : PatternAt) (marks : List Bool) (offsets : List ℕ
     pub walked-clear : AllClear marks
     walked-clear = met-clear (p .«vertex_count») marks (snodesOf (w .cliques)) (w .met) (w .many ∙ e)
 
-  -- the count of their vertices decides
+  -- after all cliques, the check passes exactly if their snodes have as many vertices as the pattern
   pub walked-many : c ≡ p .«clique_count» → eqb total (p .«vertex_count»)
       ≡ snodesRight (p .«clique_count») (p .«vertex_count») (readCliques (p .«clique_count») (drop (p .cliques) ws))
   walked-many end = agree _ _

@@ -1,20 +1,20 @@
-// Checks 5, 6 and 7 of patterns, and the rows of their blocks, in two walks over the cliques. Tables of 256 are enough: a right
-// pattern has the vertices of its cone, 256 at most; each clique has a vertex of its own, so that there are no more cliques; and a
-// separator's members are vertices of later snodes, so that no block is larger than its cone.
+// Makes checks 5, 6 and 7 on the patterns and counts the rows of their blocks, in two walks over the cliques. Scratch buffers of 256 are enough: a valid
+// pattern has at most its cone's 256 vertices; no snode is empty, so there are at most as many cliques; and a separator's members
+// are vertices of later snodes, so no block is larger than its cone.
 ghost use mathlib.Core.Path.{_≡_};
 ghost use mathlib.Core.Bool.{true, false, _&&_};
 ghost use mathlib.Core.List.{[]};
 ghost use Prim.Native.Nat.{_+_, _-_, _*_, _≤_, _<_};
 ghost use lib.Dec.{leb, ltb};
 ghost use lib.ListN.{length, take, drop};
-ghost use Rattle.supernode_tree.specs.Reads.{cliquesFrom, whole};
+ghost use Rattle.supernode_tree.specs.Reads.{cliquesFrom, isWhole};
 ghost use Rattle.vertex_set.specs.OnceIn.{onceBelowIn};
 ghost use Rattle.clique_tree.specs.Trees.{separatorBelow};
 ghost use Rattle.layout.specs.Lists.{all};
 ghost use Rattle.layout.specs.Checks.{conesBounded, patternsRead, treeRight, cliquesRight};
 ghost use Rattle.layout.specs.Triangle.{triangle};
 ghost use Rattle.layout.specs.Patterns.{patterns, readHead, readClique, readCliques, readPattern};
-ghost use Rattle.accepted.specs.Accepted.{Summed, AllClear, Met, Meets, cliqueRight, SnodeHolds, snodesRight, SnodesHold, separatorsFit, SeparatorsHold, Stand, headRight, verticesRight, VerticesHold, headAt, patternHolds, PatternHolds, Added};
+ghost use Rattle.accepted.specs.Accepted.{Summed, AllClear, Met, AddsOnce, cliqueRight, SnodeHolds, snodesRight, SnodesHold, separatorsFit, SeparatorsHold, Stand, headRight, verticesRight, VerticesHold, headAt, patternHolds, PatternHolds, Added};
 use constants::limit;
 use constants::scratch;
 use supernode_tree::Clique;
@@ -22,18 +22,18 @@ use supernode_tree::CliqueRead;
 use supernode_tree::Pattern;
 use supernode_tree::PatternRead;
 
-// The blocks of cliques that were found right: where the words after the cliques start, the blocks' rows, and how many of them are
-// overlaps. The first is 0 where something is not right.
+// The totals over the cliques that passed: the offset of the word after them, their blocks' rows, and how many of these rows are overlaps.
+// `next` is 0 where a clique failed.
 struct Blocks {
     next: usize,
     dim: u64,
     overlaps: u64,
 }
 
-// Sets the marks of the words from a to e to b, unless one is not below n or has the mark b already.
+// Sets the marks of the vertices `words[a..e]` to `b`. Returns false, with some marks changed, if one of them is not below `n` or has the mark `b` already.
 fn mark_all(words: &[u32], a: usize, e: usize, n: usize, b: bool, marks: &mut [bool]) -> bool
     requires { ⌜ (a ≤ e) × (e ≤ length (now words)) × (n ≤ length (now marks)) ⌝ }
-    ensures { λ r. ⌜ Meets b n (now (marks .entry)) (take (e - a) (drop a (now (words .entry)))) (now (marks .exit)) r ⌝ }
+    ensures { λ r. ⌜ AddsOnce b n (now (marks .entry)) (take (e - a) (drop a (now (words .entry)))) (now (marks .exit)) r ⌝ }
 {
     let mut i = a;
     while i < e {
@@ -50,7 +50,7 @@ fn mark_all(words: &[u32], a: usize, e: usize, n: usize, b: bool, marks: &mut [b
     true
 }
 
-// How many rows a block of side k has.
+// Returns the number of rows of a block of side `k`.
 fn rows(k: usize) -> u64
     requires { ⌜ k ≤ 256 ⌝ }
     ensures { λ r. ⌜ (r ≡ triangle k) × (r ≤ 32896) ⌝ }
@@ -60,7 +60,7 @@ fn rows(k: usize) -> u64
 
 // ---- parents and snodes
 
-// The c-th clique stands whole, has a right parent, and its snode is not empty.
+// Checks that the clique at offset `at`, number `c` of `count`, is complete, has a valid parent, and has a snode that is not empty.
 fn clique_holds(words: &[u32], at: usize, c: u32, count: u32) -> bool
     requires { ⌜ c < count ⌝ }
     ensures { λ r. ⌜ r ≡ cliqueRight count c (readClique (drop at (now (words .entry)))) ⌝ }
@@ -74,7 +74,7 @@ fn clique_holds(words: &[u32], at: usize, c: u32, count: u32) -> bool
     clique_tree::parent_right(q, c, count)
 }
 
-// The same, and each vertex of its snode has a mark and loses it, so that none is left to clear.
+// Checks the same, and that each vertex of the clique's snode has its mark, which it clears. A vertex in two snodes fails at the second.
 fn snode_holds(words: &[u32], p: Pattern, at: usize, c: u32, marks: &mut [bool]) -> bool
     requires { ⌜ (c < p .«clique_count») × (p .«vertex_count» ≤ length (now marks)) ⌝ }
     ensures { λ r. ⌜ SnodeHolds (now (words .entry)) p at c (now (marks .entry)) (now (marks .exit)) r ⌝ }
@@ -86,7 +86,8 @@ fn snode_holds(words: &[u32], p: Pattern, at: usize, c: u32, marks: &mut [bool])
     mark_all(words, q.snode, q.separator, p.vertex_count, false, marks)
 }
 
-// The same of all cliques, which leave no mark; each leaves its offset.
+// Checks the same for all cliques of `p`, and writes the offset of each to `offsets`. Returns whether they pass and have as many snode vertices as `p`
+// has vertices: then no mark is set.
 fn snodes_hold(words: &[u32], p: Pattern, marks: &mut [bool], offsets: &mut [usize]) -> bool
     requires { ⌜ (p .cliques ≤ length (now words)) × (p .«vertex_count» ≤ length (now marks)) × (p .«clique_count» ≤ length (now offsets)) ⌝ }
     requires { ⌜ Met false (p .«vertex_count») (now marks) [] ⌝ }
@@ -111,8 +112,8 @@ fn snodes_hold(words: &[u32], p: Pattern, marks: &mut [bool], offsets: &mut [usi
 
 // ---- separators and blocks
 
-// A separator, which stands from `a` to `e`, repeats no member, each is below `n`, and its parent's clique, from `b` to `f`, holds it.
-// Members rise as a rule, and are then looked for here, in the loop over the cliques; the walks for any members are a call.
+// Checks that the separator `words[a..e]` has no duplicates, and that its members are below `n` and in its parent's clique `words[b..f]`. Members usually
+// increase, and are then looked up here, inside the loop over the cliques; for members in any other order it calls `clique_tree::separator_right`.
 fn separator_right(
     words: &[u32],
     a: usize,
@@ -135,8 +136,8 @@ fn separator_right(
     clique_tree::separator_right(words, a, e, b, f, n, marks)
 }
 
-// A read clique's block is no larger than a cone, its separator repeats no member, and each is a vertex that its parent's clique,
-// which has its offset, holds.
+// Checks that the block of clique `q` has at most 256 vertices, and that its separator has no duplicates and only vertices of its parent's clique, which
+// is found through `offsets`.
 fn separator_holds(
     words: &[u32],
     p: Pattern,
@@ -172,7 +173,7 @@ fn separator_holds(
     )
 }
 
-// A clique's block beside those before it.
+// Returns the totals `b` with the block of clique `q` added.
 fn with_clique(b: Blocks, q: Clique) -> Blocks
     requires { ⌜ q .«snode_count» + q .«separator_count» ≤ 256 ⌝ }
     requires { ⌜ (b .dim + 32896 < 18446744073709551616) × (b .overlaps + 32896 < 18446744073709551616) ⌝ }
@@ -195,7 +196,7 @@ fn no_blocks(next: usize) -> Blocks
     }
 }
 
-// Each separator, and the rows of the blocks.
+// Checks the separator of each clique of `p`, and counts the rows and overlaps of the blocks. Returns the totals, with `next` 0 if a clique fails.
 fn separators_hold(words: &[u32], p: Pattern, offsets: &[usize], marks: &mut [bool]) -> Blocks
     requires { ⌜ Stand (now words) p (now offsets) ⌝ }
     requires { ⌜ (0 < p .cliques) × (p .cliques ≤ length (now words)) ⌝ }
@@ -218,8 +219,8 @@ fn separators_hold(words: &[u32], p: Pattern, offsets: &[usize], marks: &mut [bo
 
 // ---- patterns
 
-// The patterns that were found right: where the words after them start, the least number that the next one's cone can have, the rows
-// of the blocks, those of the cones that are cut, and the overlaps.
+// The totals over the patterns that passed: the offset of the word after them, the least cone number that the next pattern may have, the rows
+// of the blocks, the rows of the decomposed cones, and the overlaps.
 struct Walk {
     next: usize,
     least: u64,
@@ -228,7 +229,8 @@ struct Walk {
     overlaps: u64,
 }
 
-// The head of the pattern at an offset stands whole, and names its cone, which is a later one; tables of 256 are long enough.
+// Checks that the head of the pattern at offset `at` is complete and names a PSD cone of its size, numbered `least` or more, and that the pattern has
+// 1 to 256 cliques and at most 256 vertices, so that the scratch buffers are long enough.
 fn head_holds(cones: &[u32], words: &[u32], at: usize, least: u64) -> bool
     ensures { λ r. ⌜ r ≡ headRight (now (cones .entry)) least (readHead (drop at (now (words .entry)))) ⌝ }
 {
@@ -250,7 +252,8 @@ fn head_holds(cones: &[u32], words: &[u32], at: usize, least: u64) -> bool
     supportedcone::is_psd_of(cones, p.orig_index as usize, p.vertex_count)
 }
 
-// The vertices of the pattern after those walked: its ordering sets their marks, and its snodes take them away.
+// Checks the head, the ordering and the snodes of the pattern at `w.next`: the ordering sets the mark of each vertex, and the snodes clear it. Writes the
+// offset of each clique to `offsets`.
 fn vertices_hold(
     cones: &[u32],
     words: &[u32],
@@ -279,7 +282,8 @@ fn vertices_hold(
     snodes_hold(words, p, marks, offsets)
 }
 
-// The pattern after those walked, with marks for its vertices, room for its cliques' offsets, and marks to look at separators.
+// Makes checks 5, 6 and 7 on the pattern at `w.next`. The scratch buffers are `marks` for its vertices, `offsets` for its cliques, and `others` for
+// separators. Returns the totals over its blocks, with `next` 0 if it fails.
 fn pattern_holds(
     cones: &[u32],
     words: &[u32],
@@ -301,9 +305,9 @@ fn pattern_holds(
     separators_hold(words, p, offsets, others)
 }
 
-// A pattern's blocks beside those before it.
+// Returns the totals `w` with the pattern at `w.next` and its blocks `b` added.
 fn with_pattern(words: &[u32], w: Walk, b: Blocks) -> Walk
-    requires { ⌜ (whole (readHead (drop (w .next) (now words))) ≡ true) × (headAt (now words) (w .next) .vertexCount ≤ 256) ⌝ }
+    requires { ⌜ (isWhole (readHead (drop (w .next) (now words))) ≡ true) × (headAt (now words) (w .next) .vertexCount ≤ 256) ⌝ }
     requires { ⌜ (w .dim + b .dim < 18446744073709551616) × (w .cut + 32896 < 18446744073709551616) × (w .overlaps + b .overlaps < 18446744073709551616) ⌝ }
     ensures { λ r. ⌜ Added (now (words .entry)) w b r ⌝ }
 {
@@ -317,8 +321,7 @@ fn with_pattern(words: &[u32], w: Walk, b: Blocks) -> Walk
     }
 }
 
-// What the walk answers: whether checks 5, 6 and 7 hold and, where they do, the rows of the blocks, those of the cones that are
-// cut, and the overlaps.
+// Whether checks 5, 6 and 7 pass and, where they do, the rows of the blocks, the rows of the decomposed cones, and the overlaps.
 pub struct Accepted {
     pub holds: bool,
     pub dim: u64,
@@ -337,6 +340,7 @@ fn answer(holds: bool, w: Walk) -> Accepted
     }
 }
 
+// Makes checks 5, 6 and 7 on `count` patterns in `words`. Returns whether they pass, with the totals over all patterns.
 pub fn patterns_hold(cones: &[u32], count: u32, words: &[u32]) -> Accepted
     requires { ⌜ conesBounded (now cones) ≡ true ⌝ }
     ensures { λ r. ⌜ r .holds ≡ (patternsRead (now (cones .entry)) count (now (words .entry)) && all treeRight (patterns count (now (words .entry))) && all cliquesRight (patterns count (now (words .entry)))) ⌝ }

@@ -1,4 +1,4 @@
--- What a caller of the writers cites: the tables of the cut by the parts' own lists, and what the checks say of the lengths.
+-- What a caller of the writers needs: the tables of the cut in terms of the parts' lists, and bounds on the lengths from the checks.
 use Prim.Native.Nat.{ℕ, suc, _+_, _-_, _*_, _≤_, _<_}
 use native.Mathlib.Omega.{arith}
 use mathlib.Core.Path.{_≡_, refl, sym, ap, _∙_}
@@ -25,19 +25,19 @@ use Rattle.augment_standard.proofs.Columns.{length-hRows, length-pairs}
 use Rattle.augment_standard.proofs.Beside.{beside-standard}
 use Rattle.layout.proofs.Buffers.{written-after}
 
--- three words at the front
+-- storing the first three words keeps the length
 pub length-three : (old : List ℕ) (a b c : ℕ) → length (set (set (set old 0 a) 1 b) 2 c) ≡ length old
 length-three old a b c =
     length-set (set (set old 0 a) 1 b) 2 c ∙ length-set (set old 0 a) 1 b ∙ length-set old 0 a
 
--- and a list after them, written to the part that was lent
+-- three words, and a list written to the slice after them
 pub three-then : (a b c : ℕ) (ys old : List ℕ) {vs : List ℕ} → 3 + length ys ≤ length old
     → let ws = set (set (set old 0 a) 1 b) 2 c in
     vs ≡ written ys (take (length ws - 3) (drop 3 ws))
     → take 3 ws ++ (vs ++ drop (length ws - 3) (drop 3 ws)) ≡ written (a ∷ b ∷ c ∷ ys) old
 three-then a b c ys old h e = written-after (a ∷ b ∷ c ∷ []) ys old 3 refl h (three-more [] old a b c 0 refl (omega arith)) e
 
--- the original rows of k columns of H are written to the part after k places, and then spread
+-- the original rows of k columns of H, written at index k and then spread over 2k elements
 module _ (m k : ℕ) (os old : List ℕ) (e : length os ≡ k) (room : 2 * k ≤ length old) where
   abbrev table : List ℕ
   table = take k old ++ (os ++ drop k (drop k old))
@@ -66,7 +66,7 @@ module _ (m k : ℕ) (os old : List ℕ) (e : length os ≡ k) (room : 2 * k ≤
       let twice : length (hRows m os) ≡ k + k = omega (arith, length-hRows m os) in
       rw (placed f, after, take-at os (drop k (drop k old)) k e, twice) (ap (λ (rest : List ℕ). hRows m os ++ rest) kept)
 
--- how many rows H has
+-- the number of columns of H
 module _ {m : ℕ} {cones : List ℕ} {count : ℕ} {words : List ℕ} (h : Sound m cones count words) where
   abbrev ps : List Part
   ps = joinedParts cones count words
@@ -74,10 +74,10 @@ module _ {m : ℕ} {cones : List ℕ} {count : ℕ} {words : List ℕ} (h : Soun
   pub rows-count : length (standardRows (joinedParts cones count words)) ≡ blockRowCount (joinedParts cones count words)
   rows-count = standard-count 0 ps (sound-laid h .0)
 
--- ---- a problem that a route accepts
+-- ---- a problem that the route accepts
 
 module _ (route : Route) (p : Problem) (ok : refusal route p ≡ 0) where
-  -- what `write_objective` asks, by the sizes of its outputs
+  -- the precondition of `write_objective`, from the lengths of its outputs
   pub rooms-P : (k starts rows values costs alphas : ℕ)
       → (suc (p .n + k) ≤ starts) × (length (p .P .values) ≤ rows) × (length (p .P .values) ≤ values) × (p .n + k ≤ costs) × (length (p .alphas) ≤ alphas)
       → (length (p .P .starts) + k ≤ starts) × (length (p .P .rows) ≤ rows) × (length (p .P .values) ≤ values) × (length (p .q) + k ≤ costs) × (length (p .alphas) ≤ alphas)
@@ -87,14 +87,14 @@ module _ (route : Route) (p : Problem) (ok : refusal route p ≡ 0) where
 -- ---- constraints that the standard route accepts
 
 module _ {p : Problem} (h : Accepted standard p) where
-  -- A beside H is the standard cut's A
+  -- A beside H is the A of the standard cut
   beside : besideH (p .A) (p .m) (standardRows (layout p)) ≡ standardA p
   beside = beside-standard p (starts-right h)
 
   pub rows-A : besideRows (p .A .rows) (p .m) (standardRows (layout p)) ≡ standardA p .rows
   rows-A = ap (λ (M : Csc). M .rows) beside
 
-  -- with as many columns as the blocks have rows
+  -- where k is the number of block rows
   module _ (k : ℕ) (e : k ≡ blockRowCount (layout p)) where
     pub few-rows : p .m + k ≤ 262144
     few-rows = omega (arith, e, leb-iff (p .m + blockRowCount (layout p)) 262144 .0 (passed 10 (checks standard (whole h)) tt (h .accepted)))
@@ -108,7 +108,7 @@ module _ {p : Problem} (h : Accepted standard p) where
     pub values-A : besideValues (p .A .values) k ≡ standardA p .values
     values-A = ap (besideValues (p .A .values)) columns ∙ ap (λ (M : Csc). M .values) beside
 
-    -- room for the rows and the values of A and H, and for b with zeros
+    -- the outputs are long enough for the rows and the values of A and H, and for b with zeros
     pub room-rows : (room : ℕ) → length (standardA p .rows) ≤ room → length (p .A .rows) + 2 * k ≤ room
     room-rows room r =
         let os = standardRows (layout p) in

@@ -1,10 +1,10 @@
--- The standard cut's cone records over the parts. Definitions only.
+-- The cone records of the standard cut, from the parts. Definitions only.
 use Prim.Native.Nat.{ℕ}
 use mathlib.Core.List.{List, _∷_}
 use Rattle.layout.specs.Lists.{join}
 use Rattle.layout.specs.Blocks.{Part}
 use Rattle.layout.specs.Standard.{standardPart}
 
--- Zero(m), then those of the parts
+-- Zero(m), then the records of the parts
 abbrev pub zeroThenParts : ℕ → List Part → List ℕ
 zeroThenParts m ps = 0 ∷ m ∷ 0 ∷ join standardPart ps

@@ -1,4 +1,4 @@
--- What the writers of a cut ask: a problem's parts, the columns that are added, and room in the outputs. Definitions only.
+-- The preconditions of a cut's writers: an accepted problem, the number of added columns, and outputs that are long enough. Definitions only.
 use Prim.Native.Nat.{ℕ, suc, _+_, _≤_}
 use mathlib.Core.Path.{_≡_}
 use mathlib.Core.List.{_++_}
@@ -11,11 +11,11 @@ use Rattle.layout.specs.Answers.{augmented, addedCount, slackCount}
 use Rattle.layout.specs.Calls.Cut.{Objective, Constrained}
 use Rattle.augment_standard.specs.Constraints.{Accepted}
 
--- P and q with k columns more, which are empty and cost nothing, and the exponents as they are
+-- P extended by k empty columns, q by k zeros, and the exponents unchanged
 abbrev pub extended : ℕ → Objective → Objective
 extended k o = record { P = extendedP k (o .P); q = o .q ++ replicate k zero64; alphas = o .alphas }
 
--- P has n columns, and the outputs have room for k more
+-- P has n columns, and the outputs are long enough for k more
 pub record ObjectiveFits (n k : ℕ) (o out : Objective) : Type 0 where
   pub right : T (startsRight n (o .P))
   pub starts : length (o .P .starts) + k ≤ length (out .P .starts)
@@ -24,7 +24,7 @@ pub record ObjectiveFits (n k : ℕ) (o out : Objective) : Type 0 where
   pub costs : length (o .q) + k ≤ length (out .q)
   pub alphas : length (o .alphas) ≤ length (out .alphas)
 
--- the route accepts the problem and adds k columns, and the outputs have room for them
+-- the route accepts the problem and adds k columns, and the outputs are long enough
 pub record ConstrainedFits (route : Route) (p : Problem) (k : ℕ) (out : Constrained) : Type 0 where
   pub accepted : Accepted route p
   pub added : k ≡ addedCount route (layout p)

@@ -1,4 +1,4 @@
-// What both routes write alike, and the standard cut of a whole problem that the route accepts, each output written by its own function.
+// What both routes write alike, and the standard cut of a whole accepted problem; each output is written by its own function.
 ghost use mathlib.Core.Path.{_≡_};
 ghost use Prim.Native.Nat.{_+_, _*_, _≤_};
 ghost use lib.ListN.{length};
@@ -16,7 +16,7 @@ use tables::Table;
 
 // ---- P, q and the exponents, on either route
 
-// Writes P and q with k columns more, which are empty and cost nothing, and the exponents as they are.
+// Writes P extended by `k` empty columns, q extended by `k` zeros, and the exponents unchanged.
 pub fn write_objective(
     n: u32,
     p_starts: &[u32],
@@ -49,7 +49,7 @@ pub fn write_objective(
 
 // ---- the standard route
 
-// Writes the rows of the k columns of H, over -I: first the rows of H after k places, which are then spread over all 2k.
+// Writes the row indices of the `k` columns of H over -I to `out`: first those of H from index `k` on, which are then spread over all 2`k` elements.
 fn h_rows(m: u32, cones: &[u32], count: u32, words: &[u32], k: usize, out: &mut [u32])
     requires { ⌜ Sound m (now cones) count (now words) ⌝ }
     requires { ⌜ (k ≡ blockRowCount (joinedParts (now cones) count (now words))) × (m + k ≤ 262144) × (2 * k ≤ length (now out)) ⌝ }
@@ -59,7 +59,7 @@ fn h_rows(m: u32, cones: &[u32], count: u32, words: &[u32], k: usize, out: &mut 
     augment_standard::spread_rows(out, k, m);
 }
 
-// Writes the rows of A beside the k columns of H.
+// Writes the row indices of A beside the `k` columns of H to `out`.
 fn standard_a_rows(
     m: u32,
     cones: &[u32],
@@ -77,7 +77,7 @@ fn standard_a_rows(
     h_rows(m, cones, count, words, k, &mut out[a_rows.len()..]);
 }
 
-// Writes the cones: Zero(m), then each cone or its blocks.
+// Writes the cone records to `out`: Zero(`m`), then each cone, or its blocks where it is cut.
 fn standard_cones(m: u32, cones: &[u32], count: u32, words: &[u32], out: &mut [u32])
     requires { ⌜ Sound m (now cones) count (now words) ⌝ }
     requires { ⌜ length (zeroThenParts m (joinedParts (now cones) count (now words))) ≤ length (now out) ⌝ }
@@ -89,7 +89,7 @@ fn standard_cones(m: u32, cones: &[u32], count: u32, words: &[u32], out: &mut [u
     tables::write_table(Table::StandardCones, m, cones, count, words, &mut out[3..]);
 }
 
-// Writes A, b and the cones of the standard cut: of constraints that the route accepts, where the blocks have k rows in all.
+// Writes A, b and the cones of the standard cut of accepted constraints; `k` is the number of block rows.
 pub fn decomp_augment_standard(
     n: u32,
     m: u32,

@@ -1,4 +1,4 @@
--- The columns of A, moved one after the other.
+-- The columns of A, moved one by one.
 use Prim.Native.Nat.{ℕ, zero, suc, _+_, _-_, _≤_, _<_}
 use native.Mathlib.Numerals.{add-one}
 use native.Mathlib.Omega.{arith}
@@ -29,7 +29,7 @@ use Rattle.augment_compact.specs.Places.{ColumnsInOrder}
 part-getD : {A : Type 0} (d : A) (a b t : ℕ) (xs : List A) → t < b - a → getD (part a b xs) t d ≡ getD xs (a + t) d
 part-getD d a b t xs l = getD-take (b - a) (drop a xs) t d l ∙ getD-drop a xs t d
 
--- entries by the parts of the tables that hold them
+-- the entries from a to b, from the slices of rows and values that hold them
 entries-part : (a b : ℕ) (M : Csc) → a ≤ b → b ≤ length (M .rows)
     → entriesFrom a (b - a) M ≡ entries (part a b (M .rows)) (part a b (M .values))
 entries-part a b M h l =
@@ -44,7 +44,7 @@ entries-part a b M h l =
     (sym (part-getD 0 a b t (M .rows) m)) (sym (part-getD nan a b t (M .values) m)))
     ∙ ap (λ (k : ℕ). entriesFrom 0 k P) (sym (length-part a b (M .rows) h l))
 
--- what all rows stand on, a part of them stands on
+-- a condition on all rows also holds for a slice of them
 placing-part : (codes place rows : List ℕ) (a b : ℕ) → a ≤ b → b ≤ length rows → Placing codes place rows → Placing codes place (part a b rows)
 placing-part codes place rows a b h l p = record {
   few = p .few;
@@ -66,7 +66,7 @@ placing-part codes place rows a b h l p = record {
     far : (t : ℕ) → t < length (part a b rows) → a + t < length rows
     far t m = omega (arith, size)
 
--- one column more
+-- adding one column appends its entries
 pub columns-more : {X : Type 0} (field : Entry → X) (c : ℕ) (M : Csc) (codes : List ℕ)
     → map field (join (λ c. c) (codedColumns (c + 1) M codes))
     ≡ map field (join (λ c. c) (codedColumns c M codes)) ++ map field (codedColumn codes (column M c))
@@ -88,7 +88,7 @@ module _ (n : ℕ) (M : Csc) (codes place : List ℕ) (right : RightStarts n M) 
     pub column-placing : Placing codes place (columnRows M c)
     column-placing = placing-part codes place (M .rows) (getD (M .starts) c 0) (getD (M .starts) (suc c) 0) (right .rise c l) inside h
 
-    -- a column with its repeats added, by the parts of the tables that hold it
+    -- a column with repeats added, from the slices of the tables that hold it
     pub column-sums : column (sums n M) c
         ≡ summed (entries (columnRows M c) (part (getD (M .starts) c 0) (getD (M .starts) (suc c) 0) (M .values)))
     column-sums = sums-column n M c l ∙ ap summed column-part
@@ -101,7 +101,7 @@ module _ (n : ℕ) (M : Csc) (codes place : List ℕ) (right : RightStarts n M) 
         ∙ summed-column-count codes place (columnRows M c) column-placing (order c l) (part a b (M .values))
         (length-part a b (M .values) (right .rise c l) (omega (arith, inside, right .even)) ∙ sym (length-part a b (M .rows) (right .rise c l) inside))
 
-  -- the columns before c take as many places as they have runs
+  -- the columns before c have as many entries as runs
   pub columns-start : {X : Type 0} (field : Entry → X) (c : ℕ) → c ≤ n
       → length (map field (join (λ c. c) (codedColumns c (sums n M) codes))) ≡ runCount c M
   columns-start field zero l = refl

@@ -34,7 +34,7 @@ use Rattle.augment_compact.specs.Cut.{codedColumns, tie, tiedRows, cutA}
 
 -- ---- a column
 
--- the entries stand on original rows
+-- whether all entries are in original rows (below 65,536)
 abbrev Originals : List Entry → Type 0
 Originals es = T (all (λ (e : Entry). ltb (e .row) 65536) es)
 
@@ -50,7 +50,7 @@ row-coded es r (kept o) h = refl
 row-coded es r (owned o) h = refl
 row-coded es r (overlap o q) h = sym (moved-nowhere q r es h)
 
--- the same at each number, one further
+-- joining over numbers shifted by one
 join-later : {B : Type 0} (f g : ℕ → List B) (a k : ℕ) → ((i : ℕ) → f (suc i) ≡ g i) → join f (upFrom (suc a) k) ≡ join g (upFrom a k)
 join-later f g a zero h = refl
 join-later f g a (suc k) h = ap₂ _++_ (h a) (join-later f g (suc a) k h)
@@ -114,11 +114,11 @@ module _ (p : Problem) (ok : refusal compact p ≡ 0) where
   abbrev added : List (List Entry)
   added = overlapColumns 0 R
 
-  -- A's columns, their repeats added, over the augmented rows
+  -- the columns of A, with repeats added, over the augmented rows
   abbrev moving : ℕ → List Entry
   moving c = augmentedColumn (summed (column (p .A) c)) 0 R
 
-  -- every entry stands on an original row
+  -- every entry is in an original row
   entries-original : (c : ℕ) → c < p .n → Originals (summed (column (p .A) c))
   entries-original c l =
       subst Originals (summed-column p c l)
@@ -133,7 +133,7 @@ module _ (p : Problem) (ok : refusal compact p ≡ 0) where
       let l = has-below c (p .n) .0 h in
       column-coded (summed (column (p .A) c)) R (entries-original c l) ∙ ap (codedColumn codes) (sym (summed-column p c l)))
 
-  -- the columns keep their lengths
+  -- moving a column keeps its length
   lengths-keep : map length (map moving (below (p .n))) ≡ map length (map (column (summedA p)) (below (p .n)))
   lengths-keep =
       map-map length moving (below (p .n))
@@ -163,13 +163,13 @@ module _ (p : Problem) (ok : refusal compact p ≡ 0) where
       ∙ ap₂ _++_ (ap (λ (cs : List (List Entry)). csc cs .values) columns-coded)
       (tied-values 0 R ∙ ap (pairValues minusOne64 one64) (link-count p ok))
 
-  -- the room that `write_entries` asks for the overlaps' rows
+  -- the number of row indices of the overlap columns, for the room that `write_entries` requires
   pub tied-count : length (tiedRows 0 (map cutCode (compactRows (layout p)))) ≡ 2 * overlapCount (layout p)
   tied-count =
       ap length (sym (tied-rows 0 R (accepted-small p ok))) ∙ length-map (join (λ c. c) added) (λ (e : Entry). e .row)
       ∙ sym (length-map (join (λ c. c) added) (λ (e : Entry). e .value)) ∙ ap length (tied-values 0 R)
       ∙ length-pairs minusOne64 one64 (length (links 0 R)) ∙ ap (λ (k : ℕ). 2 * k) (link-count p ok)
 
-  -- what a caller cites: the tables written are those of the compact cut
+  -- the tables written are those of the compact cut
   pub cut-compact : cutA (p .n) (summedA p) (map cutCode (compactRows (layout p))) (overlapCount (layout p)) ≡ compactA p
   cut-compact = sym (λ i. record { starts = starts i; rows = rows i; values = values i })

@@ -1,4 +1,4 @@
--- The table from original row to augmented row, and what the columns of an accepted problem stand on.
+-- The table from original row to augmented row, and the conditions that the columns of an accepted problem meet.
 use Prim.Native.Nat.{ℕ, zero, suc, _+_, _≤_, _<_, suc-le-suc, zero-le}
 use native.Mathlib.Nat.{le-of-suc-le-suc, not-suc-le-zero, zero-add}
 use native.Mathlib.Omega.{arith}
@@ -24,7 +24,7 @@ use Rattle.layout.proofs.Columns.{right-A}
 use Rattle.codes.specs.Codes.{cutCode}
 use Rattle.codes.proofs.Rows.{rows-inside}
 use Rattle.columns.specs.Marks.{Placing}
-use Rattle.augment_compact.specs.Places.{placed, ColumnsInOrder}
+use Rattle.augment_compact.specs.Places.{rowTable, ColumnsInOrder}
 
 -- ---- the table
 
@@ -32,13 +32,13 @@ choice-length : (b : Bool) (t : List ℕ) (c r : ℕ) → length (cond b (set t 
 choice-length true t c r = length-set t c r
 choice-length false t c r = refl
 
-pub length-placed : (r : ℕ) (cs t : List ℕ) → length (placed r cs t) ≡ length t
+pub length-placed : (r : ℕ) (cs t : List ℕ) → length (rowTable r cs t) ≡ length t
 length-placed r [] t = refl
 length-placed r (c ∷ cs) t =
     length-placed (suc r) cs (cond (ltb c 65536) (set t c r) t) ∙ choice-length (ltb c 65536) t c r
 
--- a row that is no code keeps its place
-placed-other : (r : ℕ) (cs t : List ℕ) (o : ℕ) → ((j : ℕ) → j < length cs → getD cs j 0 ≡ o → ⊥) → getD (placed r cs t) o 0 ≡ getD t o 0
+-- a row that is no code keeps its entry in the table
+placed-other : (r : ℕ) (cs t : List ℕ) (o : ℕ) → ((j : ℕ) → j < length cs → getD cs j 0 ≡ o → ⊥) → getD (rowTable r cs t) o 0 ≡ getD t o 0
 placed-other r [] t o h = refl
 placed-other r (c ∷ cs) t o h =
     placed-other (suc r) cs (cond (ltb c 65536) (set t c r) t) o (λ j l. h (suc j) (suc-le-suc l)) ∙ pick (ltb c 65536)
@@ -47,9 +47,9 @@ placed-other r (c ∷ cs) t o h =
     pick true = getD-set-other t c o r 0 (λ e. h 0 (suc-le-suc zero-le) (sym e))
     pick false = refl
 
--- a row that is one code has that one's place
+-- a row that is the code at exactly one index i is mapped to r + i
 placed-here : (r : ℕ) (cs t : List ℕ) (i : ℕ) → i < length cs → getD cs i 0 < 65536 → getD cs i 0 < length t
-    → ((j : ℕ) → j < length cs → getD cs j 0 ≡ getD cs i 0 → j ≡ i) → getD (placed r cs t) (getD cs i 0) 0 ≡ r + i
+    → ((j : ℕ) → j < length cs → getD cs j 0 ≡ getD cs i 0 → j ≡ i) → getD (rowTable r cs t) (getD cs i 0) 0 ≡ r + i
 placed-here r [] t i l s b once = absurd (not-suc-le-zero l)
 placed-here r (c ∷ cs) t zero l s b once =
     rw (lt-ltb c 65536 s)
@@ -72,7 +72,7 @@ module _ (m : ℕ) (few : m ≤ 65536) (R : List Row) (right : RightRows 0 0 m R
   code-at : (r : ℕ) → r < length R → getD codes r 0 ≡ cutCode (rowAt R r)
   code-at r l = getD-map cutCode R r (kept 0) 0 l
 
-  -- a row whose values are moved has its original row as code
+  -- the code of a row whose values are moved is its original row
   code-moved : (x : Row) → T (isMoved x) → cutCode x ≡ originalRow x
   code-moved (kept o) h = refl
   code-moved (owned o) h = refl
@@ -83,7 +83,7 @@ module _ (m : ℕ) (few : m ≤ 65536) (R : List Row) (right : RightRows 0 0 m R
   moved-small (owned o) l = tt
   moved-small (overlap o q) l = absurd (omega arith)
 
-  -- no code below 65,536 stands twice
+  -- codes below 65,536 are duplicate-free
   code-once : (r s : ℕ) → r < length codes → s < length codes → getD codes s 0 ≡ getD codes r 0 → getD codes r 0 < 65536 → s ≡ r
   code-once r s l k e small =
       let lr : r < length R = omega (arith, size) in
@@ -95,11 +95,11 @@ module _ (m : ℕ) (few : m ≤ 65536) (R : List Row) (right : RightRows 0 0 m R
       right .once s r ls lr ms mr (sym (code-moved (rowAt R s) ms) ∙ sym es ∙ e ∙ er ∙ code-moved (rowAt R r) mr)
 
   pub places-own : (t : List ℕ) → m ≤ length t → (r : ℕ) → r < length (map cutCode R) → getD (map cutCode R) r 0 < 65536
-      → getD (placed 0 (map cutCode R) t) (getD (map cutCode R) r 0) 0 ≡ r
+      → getD (rowTable 0 (map cutCode R) t) (getD (map cutCode R) r 0) 0 ≡ r
   places-own t b r l s =
       placed-here 0 codes t r l s (rows-inside (length t) R (λ j k. omega (arith, right .inside j k .1)) r l s) (λ j k e. code-once r j l k e s) ∙ zero-add r
 
-  -- an overlap's code is above 65,536 by a row before it
+  -- a code is below 65,536 plus the number of augmented rows
   code-small : (r : ℕ) → r < length R → (x : Row) → rowAt R r ≡ x → originalRow x < m → cutCode x < 65536 + length R
   code-small r l (kept o) e i = omega arith
   code-small r l (owned o) e i = omega arith
@@ -110,7 +110,7 @@ module _ (m : ℕ) (few : m ≤ 65536) (R : List Row) (right : RightRows 0 0 m R
       let k : r < length R = omega (arith, size) in
       rw (code-at r k) (code-small r k (rowAt R r) refl (right .inside r k .1))
 
-  -- a row that is covered is a code
+  -- a covered row occurs among the codes
   code-found : (o : ℕ) → T (has o (map originalRow R)) → (s : ℕ) × (s < length codes) × (getD codes s 0 ≡ o)
   code-found o h =
       let (r, l, e) = has-map (kept 0) originalRow o R .0 h in
@@ -119,7 +119,7 @@ module _ (m : ℕ) (few : m ≤ 65536) (R : List Row) (right : RightRows 0 0 m R
       (s, omega (arith, size), code-at s ls ∙ code-moved (rowAt R s) moves ∙ f ∙ sym e)
 
   pub rows-placing : (t rows : List ℕ) → m ≤ length t → length R ≤ 262144 → length rows ≤ 262144 → Below m rows
-      → ((k : ℕ) → k < length rows → T (has (getD rows k 0) (map originalRow R))) → Placing (map cutCode R) (placed 0 (map cutCode R) t) rows
+      → ((k : ℕ) → k < length rows → T (has (getD rows k 0) (map originalRow R))) → Placing (map cutCode R) (rowTable 0 (map cutCode R) t) rows
   rows-placing t rows b few-rows short known covered = record {
     few = omega (arith, size);
     short = short;
@@ -132,10 +132,10 @@ module _ (m : ℕ) (few : m ≤ 65536) (R : List Row) (right : RightRows 0 0 m R
   }
     where
       at : (k : ℕ) → k < length rows → (s : ℕ) → s < length codes → getD codes s 0 ≡ getD rows k 0
-          → getD (placed 0 codes t) (getD rows k 0) 0 ≡ s
+          → getD (rowTable 0 codes t) (getD rows k 0) 0 ≡ s
       at k l s i e =
           let small : getD codes s 0 < 65536 = omega (arith, known k l) in
-          ap (λ (o : ℕ). getD (placed 0 codes t) o 0) (sym e) ∙ places-own t b s i small
+          ap (λ (o : ℕ). getD (rowTable 0 codes t) o 0) (sym e) ∙ places-own t b s i small
 
 -- ---- an accepted problem
 
@@ -155,7 +155,7 @@ module _ (p : Problem) (ok : refusal compact p ≡ 0) where
       (and-iff (all (λ r. ltb r (p .m)) (p .A .rows)) (all (λ c. neverFalls (columnRows (p .A) c)) (below (p .n))) .0 (accepted-checked compact p ok .rowsA) .0)
       (getD (p .A .rows) t 0) (has-getD (p .A .rows) t 0 l))
 
-  -- what `write_columns` asks
+  -- the precondition of `write_columns` on A's columns
   pub accepted-order : ColumnsInOrder (p .n) (p .A)
   accepted-order c l =
       all-has (λ c. neverFalls (columnRows (p .A) c)) (below (p .n)) .0
@@ -163,7 +163,7 @@ module _ (p : Problem) (ok : refusal compact p ≡ 0) where
       c (has-below c (p .n) .1 l)
 
   pub accepted-placing : (t : List ℕ) → p .m ≤ length t
-      → Placing (map cutCode (compactRows (layout p))) (placed 0 (map cutCode (compactRows (layout p))) t) (p .A .rows)
+      → Placing (map cutCode (compactRows (layout p))) (rowTable 0 (map cutCode (compactRows (layout p))) t) (p .A .rows)
   accepted-placing t b =
       rows-placing (p .m) (accepted-checked compact p ok .sound .few) R (right-rows p ok) t (p .A .rows) b (omega (arith, few-rows, length-map R cutCode))
       (omega (arith, right-A compact p ok .even, accepted-checked compact p ok .fewEntriesA)) rows-known

@@ -1,4 +1,4 @@
--- The work left at a code, and the overlaps' columns before it.
+-- One step of writing `place`, and of writing the rows of the overlap columns.
 use Prim.Native.Nat.{ℕ, suc, _+_, _≤_, _<_}
 use native.Mathlib.Numerals.{add-one}
 use native.Mathlib.Omega.{arith}
@@ -9,18 +9,18 @@ use lib.ListN.{length, getD, take, drop, set, length-append, take-append-drop, d
 use lib.Seq.{drop-cons, take-suc, length-take-le}
 use lib.Dec.{ltb}
 use Rattle.augment_compact.specs.Cut.{tie, tiedRows}
-use Rattle.augment_compact.specs.Places.{placed}
+use Rattle.augment_compact.specs.Places.{rowTable}
 
--- ---- places
+-- ---- the table `place`
 
 pub placed-step : (codes t : List ℕ) (r : ℕ) → r < length codes
-    → placed r (drop r codes) t ≡ placed (r + 1) (drop (r + 1) codes) (cond (ltb (getD codes r 0) 65536) (set t (getD codes r 0) r) t)
+    → rowTable r (drop r codes) t ≡ rowTable (r + 1) (drop (r + 1) codes) (cond (ltb (getD codes r 0) 65536) (set t (getD codes r 0) r) t)
 placed-step codes t r h = rw (add-one, drop-cons codes r 0 h)
 
-pub placed-done : (codes t : List ℕ) (r : ℕ) → length codes ≤ r → placed r (drop r codes) t ≡ t
+pub placed-done : (codes t : List ℕ) (r : ℕ) → length codes ≤ r → rowTable r (drop r codes) t ≡ t
 placed-done codes t r h = rw (drop-of-length-le codes h)
 
--- ---- overlaps' rows
+-- ---- rows of the overlap columns
 
 tied-last : (r : ℕ) (cs : List ℕ) (c : ℕ) → tiedRows r (cs ++ (c ∷ [])) ≡ tiedRows r cs ++ tie (r + length cs) c
 tied-last r [] c = append-nil (tie r c) ∙ ap (λ (k : ℕ). tie k c) (omega arith)

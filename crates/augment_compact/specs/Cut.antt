@@ -1,4 +1,4 @@
--- The compact cut's A from the codes of the augmented rows. Definitions only.
+-- The compact cut's A, computed from the codes of the augmented rows. Definitions only.
 use Prim.Native.Nat.{ℕ, suc, _+_, _-_, _≤_}
 use mathlib.Core.Path.{_≡_}
 use mathlib.Core.Bool.{cond}
@@ -12,11 +12,11 @@ use Rattle.layout.specs.Compact.{Entry, column, csc}
 use Rattle.augment_standard.specs.Beside.{pairValues, besideStarts}
 use Rattle.columns.specs.Column.{codedColumn}
 
--- all columns of A
+-- the columns of A over the augmented rows
 abbrev pub codedColumns : ℕ → Csc → List ℕ → List (List Entry)
 codedColumns n A codes = map (λ c. codedColumn codes (column A c)) (below n)
 
--- an overlap's column, numbered from r: the row that it is tied to, and its own
+-- the rows of an overlap column, for code c of row r: the parent block's row and r; empty if c is not an overlap's code
 abbrev pub tie : ℕ → ℕ → List ℕ
 tie r c = cond (ltb c 65536) [] ((c - 65536) ∷ r ∷ [])
 
@@ -24,14 +24,14 @@ abbrev pub tiedRows : ℕ → List ℕ → List ℕ
 tiedRows r [] = []
 tiedRows r (c ∷ cs) = tie r c ++ tiedRows (suc r) cs
 
--- A's columns moved, and k overlaps' columns after them, with -1 and +1 in each
+-- the moved columns of A followed by k overlap columns, with values -1 and +1 in each
 abbrev pub cutRows : ℕ → Csc → List ℕ → List ℕ
 cutRows n A codes = csc (codedColumns n A codes) .rows ++ tiedRows 0 codes
 
 abbrev pub cutValues : ℕ → Csc → List ℕ → ℕ → List Float
 cutValues n A codes k = csc (codedColumns n A codes) .values ++ pairValues minusOne64 one64 k
 
--- `after` is `before` with ys written behind the `count` elements that were written to its front
+-- `after` is `before` with ys written right after the first `count` elements
 abbrev pub Behind : {A : Type 0} → ℕ → List A → List A → List A → Type 0
 Behind {A} count ys before after =
     (xs old : List A) → count ≡ length xs → length xs + length ys ≤ length old → before ≡ written xs old → after ≡ written (xs ++ ys) old

@@ -1,4 +1,4 @@
--- Where the codes place original rows, and what is asked of A's columns and of where their runs start. Definitions only.
+-- The augmented rows of original rows, and the conditions on A's columns and on the run starts. Definitions only.
 use Prim.Native.Nat.{ℕ, suc, _≤_, _<_}
 use mathlib.Core.Path.{_≡_}
 use mathlib.Core.Bool.{cond}
@@ -9,15 +9,15 @@ use Rattle.layout.specs.Problem.{Csc}
 use Rattle.layout.specs.Checks.{neverFalls, columnRows}
 use Rattle.layout.specs.Runs.{runCount}
 
--- the table from original row to augmented row, after codes that are numbered from r
-abbrev pub placed : ℕ → List ℕ → List ℕ → List ℕ
-placed r [] t = t
-placed r (c ∷ cs) t = placed (suc r) cs (cond (ltb c 65536) (set t c r) t)
+-- the table from original row to augmented row, with the given codes written to it, the first for row r
+abbrev pub rowTable : ℕ → List ℕ → List ℕ → List ℕ
+rowTable r [] t = t
+rowTable r (c ∷ cs) t = rowTable (suc r) cs (cond (ltb c 65536) (set t c r) t)
 
--- the rows of each column never fall
+-- whether the rows of each column never decrease
 abbrev pub ColumnsInOrder : ℕ → Csc → Type 0
 ColumnsInOrder n M = (c : ℕ) → c < n → T (neverFalls (columnRows M c))
 
--- a table begins with the starts of the columns whose runs are one entry each
+-- whether a table begins with the column starts of the matrix with one entry for each run
 abbrev pub RunsStart : ℕ → Csc → List ℕ → Type 0
 RunsStart n M starts = (n < length starts) × ((c : ℕ) → c ≤ n → getD starts c 0 ≡ runCount c M)

@@ -1,5 +1,5 @@
-// The compact cut's A. The codes say what stands on each augmented row: below 65,536 the original row that moves there, and from there on
-// the row that an overlap is tied to. Each run of repeats of A is one entry of the cut, so the columns start where `run_starts` says.
+// Writes the compact cut's A. `codes` describes each augmented row: a code below 65,536 is the original row that moves there; a larger one is
+// 65,536 plus the parent block's row of an overlap. A run of repeats in A becomes one entry, so column starts are taken from `run_starts`.
 ghost use mathlib.Core.Path.{_≡_};
 ghost use Prim.Native.Nat.{suc, _+_, _-_, _*_, _≤_, _<_};
 ghost use lib.ListN.{length};
@@ -13,15 +13,15 @@ ghost use Rattle.codes.specs.Codes.{RowsInside};
 ghost use Rattle.csc.specs.Matrix.{matrix, table, ColumnsInside};
 ghost use Rattle.augment_standard.specs.Beside.{pairValues, besideStarts};
 ghost use Rattle.augment_compact.specs.Cut.{codedColumns, tiedRows, cutRows, cutValues, Behind};
-ghost use Rattle.augment_compact.specs.Places.{placed, ColumnsInOrder, RunsStart};
+ghost use Rattle.augment_compact.specs.Places.{rowTable, ColumnsInOrder, RunsStart};
 ghost use Rattle.columns.specs.Marks.{Placing, Clear};
 use codes::FIRST_OVERLAP;
 use constants::scratch;
 
-// Writes where each original row moves to.
+// Writes to `place`, at each original row that moves, the augmented row it moves to.
 pub fn write_place(place: &mut [u32], codes: &[u32])
     requires { ⌜ RowsInside (length (now place)) (now codes) × (length (now codes) ≤ 262144) ⌝ }
-    ensures { λ _. ⌜ now (place .exit) ≡ placed 0 (now (codes .entry)) (now (place .entry)) ⌝ }
+    ensures { λ _. ⌜ now (place .exit) ≡ rowTable 0 (now (codes .entry)) (now (place .entry)) ⌝ }
 {
     let mut r = 0;
     while r < codes.len() {
@@ -33,7 +33,7 @@ pub fn write_place(place: &mut [u32], codes: &[u32])
     }
 }
 
-// Writes the starts of the cut's columns: those of A, whose runs are one entry each, and of the k overlaps, which hold two.
+// Writes the starts of the cut's columns: the `n` columns of A, with one entry for each run, and the `k` overlap columns, with two entries each.
 pub fn write_starts(out: &mut [u32], n: u32, starts: &[u32], rows: &[u32], k: usize)
     requires { ⌜ ColumnsInside n (now starts) (now rows) × (length (now starts) ≡ suc n) × (length (now rows) ≤ 262144) ⌝ }
     requires { ⌜ (suc n + k ≤ length (now out)) × (k ≤ 262144) ⌝ }
@@ -43,7 +43,8 @@ pub fn write_starts(out: &mut [u32], n: u32, starts: &[u32], rows: &[u32], k: us
     augment_standard::write_h_starts(&mut out[starts.len()..], entries, k);
 }
 
-// Writes the columns of A over the augmented rows, one entry a run. The codes and the flags are as before then.
+// Writes the `n` columns of A over the augmented rows, with one entry for each run. `codes` and the flags in `chunks` are changed on the way
+// and restored.
 pub fn write_columns(
     rows_out: &mut [u32],
     values_out: &mut [f64],
@@ -86,7 +87,7 @@ pub fn write_columns(
     }
 }
 
-// Writes the rows of the overlaps' columns: the row that each is tied to, and its own.
+// Writes the rows of the overlap columns: for each overlap the parent block's row, then its own row.
 pub fn write_overlap_rows(out: &mut [u32], codes: &[u32])
     requires { ⌜ (length (tiedRows 0 (now codes)) ≤ length (now out)) × (length (now codes) ≤ 262144) ⌝ }
     ensures { λ _. ⌜ now (out .exit) ≡ written (tiedRows 0 (now (codes .entry))) (now (out .entry)) ⌝ }
@@ -104,7 +105,7 @@ pub fn write_overlap_rows(out: &mut [u32], codes: &[u32])
     }
 }
 
-// Writes the k overlaps' columns behind the rows and the values of A's, which have `count` entries: -1 and 1 in each.
+// Writes the `k` overlap columns, with values -1 and 1 in each, after the `count` entries of A's columns.
 fn write_overlaps(
     rows_out: &mut [u32],
     values_out: &mut [f64],
@@ -120,8 +121,8 @@ fn write_overlaps(
     augment_standard::write_pairs(&mut values_out[count..], k, -1.0, 1.0);
 }
 
-// Writes the rows and the values of the compact cut's A: A's columns moved, and the k overlaps' columns, -1 and 1 in each. place and chunks are scratch; the
-// codes and the flags are as before then.
+// Writes the rows and values of the compact cut's A: the moved columns of A, then `k` overlap columns with values -1 and 1.
+// `place` is a scratch buffer that is overwritten; `codes` and the flags in `chunks` are changed on the way and restored.
 pub fn write_entries(
     rows_out: &mut [u32],
     values_out: &mut [f64],
@@ -136,12 +137,12 @@ pub fn write_entries(
     k: usize,
 )
     requires { let M = matrix (now starts) (now rows) (now values) in ⌜ T (startsRight n M) × ColumnsInOrder n M × RunsStart n M (now «run_starts») ⌝ }
-    requires { ⌜ RowsInside (length (now place)) (now codes) × Placing (now codes) (placed 0 (now codes) (now place)) (now rows) × Clear (length (now codes)) (now chunks) ⌝ }
+    requires { ⌜ RowsInside (length (now place)) (now codes) × Placing (now codes) (rowTable 0 (now codes) (now place)) (now rows) × Clear (length (now codes)) (now chunks) ⌝ }
     requires { let M = matrix (now starts) (now rows) (now values) in ⌜ (runCount n M + length (tiedRows 0 (now codes)) ≤ length (now «rows_out»)) × (runCount n M + 2 * k ≤ length (now «values_out»)) ⌝ }
     ensures { λ _. ⌜ now («rows_out» .exit) ≡ written (cutRows n (sums n (matrix (now (starts .entry)) (now (rows .entry)) (now (values .entry)))) (now (codes .entry))) (now («rows_out» .entry)) ⌝ }
     ensures { λ _. ⌜ now («values_out» .exit) ≡ written (cutValues n (sums n (matrix (now (starts .entry)) (now (rows .entry)) (now (values .entry)))) (now (codes .entry)) k) (now («values_out» .entry)) ⌝ }
     ensures { λ _. ⌜ now (codes .exit) ≡ now (codes .entry) ⌝ }
-    ensures { λ _. ⌜ now (place .exit) ≡ placed 0 (now (codes .entry)) (now (place .entry)) ⌝ }
+    ensures { λ _. ⌜ now (place .exit) ≡ rowTable 0 (now (codes .entry)) (now (place .entry)) ⌝ }
     ensures { λ _. ⌜ now (chunks .exit) ≡ now (chunks .entry) ⌝ }
 {
     write_place(&mut *place, &*codes);

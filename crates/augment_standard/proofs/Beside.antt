@@ -44,6 +44,6 @@ beside-columns n A h m os = sym (λ i. record { starts = starts i; rows = rows i
     values : csc (map (column A) (below n) ++ blockColumns m os) .values ≡ besideH A m os .values
     values = values-beside n A right (blockColumns m os) ∙ ap (λ (l : List Float). A .values ++ l) (columns-values m os)
 
--- what a caller cites: the tables written are those of the standard cut
+-- the tables written are those of the standard cut
 pub beside-standard : (p : Problem) → T (startsRight (p .n) (p .A)) → besideH (p .A) (p .m) (standardRows (layout p)) ≡ standardA p
 beside-standard p h = beside-columns (p .n) (p .A) h (p .m) (standardRows (layout p))

@@ -1,4 +1,4 @@
--- The tables of H over -I, one column more, and pairs of values.
+-- The tables of H over -I extended by one column, and pairs of values.
 use Prim.Native.Nat.{ℕ, zero, suc, _+_, _*_, _≤_, _<_}
 use native.Mathlib.Numerals.{add-one}
 use native.Mathlib.Omega.{arith}
@@ -46,7 +46,7 @@ rows-more r os i h =
     ∙ rows-last r (take i os) (getD os i 0)
     ∙ ap (λ (k : ℕ). hRows r (take i os) ++ (getD os i 0 ∷ (r + k) ∷ [])) (length-take-le i os (omega arith))
 
--- the original rows of k columns stand after k places, and the first i columns are written from the front on
+-- the original rows of k columns are at index k on, and the first i columns are written from index 0 on
 module _ (r k : ℕ) (old : List ℕ) (room : 2 * k ≤ length old) where
   abbrev os : List ℕ
   os = take k (drop k old)
@@ -60,7 +60,7 @@ module _ (r k : ℕ) (old : List ℕ) (room : 2 * k ≤ length old) where
   seam : (i : ℕ) → i ≤ k → length (done i) ≡ 2 * i
   seam i h = omega (arith, length-hRows r (take i os), length-take-le i os (omega (arith, size)))
 
-  -- the row of column i is not yet written over
+  -- the original row of column i is not yet overwritten
   unread : (i : ℕ) → i < k → getD (written (done i) old) (k + i) 0 ≡ getD os i 0
   unread i h =
       written-rest (done i) old (k + i) 0 (omega (arith, seam i (omega arith)))

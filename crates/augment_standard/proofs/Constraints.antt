@@ -1,4 +1,4 @@
--- What the checks say of constraints that a route accepts, as the writers ask it.
+-- What the checks ensure of constraints that a route accepts, in the form of the writers' preconditions.
 use Prim.Native.Nat.{ℕ, suc, _+_, _≤_}
 use native.Mathlib.Omega.{arith}
 use mathlib.Core.Path.{_≡_, ap, _∙_}
@@ -12,7 +12,7 @@ use Rattle.layout.proofs.Accepted.{accepted-sound, accepted-checked}
 use Rattle.layout.proofs.Columns.{right-A}
 use Rattle.augment_standard.specs.Constraints.{completed, Accepted}
 
--- what was written, by an equal list
+-- writing a list is writing an equal list
 pub renamed : {A : Type 0} {out xs ys : List A} (old : List A) → xs ≡ ys → out ≡ written xs old → out ≡ written ys old
 renamed old e w = w ∙ ap (λ zs. written zs old) e
 
@@ -32,9 +32,6 @@ module _ {route : Route} {p : Problem} (h : Accepted route p) where
   pub same-b : length (p .b) ≡ p .m
   same-b = accepted-checked route whole (h .accepted) .lengthB
 
-  pub even-A : length (p .A .rows) ≡ length (p .A .values)
-  even-A = right-A route whole (h .accepted) .even
-
-  -- room for the starts of A and of k columns more
+  -- the output is long enough for the starts of A and of k columns more
   pub room-starts : (k room : ℕ) → suc (p .n + k) ≤ room → length (p .A .starts) + k ≤ room
   room-starts k room r = omega (arith, right-A route whole (h .accepted) .count, r)

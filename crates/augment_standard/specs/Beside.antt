@@ -5,17 +5,17 @@ use lib.ListN.{length}
 use lib.Ieee.{Float}
 use Rattle.layout.specs.Problem.{Csc, one64, minusOne64}
 
--- where k columns of two entries each end, after a entries
+-- the ends of k columns of two entries each, after a entries
 abbrev pub hStarts : ℕ → ℕ → List ℕ
 hStarts a zero = []
 hStarts a (suc k) = (a + 2) ∷ hStarts (a + 2) k
 
--- each column's original row, and its row of -I; the first of these is r
+-- for each column its original row and its row of -I; the first row of -I is r
 abbrev pub hRows : ℕ → List ℕ → List ℕ
 hRows r [] = []
 hRows r (o ∷ os) = o ∷ r ∷ hRows (suc r) os
 
--- the same two values in each of k columns
+-- the same two values for each of k columns
 abbrev pub pairValues : Float → Float → ℕ → List Float
 pairValues u v zero = []
 pairValues u v (suc k) = u ∷ v ∷ pairValues u v k
@@ -29,7 +29,7 @@ besideRows rows m os = rows ++ hRows m os
 abbrev pub besideValues : List Float → ℕ → List Float
 besideValues values k = values ++ pairValues one64 minusOne64 k
 
--- A of m rows, with a column of H for each of the original rows os
+-- A, which has m rows, with a column of H over -I for each of the original rows os
 abbrev pub besideH : Csc → ℕ → List ℕ → Csc
 besideH A m os = record {
   starts = besideStarts (A .starts) (length (A .values)) (length os);

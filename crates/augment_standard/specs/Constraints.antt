@@ -1,4 +1,4 @@
--- The part of a problem that decides A, b, the cones and the map of its cut: P, q and the α take no part in them. Definitions only.
+-- The part of a problem that decides A, b, the cones and the map of its cut; P, q and the α do not. Definitions only.
 use Prim.Native.Nat.{ℕ}
 use mathlib.Core.Path.{_≡_}
 use mathlib.Core.List.{List, []}
@@ -6,11 +6,11 @@ use lib.Ieee.{Float}
 use Rattle.layout.specs.Problem.{Problem, Csc, Route, problem}
 use Rattle.layout.specs.Checks.{refusal}
 
--- A problem by A, b, the cones and the patterns alone
+-- a problem with A, b, the cones and the patterns, and empty P, q and α
 abbrev pub constraints : ℕ → ℕ → List ℕ → List ℕ → List Float → List Float → List ℕ → ℕ → List ℕ → Problem
 constraints n m starts rows values b cones count words = problem n m [] [] [] [] starts rows values b cones [] count words
 
--- with its other tables
+-- the same problem with P, q and α
 abbrev pub completed : Csc → List Float → List Float → Problem → Problem
 completed P q alphas p = record {
   n = p .n;
@@ -25,7 +25,7 @@ completed P q alphas p = record {
   patternWords = p .patternWords;
 }
 
--- it is part of a problem that the route accepts
+-- p is accepted by the route with some P, q and α
 pub record Accepted (route : Route) (p : Problem) : Type 0 where
   pub P : Csc
   pub q : List Float

@@ -1,24 +1,24 @@
--- The covered rows of one column of the triangle after another.
-use Prim.Native.Nat.{ℕ, zero, suc, _+_, _≤_, _<_}
+-- The covered rows of the triangle, column after column.
+use Prim.Native.Nat.{ℕ, _+_, _≤_, _<_}
 use native.Mathlib.Nat.{zero-add}
 use native.Mathlib.Numerals.{add-one}
 use native.Mathlib.Omega.{arith}
-use mathlib.Core.Path.{_≡_, refl, sym, ap, _∙_}
+use mathlib.Core.Path.{_≡_, ap, _∙_}
 use mathlib.Core.Bool.{Bool, true, false}
 use mathlib.Core.List.{List, [], _∷_, _++_, append-nil}
-use lib.ListN.{length, getD}
+use lib.ListN.{length}
 use Rattle.layout.specs.Lists.{keep, below, upFrom}
 use Rattle.layout.specs.Triangle.{triangle}
 use Rattle.layout.proofs.Joins.{upFrom-last, upFrom-append}
 use Rattle.layout.proofs.Keeps.{keep-append}
 use Rattle.layout.proofs.Distinct.{length-keep}
 use Rattle.layout.proofs.Members.{length-upFrom}
-use Rattle.layout.proofs.Triangles.{triangle-suc, triangle-mono}
+use Rattle.layout.proofs.Triangles.{triangle-suc}
 
 pub upFrom-more : (a i : ℕ) → upFrom a (i + 1) ≡ upFrom a i ++ ((a + i) ∷ [])
 upFrom-more a i = ap (upFrom a) (add-one i) ∙ upFrom-last a i
 
--- one row more
+-- the covered rows, one row further
 module _ (p : ℕ → Bool) (a i : ℕ) where
   split : keep p (upFrom a (i + 1)) ≡ keep p (upFrom a i) ++ keep p ((a + i) ∷ [])
   split = ap (keep p) (upFrom-more a i) ∙ keep-append p (upFrom a i) ((a + i) ∷ [])
@@ -36,7 +36,7 @@ module _ (p : ℕ → Bool) (a i : ℕ) where
   pub rows-few : length (keep p (upFrom a i)) ≤ i
   rows-few = omega (arith, length-keep p (upFrom a i), length-upFrom a i)
 
--- one column more
+-- the covered rows, one column further
 module _ (p : ℕ → Bool) (j : ℕ) where
   pub column-after : triangle (j + 1) ≡ triangle j + (j + 1)
   column-after = rw add-one (triangle-suc j)

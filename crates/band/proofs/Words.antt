@@ -1,19 +1,19 @@
--- The words of the band's cliques, one clique after another.
+-- The words of the band's cliques, clique after clique.
 use Prim.Native.Nat.{ℕ, zero, suc, _+_, _-_, _*_, _≤_, _<_}
 use native.Mathlib.Nat.{mul-le-mul, suc-mul, zero-mul}
 use native.Mathlib.Numerals.{add-one}
 use native.Mathlib.Omega.{arith}
-use mathlib.Core.Path.{_≡_, refl, sym, ap, ap₂, _∙_}
+use mathlib.Core.Path.{_≡_, sym, ap, ap₂, _∙_}
 use mathlib.Core.List.{List, [], _∷_, _++_, map, append-nil, map-append}
 use lib.ListN.{length, length-append}
 use Rattle.layout.specs.Lists.{below, upFrom, join}
-use Rattle.layout.specs.Patterns.{Clique, cliqueWords, noParent}
+use Rattle.layout.specs.Patterns.{cliqueWords, noParent}
 use Rattle.layout.specs.Generator.{bandClique, lastClique}
 use Rattle.layout.proofs.Keeps.{below-more}
 use Rattle.layout.proofs.Starts.{join-append}
 use Rattle.layout.proofs.Members.{length-upFrom}
 
--- the first c cliques
+-- the words of the first c cliques
 abbrev pub cliquesTo : ℕ → ℕ → List ℕ
 cliquesTo w c = join cliqueWords (map (bandClique w) (below c))
 
@@ -43,7 +43,7 @@ words-many w (suc c) =
     ap (λ (k : ℕ). length (cliquesTo w k)) (sym (add-one c)) ∙ more-words w c
     ∙ rw (suc-mul c (w + 4)) (omega (arith, words-many w c))
 
--- there is room for one more
+-- the output has room for one clique more
 pub words-fit : (v w c : ℕ) → c < v - w → length (cliquesTo w c) + (w + 4) ≤ (v - w) * (w + 4)
 words-fit v w c l =
     let h : suc c * (w + 4) ≤ (v - w) * (w + 4) = mul-le-mul {m₁ = w + 4} {m₂ = w + 4} l (omega arith) in

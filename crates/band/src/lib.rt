@@ -1,6 +1,6 @@
-// The generator's band (Q-5): the rows that its pattern covers, and the pattern's words.
+// The band of the generated problem (Q-5): the rows that its pattern covers, and the pattern's words.
 ghost use mathlib.Core.Path.{_≡_};
-ghost use mathlib.Core.List.{List, _∷_, _++_, map};
+ghost use mathlib.Core.List.{_∷_, _++_, map};
 ghost use Prim.Native.Nat.{suc, _+_, _-_, _*_, _≤_, _<_};
 ghost use lib.ListN.{length};
 ghost use Rattle.layout.specs.Lists.{keep, below, upFrom, join, written, Below};
@@ -13,7 +13,7 @@ const NO_PARENT: u32 = 4294967295;
 
 // ---- the covered rows
 
-// Whether `a` and `b` are at most `w` apart.
+// Returns whether `a` and `b` differ by at most `w`.
 fn is_within(w: u32, a: u32, b: u32) -> bool
     requires { ⌜ (w ≤ 64) × (a < 64) × (b < 64) ⌝ }
     ensures { λ r. ⌜ r ≡ within w a b ⌝ }
@@ -24,8 +24,8 @@ fn is_within(w: u32, a: u32, b: u32) -> bool
     b <= a + w
 }
 
-// Writes the covered rows of column `j` of the triangle, whose first row is `first`: those of vertices whose places are at most
-// `w` from the place of vertex `j`. Answers how many they are.
+// Writes to `rows` the covered rows of column `j` of the triangle, whose first row is `first`: those of vertices whose places in the ordering are
+// at most `w` from the place of vertex `j`. Returns their number.
 fn cover_column(places: &[u32], w: u32, j: usize, first: u32, rows: &mut [u32]) -> usize
     requires { ⌜ (j < length (now places)) × (length (now places) ≤ 64) × Below 64 (now places) × (w ≤ 64) ⌝ }
     requires { ⌜ (first ≡ triangle j) × (j + 1 ≤ length (now rows)) ⌝ }
@@ -47,7 +47,7 @@ fn cover_column(places: &[u32], w: u32, j: usize, first: u32, rows: &mut [u32]) 
     count
 }
 
-// Writes the covered rows of the whole triangle, rising, from the place of each vertex in the ordering. Answers how many they are.
+// Writes to `rows` the covered rows of the whole triangle, increasing; `places` has the place of each vertex in the ordering. Returns their number.
 pub fn cover_rows(places: &[u32], w: u32, rows: &mut [u32]) -> usize
     requires { ⌜ (length (now places) ≤ 64) × Below 64 (now places) × (w ≤ 64) × (triangle (length (now places)) ≤ length (now rows)) ⌝ }
     ensures { λ r. ⌜ r ≡ length (keep (inBandAt (now (places .entry)) w) (below (triangle (length (now (places .entry)))))) ⌝ }
@@ -66,7 +66,7 @@ pub fn cover_rows(places: &[u32], w: u32, rows: &mut [u32]) -> usize
 
 // ---- the pattern's words
 
-// Writes `count` members, rising from `first`.
+// Writes `count` members to `out`, consecutive from `first`.
 fn write_members(first: u32, count: u32, out: &mut [u32])
     requires { ⌜ (count ≤ length (now out)) × (first + count ≤ 64) ⌝ }
     ensures { λ _. ⌜ now (out .exit) ≡ written (upFrom first count) (now (out .entry)) ⌝ }
@@ -78,7 +78,7 @@ fn write_members(first: u32, count: u32, out: &mut [u32])
     }
 }
 
-// Writes a clique whose members, those of its snode and then those of its separator, rise from `first`.
+// Writes the words of a clique to `out`; its members, the snode's and then the separator's, are consecutive from `first`.
 fn write_clique(parent: u32, snode: u32, separator: u32, first: u32, out: &mut [u32])
     requires { ⌜ (3 + (snode + separator) ≤ length (now out)) × (first + (snode + separator) ≤ 64) ⌝ }
     ensures { λ _. ⌜ now (out .exit) ≡ written (parent ∷ snode ∷ separator ∷ upFrom first (snode + separator)) (now (out .entry)) ⌝ }
@@ -88,7 +88,7 @@ fn write_clique(parent: u32, snode: u32, separator: u32, first: u32, out: &mut [
     write_members(first, snode + separator, &mut out[3..]);
 }
 
-// Writes the cliques of a band of width `w` over `v` vertices.
+// Writes the words of the cliques of a band of width `w` over `v` vertices to `out`.
 fn write_cliques(v: u32, w: u32, out: &mut [u32])
     requires { ⌜ (w < v) × (v ≤ 64) × ((v - w) * (w + 4) ≤ length (now out)) ⌝ }
     ensures { λ _. ⌜ now (out .exit) ≡ written (join cliqueWords (map (bandClique w) (below (v - suc w))) ++ cliqueWords (lastClique v w)) (now (out .entry)) ⌝ }
@@ -104,7 +104,7 @@ fn write_cliques(v: u32, w: u32, out: &mut [u32])
     write_clique(NO_PARENT, w + 1, 0, last, &mut out[at..]);
 }
 
-// Writes the words of the pattern with this ordering.
+// Writes the words of the band pattern of width `w` with this `ordering` to `out`.
 pub fn write_words(ordering: &[u32], w: u32, out: &mut [u32])
     requires { ⌜ (w < length (now ordering)) × (length (now ordering) ≤ 64) × (3 + length (now ordering) + (length (now ordering) - w) * (w + 4) ≤ length (now out)) ⌝ }
     ensures { λ _. ⌜ now (out .exit) ≡ written (patternWordsOf (bandOf (now (ordering .entry)) (length (now (ordering .entry))) w)) (now (out .entry)) ⌝ }

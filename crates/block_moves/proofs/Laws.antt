@@ -1,4 +1,4 @@
--- Values moved run by run.
+-- Copying values run by run.
 use Prim.Native.Nat.{ℕ, suc, _+_, _≤_, _<_}
 use native.Mathlib.Numerals.{add-one}
 use native.Mathlib.Omega.{arith}
@@ -11,9 +11,9 @@ use Rattle.layout.specs.Lists.{written}
 use Rattle.layout.proofs.Buffers.{take-none}
 use Rattle.reverse_cones.specs.Parts.{writtenAt}
 
--- ---- what was written from a place on
+-- ---- a list written at an index
 
--- what was written from a on stands there, and what was before a still does
+-- the written list starts at a, and the values before a are unchanged
 module _ (xs old new : List Float) (a : ℕ) (l : a + length xs ≤ length old) (e : new ≡ writtenAt a xs old) where
   front : length (take a old) ≡ a
   front = length-take-le a old (omega arith)
@@ -21,9 +21,6 @@ module _ (xs old new : List Float) (a : ℕ) (l : a + length xs ≤ length old) 
   pub from-there : drop a new ≡ xs ++ drop (a + length xs) old
   from-there =
       ap (drop a) e ∙ drop-at (take a old) (written xs (drop a old)) a front ∙ ap (λ (r : List Float). xs ++ r) (drop-drop (length xs) a old)
-
-  pub up-to-there : take a new ≡ take a old
-  up-to-there = ap (take a) e ∙ take-at (take a old) (written xs (drop a old)) a front
 
   pub after-it : drop (a + length xs) new ≡ drop (a + length xs) old
   after-it =
@@ -34,9 +31,9 @@ module _ (xs old new : List Float) (a : ℕ) (l : a + length xs ≤ length old) 
       ap (take (a + length xs)) (e ∙ sym (append-assoc (take a old) xs (drop (length xs) (drop a old))))
       ∙ take-at (take a old ++ xs) (drop (length xs) (drop a old)) (a + length xs) (omega (arith, length-append (take a old) xs, front))
 
--- ---- values put run by run
+-- ---- values copied run by run
 
--- one value is a run
+-- storing one value is writing a run of one
 one-put : (vs out : List Float) (a b : ℕ) → a < length vs → b < length out → set out b (getD vs a nan) ≡ writtenAt b (take 1 (drop a vs)) out
 one-put vs out a b l m =
     let v : Float = getD vs a nan in
@@ -46,7 +43,7 @@ one-put vs out a b l m =
     ∙ ap (λ (r : List Float). take b out ++ v ∷ r) (ap (λ (n : ℕ). drop n out) (sym (add-one b)) ∙ sym (drop-drop 1 b out))
     ∙ ap (λ (xs : List Float). writtenAt b xs out) (sym one)
 
--- i of the values from `from` on stand in their places
+-- i values from index `from` of vs on are copied to index `to` of out, which is otherwise unchanged
 abbrev pub Put : ℕ → List Float → ℕ → List Float → ℕ → List Float → Type 0
 Put from vs to old i out = (length out ≡ length old) × (out ≡ writtenAt to (take i (drop from vs)) old)
 
@@ -54,12 +51,12 @@ module _ (from : ℕ) (vs : List Float) (to : ℕ) (old : List Float) where
   pub put-none : Put from vs to old 0 old
   put-none = (refl, sym (ap (λ (xs : List Float). writtenAt to xs old) (take-none (drop from vs)) ∙ take-append-drop to old))
 
-  -- by other names
+  -- the same for an equal count and an equal list
   pub put-as : (i j : ℕ) (out new : List Float) → j ≡ i → new ≡ out → Put from vs to old i out → Put from vs to old j new
   put-as i j out new e f p =
       (ap length f ∙ p .0, f ∙ p .1 ∙ ap (λ (n : ℕ). writtenAt to (take n (drop from vs)) old) (sym e))
 
-  -- a run of j more
+  -- after copying a run of j more values
   pub put-run : (i j : ℕ) (out new : List Float) → from + (i + j) ≤ length vs → to + (i + j) ≤ length old → Put from vs to old i out
       → length new ≡ length out → new ≡ writtenAt (to + i) (take j (drop (from + i) vs)) out → Put from vs to old (i + j) new
   put-run i j out new l m p kept e =
@@ -86,7 +83,7 @@ module _ (from : ℕ) (vs : List Float) (to : ℕ) (old : List Float) where
             ∙ ap (λ (ws : List Float). writtenAt to ws old) (sym both),
       )
 
-  -- one more: b is its place, and a that of the value
+  -- after copying one more value, from index a to index b
   pub put-one : (i a b : ℕ) (out : List Float) → a ≡ from + i → b ≡ to + i → a < length vs → b < length old → Put from vs to old i out
       → Put from vs to old (i + 1) (set out b (getD vs a nan))
   put-one i a b out e f l m p =

@@ -1,11 +1,11 @@
-// Values moved from a place of one list to a place of another, of one list or of s and z together.
+// Copies runs of values from an index of one list to an index of another, for one list or for s and z together.
 ghost use mathlib.Core.Path.{_≡_};
 ghost use Prim.Native.Nat.{_+_, _≤_};
 ghost use lib.ListN.{length, take, drop};
 ghost use Rattle.reverse_cones.specs.Parts.{writtenAt};
 
-// Copies the four values from `from` on to the place `to`. All are read before the first is written, so that the compiler moves them
-// two at a time.
+// Copies the four values from index `from` of `values` on to index `to` of `out`. All are read before the first is written, so that the compiler
+// moves them two at a time.
 fn move_four(from: usize, values: &[f64], to: usize, out: &mut [f64])
     requires { ⌜ (from + 4 ≤ length (now values)) × (to + 4 ≤ length (now out)) ⌝ }
     ensures { λ _. ⌜ now (out .exit) ≡ writtenAt to (take 4 (drop from (now (values .entry)))) (now (out .entry)) ⌝ }
@@ -20,7 +20,7 @@ fn move_four(from: usize, values: &[f64], to: usize, out: &mut [f64])
     out[to + 3] = fourth;
 }
 
-// Copies the two values from `from` on to the place `to`.
+// Copies the two values from index `from` of `values` on to index `to` of `out`.
 fn move_two(from: usize, values: &[f64], to: usize, out: &mut [f64])
     requires { ⌜ (from + 2 ≤ length (now values)) × (to + 2 ≤ length (now out)) ⌝ }
     ensures { λ _. ⌜ now (out .exit) ≡ writtenAt to (take 2 (drop from (now (values .entry)))) (now (out .entry)) ⌝ }
@@ -31,7 +31,7 @@ fn move_two(from: usize, values: &[f64], to: usize, out: &mut [f64])
     out[to + 1] = second;
 }
 
-// Copies `k` values from `from` on to the place `to`, four at a time, then two, then one.
+// Copies `k` values from index `from` of `values` on to index `to` of `out`: four at a time, then two, then one.
 pub fn move_values(k: usize, from: usize, values: &[f64], to: usize, out: &mut [f64])
     requires { ⌜ (from + k ≤ length (now values)) × (to + k ≤ length (now out)) ⌝ }
     ensures { λ _. ⌜ now (out .exit) ≡ writtenAt to (take k (drop from (now (values .entry)))) (now (out .entry)) ⌝ }
@@ -53,7 +53,7 @@ pub fn move_values(k: usize, from: usize, values: &[f64], to: usize, out: &mut [
     out[b] = values[a];
 }
 
-// The same of `s` and of `z` in one walk.
+// Copies `k` values of `s` and of `z` in one loop, as `move_values` copies those of one list.
 fn move_few(
     k: usize,
     from: usize,
@@ -88,10 +88,11 @@ fn move_few(
     z_out[b] = z[a];
 }
 
-// From so many values on, s and z are copied one after the other.
+// The number of values from which s and z are copied one after the other.
 const MANY: usize = 16;
 
-// Copies `k` values of `s` and of `z` from `from` on to the place `to`. Small blocks are many, and both lists share the walk.
+// Copies `k` values of `s` and of `z` from index `from` on to index `to` of `s_out` and `z_out`. Small blocks are frequent, so both lists share a loop
+// for them.
 pub fn move_both(
     k: usize,
     from: usize,

@@ -16,7 +16,8 @@ use Rattle.layout.proofs.Triangles.{triangle-mono}
 use Rattle.layout.proofs.Pairs.{length-pairs}
 use Rattle.blocks.specs.Vertices.{originalsOf}
 use Rattle.blocks.specs.Columns.{ColumnsFit}
-use Rattle.blocks.specs.Cliques.{cliqueHere, verticesHere, rowsHere}
+use Rattle.blocks.specs.Cliques.{verticesHere, rowsHere}
+use Rattle.supernode_tree.specs.Reads.{cliqueHere}
 
 module _ (ws ordering : List ℕ) (at : ℕ) where
   pub vertices-rise : T (rises (verticesHere ws ordering at))

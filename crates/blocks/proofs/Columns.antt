@@ -1,4 +1,4 @@
--- A block written column by column, whatever number is written for a pair.
+-- A block written column by column, for any number written for a pair.
 use Prim.Native.Nat.{ℕ, suc, _+_, _*_, _/_, _≤_, _<_}
 use native.Mathlib.Numerals.{add-one}
 use native.Mathlib.Nat.{eq-or-lt-of-le, le-of-eq}
@@ -24,7 +24,7 @@ rises-le vs i j h l m = elim (eq-or-lt-of-le l) [
   | inr q ↦ omega (arith, rises-at vs i j 0 h q m)
 ]
 
--- the pair's index, as code computes it
+-- the index of a pair, as the code computes it
 pub pair-index-at : (vs : List ℕ) (j i : ℕ) → T (rises vs) → i ≤ j → j < length vs
     → pairIndex (getD vs i 0) (getD vs j 0) ≡ getD vs j 0 * (getD vs j 0 + 1) / 2 + getD vs i 0
 pair-index-at vs j i h l m = pairIndex-le (getD vs i 0) (getD vs j 0) (rises-le vs i j h l m) ∙ rw add-one
@@ -60,7 +60,7 @@ module _ (f : Pair → ℕ) (vs : List ℕ) where
       ap length (columns-more j) ∙ length-append (columnsBelow j) (map f (columnPairs vs j))
       ∙ ap (λ (n : ℕ). length (columnsBelow j) + n) (length-column j)
 
--- the original row of entry i of column j, as code computes it
+-- the original row of entry i of column j, as the code computes it
 pub row-at : (base : ℕ) (vs : List ℕ) (j i : ℕ) → T (rises vs) → i ≤ j → j < length vs
     → getD (map (pairRow base) (columnPairs vs j)) i 0 ≡ base + getD vs j 0 * (getD vs j 0 + 1) / 2 + getD vs i 0
 row-at base vs j i h l m =

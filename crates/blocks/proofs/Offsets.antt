@@ -1,4 +1,4 @@
--- The pattern at an offset of the words: its cliques by their offsets.
+-- The cliques of the pattern at an offset, by their offsets.
 use Prim.Native.Nat.{ℕ, zero, suc, _-_, _≤_, _<_}
 use native.Mathlib.Omega.{arith}
 use mathlib.Core.Path.{_≡_, refl, ap, sym, subst, _∙_}
@@ -13,10 +13,10 @@ use Rattle.layout.specs.Blocks.{pairs, pairRow, block, patternRows, originalRow
 use Rattle.layout.specs.Checks.{RightPattern, treeRight}
 use Rattle.layout.proofs.Members.{has-below}
 use Rattle.layout.proofs.Joins.{join-same}
-use Rattle.layout.proofs.Starts.{part-at}
+use Rattle.layout.proofs.Starts.{part-at, join-map}
 use Rattle.layout.proofs.Cliques.{cliqueVertices}
 use Rattle.layout.proofs.Reading.{Reads, reads-any, reads-then}
-use Rattle.supernode_tree.specs.Reads.{whole, valueOr, Whole, cliquesFrom, patternAt, patternRead, PatternInside, headOf}
+use Rattle.supernode_tree.specs.Reads.{isWhole, valueOr, Whole, cliquesFrom, patternAt, patternRead, PatternInside, headOf, cliqueHere}
 use Rattle.supernode_tree.specs.Offsets.{OffsetsOf}
 use Rattle.supernode_tree.specs.declared.Pattern.{Pattern as PatternHead}
 use Rattle.supernode_tree.specs.declared.PatternRead.{PatternRead}
@@ -24,9 +24,10 @@ use Rattle.supernode_tree.specs.declared.PatternRead.the-variants.{Pattern as F
 use Rattle.supernode_tree.proofs.Words.{head-found}
 use Rattle.supernode_tree.proofs.Cliques.{no-cliques, pattern-whole}
 use Rattle.blocks.specs.Vertices.{sortedOf}
-use Rattle.blocks.specs.Cliques.{cliqueHere, verticesHere, rowsHere, Stands, Standing}
+use Rattle.blocks.specs.Cliques.{verticesHere, rowsHere, SortableClique, SortableCliques}
 use Rattle.blocks.specs.Codes.{standardPatternRows}
-use Rattle.blocks.proofs.Patterns.{down-same, cliques-few, clique-sortable, sorted-by, original-rows}
+use Rattle.blocks.proofs.Patterns.{down-same, clique-sortable, sorted-by, original-rows}
+use Rattle.layout.proofs.WordCounts.{cliques-few}
 
 -- ---- mapped lists, reversed and joined
 
@@ -36,21 +37,17 @@ reverse-map {A} {B} g (x ∷ xs) =
     reverse-cons (g x) (map g xs) ∙ ap (λ (r : List B). r ++ (g x ∷ [])) (reverse-map g xs)
     ∙ sym (map-append g (reverse xs) (x ∷ [])) ∙ ap (map g) (sym (reverse-cons x xs))
 
-pub join-map : {A B C : Type 0} (f : B → List C) (g : A → B) (xs : List A) → join f (map g xs) ≡ join (λ x. f (g x)) xs
-join-map f g [] = refl
-join-map {C = C} f g (x ∷ xs) = ap (λ (r : List C). f (g x) ++ r) (join-map f g xs)
-
--- the first k numbers by their places
+-- the first k numbers of a list, by their indices
 taken : (os : List ℕ) (k : ℕ) → k ≤ length os → take k os ≡ map (λ c. getD os c 0) (below k)
 taken os k h = sym (part-at 0 os 0 k (omega arith))
 
--- ---- a pattern whose cliques stand at offsets
+-- ---- a pattern whose cliques are at given offsets
 
--- the clique is read whole at the offset
+-- the clique at the offset is complete, and is q
 abbrev pub ReadAt : List ℕ → ℕ → Clique → Type 0
-ReadAt ws o q = (whole (readClique (drop o ws)) ≡ true) × (cliqueHere ws o ≡ q)
+ReadAt ws o q = (isWhole (readClique (drop o ws)) ≡ true) × (cliqueHere ws o ≡ q)
 
--- each of the cliques at the offset of its number
+-- clique c is at offset c, for each of the cliques
 abbrev pub StandAt : List ℕ → List Clique → List ℕ → Type 0
 StandAt ws cs os = (c : ℕ) → c < length cs → ReadAt ws (getD os c 0) (getD cs c noClique)
 
@@ -69,11 +66,11 @@ module _ (p : Pattern) (ok : RightPattern p) (ws os : List ℕ) (st : StandAt ws
   unfolding rowsHere
   rows-block base c l = ap (λ (vs : List ℕ). map (pairRow base) (pairs vs)) (vertices-clique c l)
 
-  pub stands : p .vertexCount ≤ 256 → (c : ℕ) → c < cliqueCount p → Stands ws (p .ordering) (getD os c 0)
+  pub stands : p .vertexCount ≤ 256 → (c : ℕ) → c < cliqueCount p → SortableClique ws (p .ordering) (getD os c 0)
   stands few c l = record { found = st c l .0; sortable = rw (here c l) (clique-sortable p ok few c l) }
 
 module _ (p : Pattern) (ok : RightPattern p) (ws os : List ℕ) (k : ℕ) (count : cliqueCount p ≡ k) (room : k ≤ length os) (st : StandAt ws (p .cliques) os) where
-  pub all-stand : p .vertexCount ≤ 256 → Standing ws (p .ordering) (take k os)
+  pub all-stand : p .vertexCount ≤ 256 → SortableCliques ws (p .ordering) (take k os)
   all-stand few c l =
       let m : c < k = omega (arith, length-take-le k os room) in
       rw (getD-take k os c 0 m) (stands p ok ws os st few c (omega arith))
@@ -96,7 +93,7 @@ module _ (p : Pattern) (ok : RightPattern p) (ws os : List ℕ) (k : ℕ) (count
 
 -- ---- the pattern at an offset
 
--- as many are read as asked
+-- a read of k items gives k items
 many-count : {A : Type 0} (one : List ℕ → Read A) (k : ℕ) (ws : List ℕ) → Reads (λ xs. length xs ≡ k) (readMany one k ws)
 many-count one zero ws = refl
 many-count one (suc k) ws =
@@ -118,9 +115,9 @@ module _ (ws : List ℕ) (at : ℕ) (r : PatternRead) (ok : RightPattern (patter
     head-here = head-found ws at r q e f
 
     pub cliques-here : Whole ws (q .cliques) k
-    cliques-here = go (whole (readCliques k (drop (q .cliques) ws))) refl
+    cliques-here = go (isWhole (readCliques k (drop (q .cliques) ws))) refl
       where
-        go : (b : Bool) → whole (readCliques k (drop (q .cliques) ws)) ≡ b → whole (readCliques k (drop (q .cliques) ws)) ≡ true
+        go : (b : Bool) → isWhole (readCliques k (drop (q .cliques) ws)) ≡ b → isWhole (readCliques k (drop (q .cliques) ws)) ≡ true
         go true w = w
         go false w = absurd (no-tree (patternAt ws at) ok (no-cliques ws at (headOf ws q) (q .cliques) head-here w))
 
@@ -130,7 +127,7 @@ module _ (ws : List ℕ) (at : ℕ) (r : PatternRead) (ok : RightPattern (patter
     pub count-here : length cs ≡ k
     count-here = go (readCliques k (drop (q .cliques) ws)) (many-count readClique k (drop (q .cliques) ws)) cliques-here
       where
-        go : (r : Read (List Clique)) → Reads (λ cs. length cs ≡ k) r → whole r ≡ true → length (valueOr [] r) ≡ k
+        go : (r : Read (List Clique)) → Reads (λ cs. length cs ≡ k) r → isWhole r ≡ true → length (valueOr [] r) ≡ k
         go (read cs left) m w = m
         go short m w = absurd (subst T (sym w) tt)
 
@@ -140,7 +137,7 @@ module _ (ws : List ℕ) (at : ℕ) (r : PatternRead) (ok : RightPattern (patter
     pub count-few : patternAt ws at .vertexCount ≤ 256 → k ≤ 256
     count-few few = omega (arith, cliques-count, cliques-few (patternAt ws at) ok)
 
-    -- the part of the words that is the ordering
+    -- the words between the head and the cliques are the ordering
     pub ordering-part : PatternInside (length ws) at (Found q) → take (q .cliques - q .ordering) (drop (q .ordering) ws) ≡ patternAt ws at .ordering
     ordering-part i =
         let n : q .cliques - q .ordering ≡ q .«vertex_count» = omega arith in
@@ -148,4 +145,4 @@ module _ (ws : List ℕ) (at : ℕ) (r : PatternRead) (ok : RightPattern (patter
 
     pub stand-here : (os : List ℕ) → OffsetsOf ws (q .cliques) k os → StandAt ws (patternAt ws at .cliques) os
     stand-here os st = subst (λ (p : Pattern). StandAt ws (p .cliques) os) (sym pattern-here)
-        (λ c l. let e = st c (omega (arith, count-here)) in (ap whole e, ap (valueOr noClique) e))
+        (λ c l. let e = st c (omega (arith, count-here)) in (ap isWhole e, ap (valueOr noClique) e))

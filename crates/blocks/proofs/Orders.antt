@@ -13,7 +13,7 @@ module _ {A B : Type 0} (f : A → List B) (d : A) (xs : List A) where
   join-last : (ys : List A) (x : A) → join f (ys ++ (x ∷ [])) ≡ join f ys ++ f x
   join-last ys x = join-append f ys (x ∷ []) ∙ ap (λ (r : List B). join f ys ++ r) (append-nil (f x))
 
-  -- ---- from first to last: the first c are done
+  -- ---- from first to last, after the first c lists
 
   pub up-more : (c : ℕ) → c < length xs → join f (take (c + 1) xs) ≡ join f (take c xs) ++ f (getD xs c d)
   up-more c l = ap (join f) (ap (λ (n : ℕ). take n xs) (add-one c) ∙ take-suc xs c d l) ∙ join-last (take c xs) (getD xs c d)
@@ -28,7 +28,7 @@ module _ {A B : Type 0} (f : A → List B) (d : A) (xs : List A) where
         length-append (join f (take (c + 1) xs)) (join f (drop (c + 1) xs)),
       )
 
-  -- ---- from last to first: those from c on are done
+  -- ---- from last to first, after the lists from c on
 
   pub down-more : (c : ℕ) → c < length xs → join f (reverse (drop c xs)) ≡ join f (reverse (drop (c + 1) xs)) ++ f (getD xs c d)
   down-more c l =

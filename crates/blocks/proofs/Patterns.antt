@@ -1,17 +1,16 @@
--- A right pattern's cliques as sorting asks for them, and its blocks by the ordering alone.
+-- The cliques of a pattern that passed the checks can be sorted, and its blocks follow from the ordering.
 use Prim.Native.Nat.{ℕ, zero, suc, _≤_, _<_}
 use native.Mathlib.Omega.{arith}
 use mathlib.Core.Path.{_≡_, refl, ap, sym, _∙_}
-use mathlib.Core.List.{List, [], _∷_, _++_, map, reverse, append-nil, map-append}
-use lib.ListN.{length, getD, length-append, length-map}
+use mathlib.Core.List.{List, [], _∷_, _++_, map, reverse, append-nil}
+use lib.ListN.{length, getD, length-map}
 use Rattle.layout.specs.Lists.{has, keep, below, join, Below}
-use Rattle.layout.specs.Patterns.{Pattern, Clique, cliqueAt, cliqueCount, members, noClique}
+use Rattle.layout.specs.Patterns.{Pattern, cliqueAt, cliqueCount, members}
 use Rattle.layout.specs.Blocks.{Pair, pair, originalRow, pairRow, sorted, block, rowOf, patternRows, blockRows, cut}
 use Rattle.layout.specs.Checks.{RightPattern}
 use Rattle.layout.proofs.Members.{has-getD}
 use Rattle.layout.proofs.Distinct.{permutation-has}
-use Rattle.layout.proofs.Tree.{cliques-right}
-use Rattle.layout.proofs.Joins.{reverse-below}
+use Rattle.layout.proofs.Joins.{reverse-below, map-join}
 use Rattle.layout.proofs.Originals.{Vertices, originals-distinct}
 use Rattle.layout.proofs.Cliques.{clique-vertices, clique-distinct}
 use Rattle.layout.proofs.Rows.{row-original, rows-count}
@@ -21,12 +20,7 @@ use Rattle.blocks.specs.Codes.{standardPatternRows}
 
 -- ---- joined lists
 
-module _ {A B C : Type 0} where
-  pub map-join : (g : B → C) (f : A → List B) (xs : List A) → map g (join f xs) ≡ join (λ x. map g (f x)) xs
-  map-join g f [] = refl
-  map-join g f (x ∷ xs) = map-append g (f x) (join f xs) ∙ ap (λ (r : List C). map g (f x) ++ r) (map-join g f xs)
-
--- lists that agree below k, joined from last to first
+-- joining equal lists from last to first gives equal results
 pub down-same : {B : Type 0} (f g : ℕ → List B) (k : ℕ) → ((c : ℕ) → c < k → f c ≡ g c) → join f (reverse (below k)) ≡ join g (reverse (below k))
 down-same f g zero h = refl
 down-same {B} f g (suc k) h =
@@ -34,19 +28,7 @@ down-same {B} f g (suc k) h =
     ∙ rw (h k (omega arith)) (ap (λ (r : List B). g k ++ r) (down-same f g k (λ c l. h c (omega arith))))
     ∙ ap (join g) (sym (reverse-below k))
 
--- no list is empty, so the joined list is as long as there are lists
-join-long : (f : Clique → List ℕ) (cs : List Clique) → ((c : ℕ) → c < length cs → ¬ (length (f (getD cs c noClique)) ≡ 0)) → length cs ≤ length (join f cs)
-join-long f [] h = omega arith
-join-long f (q ∷ cs) h =
-    omega (arith, h 0 (omega arith), length-append (f q) (join f cs), join-long f cs (λ c l. h (suc c) (omega arith)))
-
 module _ (p : Pattern) (ok : RightPattern p) where
-  -- no more cliques than vertices
-  pub cliques-few : cliqueCount p ≤ p .vertexCount
-  cliques-few =
-      let right = cliques-right p (ok .cliques) in
-      omega (arith, join-long (λ c. c .snode) (p .cliques) (right .nonempty), right .vertices)
-
   pub ordering-below : Below (length (p .ordering)) (p .ordering)
   ordering-below k l = permutation-has (p .ordering) (ok .ordered .permutation) (getD (p .ordering) k 0) .0 (has-getD (p .ordering) k 0 l)
 
@@ -62,17 +44,17 @@ module _ (p : Pattern) (ok : RightPattern p) where
         once = originals-distinct p (ok .ordered) us vertices (clique-distinct p ok c l);
       }
 
-  -- the vertices are as many as the ordering has numbers
+  -- sorting by the ordering is sorting by the pattern
   pub sorted-by : (us : List ℕ) → sortedOf (p .ordering) us ≡ sorted p us
   sorted-by us = ap (λ (n : ℕ). keep (λ w. has w (map (λ u. getD (p .ordering) u 0) us)) (below n)) (ok .ordered .vertices)
 
-  -- ---- how many rows
+  -- ---- the number of rows
 
   pub standard-rows-count : (base : ℕ) → length (standardPatternRows p base) ≡ blockRows p
   standard-rows-count base =
       ap length (sym (append-nil (standardPatternRows p base))) ∙ standard-count base (cut 0 base 0 p ∷ []) (refl, ok, tt) ∙ omega arith
 
-  -- a compact row's original row is its pair's
+  -- the original rows of a pattern's compact rows are those of its blocks' pairs
   pub original-rows : (base first : ℕ)
       → map originalRow (patternRows p base first) ≡ join (λ c. map (pairRow base) (block p c)) (reverse (below (cliqueCount p)))
   original-rows base first =

@@ -1,4 +1,4 @@
--- A block's columns over sorted vertices.
+-- The columns of a block over sorted vertices.
 use Prim.Native.Nat.{ℕ, suc, _+_, _<_, _≤_}
 use mathlib.Core.List.{List, map}
 use lib.ListN.{length, getD}
@@ -9,6 +9,6 @@ use Rattle.layout.specs.Blocks.{Pair, pair}
 abbrev pub columnPairs : List ℕ → ℕ → List Pair
 columnPairs vs j = map (λ i. pair (getD vs i 0) (getD vs j 0)) (below (suc j))
 
--- each column of the block, whose cone starts at row base, ends below row n
+-- each column of the block ends at or before row n, where the cone starts at row base
 abbrev pub ColumnsFit : ℕ → List ℕ → ℕ → Type 0
 ColumnsFit base vs n = (k : ℕ) → k < length vs → base + triangle (suc (getD vs k 0)) ≤ n

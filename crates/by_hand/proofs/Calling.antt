@@ -1,11 +1,11 @@
--- A call in a walk by hand. Once the callee f has returned, the tokens ts are back, its result's machine value is written out, and what its `ensures`
--- says is known. x is what is bound at the call; the `refl`s of each rule say what f asks at x and what it gives.
---     Asks, Requires   what it asks: the tokens and what its parameters own, and its `requires`
---     Ends, says-ends  what is bound of its parameters' last values, and what is said of them
---     calls-handing    it is handed what its parameters own, and what says their last values comes back
---     Arg              an argument that is passed and stays: a value that owns facts alone (`plain-arg`), or a copy of a shared slice (`lent-arg`)
---     calls-lent       the call with such arguments: the slices are there as before
---     passing          what is bound at a call
+-- A call in a hand-written proof. After the callee f has returned, the tokens ts are back, the machine value of its result is known, and so is its
+-- `ensures`. x is what the contract binds at the call; the `refl`s of each rule state what f requires and what it ensures at x.
+--     Asks, Requires   what f requires: the tokens and what its parameters own, and its `requires` clause
+--     Ends, says-ends  the final values of its parameters, and the facts about them
+--     calls-handing    a call that passes on what its parameters own; the facts about their final values come back
+--     Arg              an argument that the caller keeps: a value that owns no memory (`plain-arg`), or a copy of a shared slice (`lent-arg`)
+--     calls-lent       a call with such arguments: the caller still has the slices afterwards
+--     passing          what the contract binds at a call
 use Prim.Native.Nat.{ℕ}
 use mathlib.Core.Path.{_≡_, refl, sym, ap, subst}
 use mathlib.Core.List.{List, [], _∷_, _++_}
@@ -47,7 +47,7 @@ module _ (w : World) where
     abbrev pub says-ends : Ends → Fml
     says-ends us = lasts (f .ended) (x .0 .0) (x .0 .3) us
 
-    -- what it asks: the tokens are ts, its parameters own Fs, and its `requires`
+    -- what f requires: the tokens are ts, and its parameters own Fs; and its `requires` clause
     abbrev pub Asks : List (Item 𝓤) → List Fml → Type 2
     Asks ts Fs = (alive 𝓤 H A (f .ended .signature) (x .0 .0) (x .0 .1) ≡ mean 𝓤 H A (tokens ts)) × (row-owns (typesAt (f .ended .signature .params) (x .0 .0)) (x .0 .3) (x .0 .4) ≡ stars Fs)
 
@@ -63,11 +63,11 @@ module _ (w : World) where
         (mono∗ 𝓤 (subst (λ (Q : SProp 𝓤). ent 𝓤 (⋆ 𝓤 H A ts) Q) (sym (asked .0)) (tokens-whole 𝓤 H A ts)) (subst (λ (G : Fml). ent 𝓤 (⋆ 𝓤 H A Δ) (sem 𝓤 H A G)) (sym (asked .1)) makes)))
         (and-so 𝓤 q)
 
-    -- its `post`, where the tokens are ts, the result is of the type D, and φ is what its `ensures` says
+    -- the postcondition of f, where the tokens are ts, the result has type D, and φ is the `ensures` clause
     abbrev pub Gives : List (Item 𝓤) → (D : Datum) → (D .R .Denot → Ends → Type 0) → Val → SProp 𝓤
     Gives ts D φ u = mean 𝓤 H A (later (some (λ (r : D .R .Denot). (tokens ts ⊛ ‵ (D .R .own r (u ∷ []))) ⊛ some (λ (us : Ends). ‵ (says-ends us) ⊛ raw (fact 𝓤 (φ r us))))))
 
-    -- what it asks stands first
+    -- a call where the precondition is first in the context
     module _ {K : Type 0} {Γ : List (Item 𝓤)} {E : Env 𝓤 H} {xs : List Operand} {q : Post 𝓤 H} {d : Place} {rest : Body} where
       calls-asked : K → Cited w f → (ts : List (Item 𝓤)) (D : Datum) (φ : D .R .Denot → Ends → Type 0) → Callee w f .post x ≡ Gives ts D φ → Opds K W (raw (Callee w f .pre x) ∷ Γ) E xs (Callee w f .args x)
           → ((r : D .R .Denot) (us : Ends) → φ r us → Is (D .R) r (D .val r ∷ []) → Seq K W (tokens ts ∷ ‵ (says-ends us) ∷ Γ) (lands (𝓣 .C) (𝓣 .Λ) E d (D .val r) rest q))
@@ -89,7 +89,7 @@ module _ (w : World) where
           made Γ t (raw (Callee w f .pre x)) (ts ++ items Fs) (asks ts Fs asked q (items Fs) (stars-whole 𝓤 H A Fs)) $
           calls-asked t known ts D φ gives os (λ r us e is. split-tokens (‵ (says-ends us) ∷ Γ) t ts $ k r us e is)
 
--- ---- arguments that stay
+-- ---- arguments that the caller keeps
 
 pub record Arg : Type 3 where
   pub R : RattleType
@@ -104,12 +104,12 @@ plain-arg D x is = record { R = D .R; x = x; val = D .val x; slices = []; makes 
 abbrev pub lent-arg : Lifetime → Lft → (R : RattleType) → RefT (List (R .Denot)) → Arg
 lent-arg ℓ κ R x = record { R = ShrSlice ℓ κ R; x = x; val = slice x; slices = shared-slice ℓ κ R x (slice x ∷ []) ∷ []; makes = λ 𝓤 H A W. id⊢ 𝓤 (sem 𝓤 H A (ShrSlice ℓ κ R .own x (slice x ∷ []))) }
 
--- the outputs' lengths
+-- the lengths of the outputs, as arguments
 abbrev pub length-args : List Output → List Arg
 length-args [] = []
 length-args (o ∷ os) = plain-arg usizes (length (o .ref .now)) (refl, o .fits) ∷ length-args os
 
--- of a list of them: what they denote, their machine values, what they own, and the slices among them
+-- for a list of arguments: their denotations, their machine values, what they own, and the slices among them
 abbrev pub Denoted : List Arg → Type 0
 Denoted [] = Unit {0}
 Denoted (a ∷ bs) = a .R .Denot × Denoted bs
@@ -130,7 +130,7 @@ abbrev pub lents : List Arg → List Shared
 lents [] = []
 lents (a ∷ bs) = a .slices ++ lents bs
 
--- what is bound at a call that takes the lifetimes ks, with the arguments x and their machine values vs
+-- what the contract binds at a call with the lifetimes ks, the arguments x and their machine values vs
 abbrev pub passing : (n : ℕ) (κs : Lfts n) (qs : Shares n) (ks : List ℕ) {X : Type 0} → X → (vs : List Val) → Lfts (length ks) × Shares (length ks) × Unit {0} × X × Singles vs
 passing n κs qs ks x vs = (lfts n κs ks, shares n qs ks, tt, x, singles vs)
 

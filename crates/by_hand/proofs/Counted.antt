@@ -1,9 +1,9 @@
--- A loop that is left after n turns, as the walks by hand have it: what holds before turn k, with a state that has its facts at k, and what a turn
--- makes of it. In MIR it stands in a block, and the rest of the body comes after it.
---     Loop             a loop: the locals, a turn, the rest of the body and what is to hold after it, n, the state, and what holds
---     More, Ends       that a turn before the last one, and that the last one, runs: at its end what holds before the next turn, or the rest of the body
---     counted          the loop, from what holds before turn 0
---     goes-on, stops   a turn's test: it holds, and the turn goes on, or it fails, and the loop is left
+-- A loop that ends after n turns, in a hand-written proof: an invariant for the start of turn k, with a state that depends on k, and what each turn
+-- does to it. In MIR the loop is inside a block, and the rest of the body follows.
+--     Loop             a loop: the locals, one turn, the rest of the body with its postcondition, n, the state, and the invariant
+--     More, Ends       that a turn before the last runs, up to the invariant of the next turn; and that the last one does, up to the rest of the body
+--     counted          the whole loop, from the invariant of turn 0
+--     goes-on, stops   the test of a turn: it passes and the turn continues, or it fails and the loop ends
 use mathlib.Core.Path.{_≡_, subst}
 use Prim.Native.Nat.{ℕ, zero, suc, _+_, _<_}
 use mathlib.Core.List.{List, []}
@@ -45,7 +45,7 @@ module _ {w : World} (l : Loop w) where
   open World w using (𝓤, H, A, W, 𝓣)
   open Loop l using (E, turn, rest, q, n, State, At)
 
-  -- where the loop is left
+  -- the postcondition where the loop is left
   abbrev Left : Out → SProp 𝓤
   Left = afterBlock 𝓤 H (afterSeq 𝓤 H (Wp 𝓤 H (𝓣 .C) (𝓣 .Λ) E rest (post 𝓤 H q)) (post 𝓤 H q))
 
@@ -61,7 +61,7 @@ module _ {w : World} (l : Loop w) where
   abbrev Held : ℕ → SProp 𝓤
   Held k = ex 𝓤 (λ (s : State k). ⋆ 𝓤 H A (At k s))
 
-  -- t turns are left
+  -- the invariant where t turns are left
   abbrev Inv : ℕ → SProp 𝓤
   Inv t = ex 𝓤 (λ (k : ℕ). guard 𝓤 (k + t ≡ n) (Held k))
 
@@ -77,7 +77,7 @@ module _ {w : World} (l : Loop w) where
     below : (t : ℕ) → ent 𝓤 (Inv t) (Below (suc t))
     below t = via 𝓤 (guard 𝓤 (t < suc t) (Inv t)) (guardI 𝓤 (t < suc t) (Inv t) (omega arith)) (exI 𝓤 (λ (u : ℕ). guard 𝓤 (u < suc t) (Inv u)) t)
 
-    -- a turn from where j are left, and X after it where the loop goes on
+    -- the postcondition of a turn, where X holds if the loop continues
     abbrev Turn : SProp 𝓤 → Post 𝓤 H
     Turn X = anyQ (afterTurn 𝓤 H X Left)
 

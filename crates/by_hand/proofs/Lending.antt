@@ -1,9 +1,9 @@
--- The `&mut [R]` parameters lent on to a callee: for each, MIR takes the address of what it points at and makes a slice of that and the length. The locals lie
--- in the context from `base` on, local i at base + 2 * i.
---     lending os i j rest      the code: the outputs os are in the locals from i on, and the locals from j on hold each address and each new slice
+-- The `&mut [R]` parameters reborrowed for a callee: for each, MIR takes the address that it points at and makes a slice of it and the length. The locals are
+-- in the context from index `base` on, local i at index base + 2 * i.
+--     lending os i j rest      the MIR code: the outputs os are in the locals from i on; the locals from j on take each address and each new slice
 --     lent base os j Γ         the context after it
---     lends            it runs: two `refl`s say of what types the locals are, and what lies in the context
---     measuring, measured, measures        likewise their lengths: the locals from j on hold them
+--     lends            the code runs; two `refl`s state the types of the locals, and the items in the context
+--     measuring, measured, measures        the same for the lengths, which the locals from j on take
 use Prim.Native.Nat.{ℕ, zero, suc, _+_, _*_}
 use mathlib.Core.Path.{_≡_, refl, sym, ap, subst}
 use mathlib.Core.List.{List, [], _∷_}
@@ -24,7 +24,7 @@ use Rattle.by_hand.proofs.Values.{slice, fitting}
 use Rattle.by_hand.proofs.Outputs.{Output}
 use Rattle.by_hand.proofs.Locals.{len}
 
--- the types of what an output points at, of the reference that was passed, and of the one that is made
+-- the types of an output's elements, of the reference that was passed, and of the reference that is made
 abbrev element : Output → Ty
 element o = lone (o .R .mir)
 
@@ -50,7 +50,7 @@ module _ {M : Type 1} {𝓤 : URA M} (H : Heap 𝓤) (A : Atoms 𝓤) (E : Env �
   abbrev spot : ℕ → ℕ
   spot i = base + 2 * i
 
-  -- the context with the address, and with the slice too
+  -- the context after the address is stored, and after the slice is stored too
   abbrev addressed : Output → ℕ → List (Item 𝓤) → List (Item 𝓤)
   addressed o j Γ = put 𝓤 H A (spot j) (‵ (fat fullShare (made-ref o) (block j) zero (vptr (o .ref .ptr .0) (o .ref .ptr .1)))) Γ
 
@@ -61,12 +61,12 @@ module _ {M : Type 1} {𝓤 : URA M} (H : Heap 𝓤) (A : Atoms 𝓤) (E : Env �
   lent [] j Γ = Γ
   lent (o ∷ os) j Γ = lent os (suc (suc j)) (lent-one o j Γ)
 
-  -- the types of the locals, as they are and as they are to be
+  -- the types that the locals have, and those that they must have
   abbrev pub types-there : List Output → ℕ → ℕ → List Ty
   types-there [] i j = []
   types-there (o ∷ os) i j = type-of i ∷ type-of j ∷ type-of (suc j) ∷ types-there os (suc i) (suc (suc j))
 
-  -- what lies in the context, and what is to lie there
+  -- the items at the locals' indices in the context, and those that must be there
   abbrev pub there : List Output → ℕ → ℕ → List (Item 𝓤) → List (Item 𝓤)
   there [] i j Γ = []
   there (o ∷ os) i j Γ =
@@ -87,7 +87,7 @@ abbrev pub types-due : List Output → List Ty
 types-due [] = []
 types-due (o ∷ os) = sliceTy (passed-ref o) ∷ made-ref o ∷ sliceTy (made-ref o) ∷ types-due os
 
--- what a slice in a cell points at
+-- the memory that a slice in a cell points at
 module _ {M : Type 1} {𝓤 : URA M} {H : Heap 𝓤} {A : Atoms 𝓤} {K : Type 0} {W : Given 𝓤 H A} {Γ : List (Item 𝓤)} {E : Env 𝓤 H} (t : K) (o : Output) (n i : ℕ)
     (type-is : spotOf 𝓤 H E i .0 ≡ sliceTy (passed-ref o)) (cell-is : nth 𝓤 H A n Γ ≡ ‵ (fat fullShare (sliceTy (passed-ref o)) (spotOf 𝓤 H E i .1) zero (slice (o .ref)))) where
   referent : Finds K W Γ E (place i (field 0 ∷ deref (element o) ∷ [])) (element o, o .ref .ptr .0, o .ref .ptr .1)
@@ -123,7 +123,7 @@ module _ {M : Type 1} {𝓤 : URA M} {H : Heap 𝓤} {A : Atoms 𝓤} {K : Type 
       → Step K W (lent H A E base os j Γ) (runs C Λ E rest q) Γ (runs C Λ E (lending os i j rest) q)
   lends {Γ} {rest} t base os i j types items = lends-all t base os i j rest Γ types items
 
--- ---- their lengths
+-- ---- the lengths of the outputs
 
 abbrev pub measuring : List Output → ℕ → ℕ → Body → Body
 measuring [] i j rest = rest

@@ -1,5 +1,5 @@
--- A call's arguments that are locals. The locals lie in the context from `base` on, local i at base + 2 * i, as `Locals.antt` lays them out.
---     loads            they are read: `tt` says that each operand is a local, and one `refl` that each holds its value
+-- A call's arguments that are locals. The locals are in the context from index `base` on, local i at index base + 2 * i, as in `Locals.antt`.
+--     loads            reads them: `tt` states that each operand is a local, and one `refl` that each holds its value
 use Prim.Native.Nat.{ℕ, zero, _+_, _*_}
 use mathlib.Core.Path.{_≡_, ap}
 use mathlib.Core.List.{List, [], _∷_}
@@ -13,7 +13,7 @@ use ghost.Atoms.{Atoms}
 use types.Kit.{Given, Item, ‵, nth}
 use types.Run.{Opds, look, stop, from, load, and-then, no-more}
 
--- X, where the operand is a local, and its number
+-- X if the operand is a local; and the local's number
 abbrev Whole : Operand → Type 0 → Type 0
 Whole (copy (place i [])) X = X
 Whole (copy (place i (s ∷ st))) X = ⊥
@@ -44,7 +44,7 @@ AllWhole (x ∷ xs) [] = ⊥
 AllWhole (x ∷ xs) (v ∷ vs) = Whole x (AllWhole xs vs)
 
 module _ {M : Type 1} {𝓤 : URA M} (H : Heap 𝓤) (A : Atoms 𝓤) (Γ : List (Item 𝓤)) (E : Env 𝓤 H) (base : ℕ) where
-  -- what lies where the operands' locals do, and the cells with the values
+  -- the items at the indices of the operands' locals, and the cells with their values
   abbrev pub there : List Operand → List (Item 𝓤)
   there [] = []
   there (x ∷ xs) = nth 𝓤 H A (base + 2 * local-of x) Γ ∷ there xs

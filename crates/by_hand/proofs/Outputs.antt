@@ -1,7 +1,7 @@
--- The `&mut [R]` parameters that a function walked by hand hands on, as a list.
---     Lists os         a list for each: their last values
---     lefts os ws      what is said of them.        lengths       how long they are
---     Units k X        k units, and X: what is bound of last values where k parameters have none.        units, after     put before, and taken off
+-- The `&mut [R]` parameters that a function with a hand-written proof passes on, as a list.
+--     Lists os         their final values, a list for each
+--     lefts os ws      the facts about these.        lengths       their lengths
+--     Units k X        k units and then X: the final values where k parameters before have none.        units, after     adds the units, and removes them
 use Prim.Native.Nat.{ℕ, zero, suc, _<_, _^_}
 use mathlib.Core.List.{List, [], _∷_}
 use lib.ListN.{length}

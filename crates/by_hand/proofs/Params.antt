@@ -1,16 +1,16 @@
--- The parameters of a function that is walked by hand, as a list: what its proof has of each at exit, and how its machine values are spelled.
+-- The parameters of a function with a hand-written proof, as a list: what the proof has of each at exit, and the machine values of each.
 --
 --     number, sized, shared j, lent j      a u32, a usize, a `&'j [R]`, and a `&'j mut [R]`, each still owned at exit
---     handed F                     any parameter that is handed on: at exit there is only what says its last value, if it has one
+--     handed F                     any parameter that is passed on: at exit only the fact about its final value is left, if it has one
 --
--- Of a list of them, ps, at lifetimes κs and arguments a:
---     values, machine              the machine values, one list for each parameter, and in a row
---     owned, all-own               what each owns, as a list and in one
---     Known, known                 that the values are those of the arguments, and this of parameter k
+-- For a list of parameters ps, at lifetimes κs and arguments a:
+--     values, machine              the machine values, one list for each parameter, and in one list
+--     owned, all-own               what each owns, as a list, and under one ∗
+--     Known, known                 that the values are those of the arguments, for all, and for parameter k
 --     outputs                      the `&mut [R]` among them (`Outputs.antt`)
---     argument, front, back        argument k, the first k, and the others
---     before                       the arguments, and more after them
---     typed                        the machine values are of the parameters' types
+--     argument, front, back        argument k, the first k, and those after the first k
+--     before                       the arguments followed by more
+--     typed                        the machine values have the parameters' types
 use Prim.Native.Nat.{ℕ, zero, suc}
 use mathlib.Core.List.{List, [], _∷_, _++_}
 use mathlib.Core.Path.{_≡_, refl, ap}
@@ -125,7 +125,7 @@ module _ {n : ℕ} where
   handed-lent j ok R =
       handed (mutSliceOf {n = n} (j ∷ []) ok (plain (λ _. R)) .row) (λ κs. slice-vals) (λ κs x vs p. p .0 .0) (λ M 𝓤 H A W κs. mut-slice-lawful 𝓤 H A W _ _ R) (λ κs x is. output (named j) R x (is .0 .1 .0) ∷ [])
 
-  -- ---- of a list of them
+  -- ---- lists of parameters
   abbrev pub slots : List (Param n) → List (Slot n)
   slots [] = []
   slots (p ∷ ps) = p .slot ∷ slots ps
@@ -164,7 +164,7 @@ module _ {n : ℕ} where
     owned [] a = []
     owned (p ∷ ps) a = p .slot .row κs .own (a .0) (p .vals κs (a .0)) ∷ owned ps (a .1)
 
-    -- as a signature has it
+    -- what a signature's parameters own is what each owns, under one ∗
     pub all-own : (ps : List (Param n)) (a : Arguments ps κs) → owns (typesAt (slots ps) κs) a (values ps a) ≡ stars (owned ps a)
     all-own [] a = refl
     all-own (p ∷ ps) a = ap (fsep (p .slot .row κs .own (a .0) (p .vals κs (a .0)))) (all-own ps (a .1))
@@ -183,7 +183,7 @@ module _ {n : ℕ} where
     argument (p ∷ ps) a zero = a .0
     argument (p ∷ ps) a (suc k) = argument ps (a .1) k
 
-    -- the first k, and the others
+    -- the first k arguments, and those after them
     abbrev pub front : (k : ℕ) (ps : List (Param n)) → Arguments ps κs → Arguments (take k ps) κs
     front zero ps a = tt
     front (suc k) [] a = tt
@@ -208,7 +208,7 @@ module _ {n : ℕ} where
     outputs [] a are = []
     outputs (p ∷ ps) a are = p .outs κs (a .0) (are .0) ++ outputs ps (a .1) (are .1)
 
-    -- arguments, and more after them
+    -- the arguments followed by more
     abbrev pub Before : List (Param n) → Type 0 → Type 0
     Before [] X = X
     Before (p ∷ ps) X = p .slot .row κs .Denot × Before ps X

@@ -1,7 +1,7 @@
--- Places by number: the lifetimes of a signature, and stretches of a context.
---     span i k         i, i + 1, …: k numbers
+-- The lifetimes of a signature, by index.
+--     span i k         the k numbers i, i + 1, …
 --     lft, share       lifetime j of n, and the share of its token
---     lfts, shares, tokens-of      those at the places ks, and their tokens.        all-alive     of all
+--     lfts, shares, tokens-of      those at the indices ks, and their tokens.        all-alive     those of all lifetimes
 use Prim.Native.Nat.{ℕ, zero, suc}
 use mathlib.Core.Path.{_≡_, refl, sym, ap, _∙_}
 use mathlib.Core.List.{List, [], _∷_}
@@ -47,7 +47,7 @@ module _ {M : Type 1} (𝓤 : URA M) (H : Heap 𝓤) (A : Atoms 𝓤) where
   shifted n κs qs i zero = refl
   shifted n κs qs i (suc k) = ap (λ (is : List (Item 𝓤)). ‵ (flft (lft n (κs .1) i) (share n (qs .1) i)) ∷ is) (shifted n κs qs (suc i) k)
 
-  -- the tokens of all, as a signature has them
+  -- the tokens of all lifetimes, as a signature has them
   pub all-alive : (n : ℕ) (κs : Lfts n) (qs : Shares n) → toks 𝓤 A n κs qs ≡ mean 𝓤 H A (tokens (tokens-of n κs qs (span 0 n)))
   all-alive zero κs qs = refl
   all-alive (suc n) κs qs = ap (sep 𝓤 (A .lft (κs .0) (qs .0))) (all-alive n (κs .1) (qs .1) ∙ ap (λ (is : List (Item 𝓤)). mean 𝓤 H A (tokens is)) (sym (shifted n κs qs 0 n)))

@@ -1,6 +1,7 @@
--- Numbers and slices in a walk by hand: their machine values, and what is owned of them.
---     Datum            a type whose values each have one machine value, and own facts alone: numbers, bools, nothing, structs of these.        of-type     that is a value of its MIR type
---     had              what such a value owns is had for nothing.        number, size     of a number
+-- Numbers and slices in a hand-written proof: their machine values, and what they own.
+--     Datum            a type whose values each have one machine value and own no memory: numbers, bools, unit, structs of these
+--     of-type          the machine value has its MIR type
+--     had              what such a value owns can be obtained without resources.        number, size     for a u32, and a usize
 use mathlib.Core.Path.{_≡_, refl, sym, ap, subst, _∙_}
 use Prim.Native.Nat.{ℕ, _<_, _^_}
 use mathlib.Core.List.{List, [], _∷_}
@@ -49,11 +50,11 @@ bools = record { R = bool; ty = tyBool; one = refl; val = vbool; tells = bool-te
 abbrev pub nothings : Datum
 nothings = record { R = Nothing; ty = tyUnit; one = refl; val = λ _. vunit; tells = nothing-tells; lawful = nothing-lawful; makes = nothing-makes }
 
--- a declared struct's
+-- a declared struct
 abbrev pub structs : (S : Declared) (L : LL.Laws S) → Plains (fields S) → Datum
 structs S L plain = record { R = row S; ty = lone (row S .mir); one = refl; val = LL.val S L; tells = LL.tells S L; lawful = LL.lawful S L; makes = λ 𝓤 H A W. LL.makes S plain 𝓤 H A }
 
--- its machine value is one of its type, said as τ
+-- the machine value has the type τ, which is that of the datum
 pub of-type : {M : Type 1} (𝓤 : URA M) (H : Heap 𝓤) (A : Atoms 𝓤) (W : Given 𝓤 H A) (D : Datum) (x : D .R .Denot) → Is (D .R) x (D .val x ∷ []) → {τ : Ty} → τ ≡ D .ty → T (hasTy τ (D .val x)) × WT (D .val x)
 of-type 𝓤 H A W D x is e = subst (λ (τs : List Ty). Typed τs (D .val x ∷ [])) (D .one ∙ ap (λ (τ : Ty). τ ∷ []) (sym e)) (D .lawful 𝓤 H A W .typed x (D .val x ∷ []) is) .0
 
@@ -81,15 +82,15 @@ module _ {M : Type 1} {𝓤 : URA M} {H : Heap 𝓤} {A : Atoms 𝓤} {K : Type 
 abbrev pub slice : {X : Type 0} → RefT (List X) → Val
 slice x = sliceVal (x .ptr) (length (x .now))
 
--- its value is one of its type
+-- the value of a slice has its type
 pub fitting : {k : ℕ} → k < 2 ^ 64 → Unit {0} × (Unit {0} × (Fits w64 k × Unit {0}))
 fitting f = (tt, (tt, (record { fits = f }, tt)))
 
--- what is said of its last value
+-- the fact about a slice's final value
 abbrev pub left : (R : RattleType) → RefT (List (R .Denot)) → List (R .Denot) → Fml
 left R x l = fsep (finally R (x .name) l) (feq ℕ (length l) (length (x .now)))
 
--- ---- values in a row as a list for each, as a contract binds them
+-- ---- machine values, each as a list of one, as a contract binds them
 abbrev pub Singles : List Val → Type 0
 Singles [] = Unit {0}
 Singles (v ∷ vs) = List Val × Singles vs

@@ -1,11 +1,11 @@
--- A function that is proved by a walk of its MIR.
---     Walked           the function: its parameters as a list, its contract, its code, and what it calls
---     Here             a call of it: in a world, at one choice of lifetimes and arguments, whose machine values are known
+-- A function that is proved by hand, by a walk through its MIR.
+--     Walked           the function: its parameters as a list, its contract, its code, and its callees
+--     Here             a call of it: in a world, with lifetimes and arguments, whose machine values are known
 --     args, Owned, toks, outs     the arguments' machine values, what the parameters own, the tokens of the lifetimes ks, and the outputs
 --     arg, known-of    argument k, and what is known of it.        args-at, vals-at, owned-at     the arguments ks, their machine values, and what they own
---     Body, Whole      the body is walked from the entry.        Returned       what is to hold at the return.        ends-in      how it is shown
---     taken-apart      what there is at the entry, in parts.        to-call    what is bound at a call.        loop-in     a loop in it (`Counted.antt`)
---     Walk             the call runs.        walks      it does, from its body.        walks-given    where φ is required
+--     Body, Whole      that the body runs from the entry.        Returned       the postcondition at the return.        ends-in      how it is shown
+--     taken-apart      splits what there is at the entry.        to-call    what the contract binds at a call.        loop-in     a loop of the function (`Counted.antt`)
+--     Walk             that the call runs.        walks      it does if its body does.        walks-given    the same where φ is required
 --     stands           the function meets its contract
 use Prim.Native.Nat.{ℕ}
 use mathlib.Core.Path.{_≡_, sym, ap, ap₂, subst}
@@ -119,7 +119,7 @@ module _ {f : Walked} (h : Here f) where
   abbrev pub Returned : Val → SProp 𝓤
   Returned = walkOf 𝓤 H A T (stays (f .params)) clauses .post bound
 
-  -- at the return: the tokens are there, the result is x, and F, what is had of the parameters, is left to show. The `refl`s say that this is all, beside the `ensures`
+  -- at the return: given the tokens, the result x and `ensures`, it is left to show F, what remains of the parameters; the `refl`s state that this is all
   pub ends-in : {K : Type 0} {Γ : List (Item 𝓤)} → K → (D : Datum) (x : D .R .Denot) → Is (D .R) x (D .val x ∷ []) → (r : Res (T .signature) (h .κs)) (ws : Lasts T (h .κs) (h .a)) → Fit T (stays (f .params)) (h .κs) (h .a) ws → (F : Fml)
       → (hasOf (h .κs) (slots (f .params)) (kepts (f .params)) (stays (f .params)) (h .a) ws (values (h .κs) (f .params) (h .a)) ≡ F) × (typeAt (f .result) (h .κs) .own r (D .val x ∷ []) ≡ own-of D x)
       → ent 𝓤 (emp 𝓤) (clauses (h .κs) (h .a) .ensures (h .g) r (atExit T (h .κs) (h .a) ws))
@@ -137,7 +137,7 @@ module _ {f : Walked} (h : Here f) where
       (and-so 𝓤 q))
       (ends-at 𝓤 H A T (stays (f .params)) clauses W bound (D .val x) r ws fit)))
 
-  -- what there is at the entry, in parts
+  -- splits what there is at the entry into items
   pub taken-apart : {K : Type 0} {G : Goal 𝓤 H} (Γ : List (Item 𝓤)) → K → Step K W (items Owned ++ (toks (span 0 (f .n)) ++ Γ)) G (Entered ++ Γ) G
   taken-apart Γ t =
       let ts : List (Item 𝓤) = toks (span 0 (f .n)) in
@@ -148,22 +148,22 @@ module _ {f : Walked} (h : Here f) where
       (mono∗ 𝓤 (stars-apart 𝓤 H A Owned) (via 𝓤 (sep 𝓤 (mean 𝓤 H A (tokens ts)) (⋆ 𝓤 H A Γ)) (pop 𝓤 H A (tokens ts) Γ) (via 𝓤 (sep 𝓤 (⋆ 𝓤 H A ts) (⋆ 𝓤 H A Γ)) (monoL 𝓤 (⋆ 𝓤 H A Γ) (tokens-apart 𝓤 H A ts)) (++⊢ 𝓤 H A ts Γ))))))
       (++⊢ 𝓤 H A (items Owned) (ts ++ Γ))) (s .prf)))
 
-  -- its locals
+  -- the environment of its locals
   abbrev pub En : Blocks (f .code .locals) → Env 𝓤 H
   En bs = env (f .code .locals) bs
 
-  -- a loop of it, with Kf after the return
+  -- a loop of the function, with postcondition Kf at the return
   abbrev pub loop-in : Blocks (f .code .locals) → (Val → SProp 𝓤) → (turn rest : Code) (n : ℕ) (State : ℕ → Type 0) → ((k : ℕ) → State k → List (Item 𝓤)) → Loop (h .w)
   loop-in bs Kf turn rest n State At = record { E = En bs; turn = turn; rest = rest; q = atRet (En bs) Kf; n = n; State = State; At = At }
 
-  -- what is bound at a call that takes the lifetimes ks
+  -- what the contract binds at a call with the lifetimes ks
   abbrev pub to-call : (ks : List ℕ) {X : Type 0} → X → (vs : List Val) → Lfts (length ks) × Shares (length ks) × Unit {0} × X × Singles vs
   to-call ks x vs = passing (f .n) (h .κs) (h .qs) ks x vs
 
   abbrev pub Body : Blocks (f .code .locals) → (Val → SProp 𝓤) → Type 1
   Body bs Kf = Seq (Go {0}) W (Entered ++ locals (En bs) (none ∷ map some args)) (runs (𝓣 .C) (𝓣 .Λ) (En bs) (f .code .body) (atRet (En bs) Kf))
 
-  -- the whole of it
+  -- that the body runs for any blocks of the locals, up to the postcondition
   abbrev pub Whole : Type 1
   Whole = (bs : Blocks (f .code .locals)) → Body bs Returned
 
@@ -182,7 +182,7 @@ module _ {f : Walked} (h : Here f) where
   entry : Started ≡ ⋆ 𝓤 H A Entered
   entry = ap₂ (sep 𝓤) (all-alive 𝓤 H A (f .n) (h .κs) (h .qs)) (ap (sem 𝓤 H A) (all-own (h .κs) (f .params) (h .a)))
 
-  -- the fact computes, at a signature that is written out
+  -- `fits` holds by computation, for a concrete signature
   module _ (fits : (bs : Blocks (f .code .locals)) → Typed (mirs (typesAt (slots (f .params)) (h .κs))) args → Fits (En bs) args) where
     runs-from : Whole → ent 𝓤 Started Runs
     runs-from body =
@@ -195,7 +195,7 @@ module _ {f : Walked} (h : Here f) where
     pub walks-given : (φ : Type 0) → Required ≡ fact 𝓤 φ → (φ → Whole) → Walk
     walks-given φ e body = subst (λ (P : SProp 𝓤). ent 𝓤 (sep 𝓤 Started P) Runs) (sym e) (needs 𝓤 φ Started (λ given. runs-from (body given)))
 
--- the function has the key k, and its calls mean γ
+-- the function has the name k, and γ gives the meaning of its calls
 module _ (f : Walked) (k : Name) (γ : Meanings) (links : Links γ (f .callees)) (walk : (h : Here f) → Walk h) {M : Type 1} (𝓤 : URA M) (H : Heap 𝓤) (𝓜 : Model 𝓤 H) (𝓖 : GhostRules 𝓤 H) (𝓡 : Running 𝓤 H 𝓜) where
   abbrev E : Ended
   E = ended (f .params) (f .result)

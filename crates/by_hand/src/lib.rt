@@ -1,1 +1,1 @@
-// What proofs by hand share, of functions that the borrow checker doesn't cover: proofs/ holds it. No function is declared here.
+// Laws shared by the hand-written proofs of functions that the borrow checker does not cover; all of it is in proofs/. No function is declared here.

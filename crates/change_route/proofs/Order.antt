@@ -1,11 +1,11 @@
--- The refusals in order, and what is given where nothing is refused.
+-- The refusals in order, and what holds where nothing is refused.
 use Prim.Native.Nat.{ℕ, _+_, _≤_}
 use native.Mathlib.Omega.{arith}
-use mathlib.Core.Path.{_≡_, refl, sym, ap, _∙_}
+use mathlib.Core.Path.{_≡_, sym, ap, _∙_}
 use mathlib.Core.Bool.{Bool, true, false, cond, _&&_}
 use mathlib.Core.List.{List, [], _∷_}
 use lib.ListN.{length}
-use lib.Dec.{T, leb}
+use lib.Dec.{leb}
 use Rattle.layout.specs.Problem.{standard, compact, Solution}
 use Rattle.layout.specs.Blocks.{Part, blockRowCount, overlapCount}
 use Rattle.layout.specs.Checks.{Sound, Check, check, firstFailing, conesBounded, check10}
@@ -19,14 +19,14 @@ use Rattle.checks.proofs.Order.{joined-then-route, first-given}
 use Rattle.chordal_info.specs.Routes.{Counted}
 use Rattle.change_route.specs.Counted.{countedRefusal}
 
--- the number at each place of the last four checks
+-- the number that each of the last four checks gives where it is the first to fail
 pub in-order : (a b c d : Bool) →
     let x = firstFailing (check 10 a ∷ check 10 b ∷ check 11 c ∷ check 12 d ∷ []) in
     (a ≡ false → x ≡ 10) × (a ≡ true → b ≡ false → x ≡ 10) × (a ≡ true → b ≡ true → c ≡ false → x ≡ 11)
     × (a ≡ true → b ≡ true → c ≡ true → d ≡ false → x ≡ 12) × (a ≡ true → b ≡ true → c ≡ true → d ≡ true → x ≡ 0)
 in-order a b c d = (λ e. rw e, λ e f. rw (e, f), λ e f g. rw (e, f, g), λ e f g h. rw (e, f, g, h), λ e f g h. rw (e, f, g, h))
 
--- n is small where checks 1 to 7 refuse nothing
+-- n is at most 65536 where checks 1 to 7 refuse nothing
 pub columns-few : (n m : ℕ) (cones : List ℕ) (count : ℕ) (words : List ℕ) → joinedRefusal n m cones count words ≡ 0 → n ≤ 65536
 columns-few n m cones count words e =
     let bounded = passed 1 (joinedChecks n m cones count words) tt e in
@@ -50,7 +50,7 @@ module _ (n m : ℕ) (cones : List ℕ) (count : ℕ) (words : List ℕ) (sol : 
       joined-then-route standard n m cones count words ∙ first-given (joinedRefusal n m cones count words) tenth (λ y. h (e ∙ y)) in
       e ∙ sym f ∙ sym (first-given (joinChecks standard n m cones count words) (firstFailing later) (λ y. h (e ∙ sym f ∙ y)))
 
-  -- none of them does
+  -- none of checks 1 to 7 fails
   pub refused-late : (rows overlaps : ℕ) → Counted (joinedParts cones count words) rows overlaps → joinedRefusal n m cones count words ≡ 0
       → countedRefusal n m rows overlaps (length (sol .x)) (length (sol .s)) (length (sol .z)) rooms ≡ changeRefusal n m cones count words sol rooms
   unfolding countedRefusal
@@ -60,7 +60,7 @@ module _ (n m : ℕ) (cones : List ℕ) (count : ℕ) (words : List ℕ) (sol : 
       ∙ ap (λ (a : ℕ). orElse a (firstFailing later))
       (sym (joined-then-route standard n m cones count words ∙ ap (λ (a : ℕ). orElse a tenth) e)))
 
--- what is given where nothing is refused: a standard solution, and room for a compact one
+-- what holds where nothing is refused: a standard solution is given, and the outputs are long enough for a compact one
 pub record Accepted (n m : ℕ) (cones : List ℕ) (count : ℕ) (words : List ℕ) (sol : Solution) (x s z k : ℕ) : Type 0 where
   pub sound : Sound m cones count words
   pub columns : n ≤ length (sol .x)

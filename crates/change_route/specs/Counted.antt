@@ -1,4 +1,4 @@
--- The refusals from counts and lengths: n, m, the blocks' rows and their overlaps; the lengths of x, s and z; the room of each output.
+-- The refusals from counts and lengths: n, m, the numbers of block rows and overlaps, the lengths of x, s and z, and the length of each output.
 use Prim.Native.Nat.{ℕ, _+_}
 use mathlib.Core.List.{List, [], _∷_}
 use Rattle.layout.specs.Problem.{standard, compact}
@@ -7,7 +7,7 @@ use Rattle.layout.specs.Answers.{roomy}
 use Rattle.chordal_info.specs.Sizes.{rowsFit}
 use Rattle.decomp_reverse.specs.Fits.{lengthsFit}
 
--- check 10 of both routes, 11 and 12
+-- the first failing one of check 10 of both routes, 11 and 12
 unfoldable pub countedRefusal : ℕ → ℕ → ℕ → ℕ → ℕ → ℕ → ℕ → List ℕ → ℕ
 countedRefusal n m rows overlaps x s z rooms =
     firstFailing

@@ -1,20 +1,17 @@
--- What a problem that checks 1 to 7 let pass says, and what a joining's inputs say.
+-- What holds of a problem that passes checks 1 to 7, and of the inputs of a joining that pass.
 use Prim.Native.Nat.{ℕ, _≤_}
 use mathlib.Core.Path.{_≡_}
 use mathlib.Core.Bool.{_&&_}
 use mathlib.Core.List.{List, [], _∷_}
 use lib.Dec.{T, leb}
-use Rattle.layout.specs.Problem.{Problem}
 use Rattle.layout.specs.Lists.{all}
 use Rattle.layout.specs.Patterns.{patterns}
-use Rattle.layout.specs.Checks.{Sound, conesBounded, conesRead, patternsRead, treeRight, cliquesRight, Check, check, problemChecks, Checked}
-use Rattle.layout.specs.Answers.{problemRefusal}
+use Rattle.layout.specs.Checks.{Sound, conesBounded, conesRead, patternsRead, treeRight, cliquesRight, Check, check}
 use Rattle.layout.proofs.Tests.{and-iff, leb-iff}
-use Rattle.layout.proofs.Order.{passing, passed}
-use Rattle.layout.proofs.Accepted.{checks-say}
+use Rattle.layout.proofs.Order.{passed}
 use Rattle.checks.specs.Order.{patternsRefusal, joinedChecks, joinedRefusal}
 
--- what checks 1 and 4 to 7 say where none of them refuses
+-- cones and patterns that pass checks 1 and 4 to 7 are sound
 pub patterns-sound : (m : ℕ) (cones : List ℕ) (count : ℕ) (words : List ℕ) → m ≤ 65536 → T (conesBounded cones) → T (conesRead m cones)
     → patternsRefusal cones count words ≡ 0 → Sound m cones count words
 patterns-sound m cones count words few bounded read e =
@@ -29,7 +26,7 @@ patterns-sound m cones count words few bounded read e =
       cliques = passed 7 cs tt e;
     }
 
--- what a joining is given is sound where nothing is refused
+-- the inputs of a joining are sound if none of its checks fails
 pub joined-sound : (n m : ℕ) (cones : List ℕ) (count : ℕ) (words : List ℕ)
     → joinedRefusal n m cones count words ≡ 0 → Sound m cones count words
 joined-sound n m cones count words e =
@@ -43,10 +40,3 @@ joined-sound n m cones count words e =
       trees = passed 6 cs tt e;
       cliques = passed 7 cs tt e;
     }
-
--- what checks 1 to 7 say of a problem that they let pass
-pub problem-checked : (p : Problem) → problemRefusal p ≡ 0 → Checked p
-problem-checked p e = checks-say p (test 1) (test 2) (test 3) (test 4) (test 5) (test 6) (test 7)
-  where
-    test : (k : ℕ) → T (passing k (problemChecks p))
-    test k = passed k (problemChecks p) tt e

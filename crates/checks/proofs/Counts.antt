@@ -1,4 +1,4 @@
--- How many rows the parts have, and how many of them are overlaps, from sums over the patterns.
+-- The number of augmented rows and of overlaps of all parts, from sums over the patterns.
 use Prim.Native.Nat.{ℕ, suc, _+_, _≤_}
 use native.Mathlib.Omega.{arith}
 use mathlib.Core.Path.{_≡_, refl, sym, ap, subst, _∙_}
@@ -16,17 +16,17 @@ use Rattle.layout.specs.Answers.{joinedParts}
 use Rattle.layout.proofs.Tests.{and-iff, leb-iff, ltb-iff}
 use Rattle.layout.proofs.Laid.{sound-total}
 use Rattle.sparsity_pattern.proofs.Sparsity.{risesFrom, rises-start}
-use Rattle.accepted.specs.Accepted.{cutRows}
+use Rattle.accepted.specs.Accepted.{patternRowCount}
 
--- the patterns of the cones that are cut
+-- the patterns of the decomposed cones
 abbrev cutPatterns : List Part → List Pattern
 cutPatterns [] = []
 cutPatterns (whole i c row ∷ ps) = cutPatterns ps
 cutPatterns (cut i row k p ∷ ps) = p ∷ cutPatterns ps
 
--- in place of a cone's rows stand those of its blocks
+-- in a decomposed cone, the rows of its blocks replace the cone's rows
 cut-sums : (ps : List Part) → let cuts = cutPatterns ps in
-    (blockRowCount ps + sum (map cutRows cuts) ≡ sum (map coneRows ps) + sum (map blockRows cuts)) × (overlapCount ps ≡ sum (map overlapRows cuts))
+    (blockRowCount ps + sum (map patternRowCount cuts) ≡ sum (map coneRows ps) + sum (map blockRows cuts)) × (overlapCount ps ≡ sum (map overlapRows cuts))
 cut-sums [] = (refl, refl)
 cut-sums (whole i c row ∷ ps) = let (rows, overlaps) = cut-sums ps in (omega arith, omega arith)
 cut-sums (cut i row k p ∷ ps) = let (rows, overlaps) = cut-sums ps in (omega arith, omega arith)
@@ -34,7 +34,7 @@ cut-sums (cut i row k p ∷ ps) = let (rows, overlaps) = cut-sums ps in (omega a
 abbrev origin : Pattern → ℕ
 origin p = p .origIndex
 
--- each pattern cuts a cone, as they rise and each names one of the cones ds, whose last are cs
+-- each pattern decomposes a cone, because orig_index strictly increases and each names one of the cones ds, of which cs is a suffix
 all-cut : (ds : List Cone) (i row k : ℕ) (cs : List Cone) (ps : List Pattern) → i + length cs ≡ length ds → T (risesFrom i (map origin ps))
     → T (all (namesItsCone ds) ps) → cutPatterns (partsFrom i row k cs ps) ≡ ps
 all-cut ds i row k [] [] e rise named = refl
@@ -66,7 +66,7 @@ all-cut ds i row k (c ∷ cs) (p ∷ ps) e rise named =
 pub sound-counts : {m : ℕ} {cones : List ℕ} {count : ℕ} {words : List ℕ} → Sound m cones count words
     → let ps = patterns count words in
     let xs = joinedParts cones count words in
-    (blockRowCount xs + sum (map cutRows ps) ≡ m + sum (map blockRows ps)) × (overlapCount xs ≡ sum (map overlapRows ps))
+    (blockRowCount xs + sum (map patternRowCount ps) ≡ m + sum (map blockRows ps)) × (overlapCount xs ≡ sum (map overlapRows ps))
 sound-counts {m} {cones} {count} {words} h =
     let ps = patterns count words in
     let xs = joinedParts cones count words in
@@ -75,6 +75,6 @@ sound-counts {m} {cones} {count} {words} h =
     all-cut (records cones) 0 0 0 (records cones) ps (omega arith) (subst T (rises-start (map origin ps)) (named .0 .0 .1)) (named .0 .1) in
     let (rows, overlaps) = cut-sums xs in
     let total = sound-total h in (
-      omega (arith, rows, total, ap (λ (qs : List Pattern). sum (map cutRows qs)) same, ap (λ (qs : List Pattern). sum (map blockRows qs)) same),
+      omega (arith, rows, total, ap (λ (qs : List Pattern). sum (map patternRowCount qs)) same, ap (λ (qs : List Pattern). sum (map blockRows qs)) same),
       overlaps ∙ ap (λ (qs : List Pattern). sum (map overlapRows qs)) same,
     )

@@ -15,18 +15,18 @@ use Rattle.layout.proofs.Order.{failing-append, orElse-assoc}
 use Rattle.layout.specs.Answers.{joinBounded, orElse, problemRefusal, joinChecks, joinedParts}
 use Rattle.checks.specs.Order.{bounds, matricesRefusal, recordsRefusal, tablesRefusal, patternsRefusal, joinedChecks, joinedRefusal}
 
--- checks 1 to 10 of a problem: 1 to 7, then those of the route
+-- checks 1 to 10 of a problem are 1 to 7, then those of the route
 pub problem-then-route : (route : Route) (p : Problem) → refusal route p ≡ orElse (problemRefusal p) (firstFailing (routeChecks route p))
 problem-then-route route p = failing-append (problemChecks p) (routeChecks route p) tt
 
--- and those of a joining
+-- the same for a joining
 pub joined-then-route : (route : Route) (n m : ℕ) (cones : List ℕ) (count : ℕ) (words : List ℕ)
     → joinChecks route n m cones count words
     ≡ orElse (joinedRefusal n m cones count words) (cond (check10 route m (joinedParts cones count words)) 0 10)
 joined-then-route route n m cones count words =
     failing-append (joinedChecks n m cones count words) (check 10 (check10 route m (joinedParts cones count words)) ∷ []) tt
 
--- α apart from the rest of check 4: each part of it gives 4
+-- check 4 splits into the test of α and the rest, each giving 4
 alphas-apart : (p : Problem) (x : ℕ)
     → orElse (cond (check4 p) 0 4) x
     ≡ orElse (recordsRefusal (p .n) (p .m) (p .q) (p .b) (p .cones)) (orElse (cond (alphasAsMany (p .cones) (p .alphas)) 0 4) x)
@@ -59,17 +59,24 @@ in-groups p =
     ∙ sym (orElse-assoc y z last))
     ∙ sym (orElse-assoc x (orElse y z) last)
 
--- ---- two numbers, the second where the first is 0
+-- ---- two refusal numbers: the second counts where the first is 0
 
 pub first-given : (a b : ℕ) → (a ≡ 0 → ⊥) → orElse a b ≡ a
 first-given zero b h = absurd (h refl)
 first-given (suc a) b h = refl
 
+-- the first number where it is not 0, otherwise the next
+pub first-refused : (a b r : ℕ) → r ≡ a → (r ≡ 0 → ⊥) → r ≡ orElse a b
+first-refused a b r e n = e ∙ sym (first-given a b (λ z. n (e ∙ z)))
+
+pub next-given : (a b k r : ℕ) → k ≡ a → k ≡ 0 → r ≡ b → r ≡ orElse a b
+next-given a b k r e z f = f ∙ ap (λ (i : ℕ). orElse i b) (sym z ∙ e)
+
 pub both-zero : (a b : ℕ) → orElse a b ≡ 0 → (a ≡ 0) × (b ≡ 0)
 both-zero zero b e = (refl, e)
 both-zero (suc a) b e = absurd (omega arith)
 
--- the answer at each group of a problem
+-- the refusal number of a problem, at each group of checks
 pub problem-order : (p : Problem) →
     let tables = tablesRefusal (p .n) (p .m) (p .P) (p .q) (p .A) (p .b) (p .cones) in
     let alphas = alphasAsMany (p .cones) (p .alphas) in
@@ -81,14 +88,14 @@ problem-order p = order _ (alphasAsMany (p .cones) (p .alphas)) _ _ (in-groups p
         → ((a ≡ 0 → ⊥) → x ≡ a) × (a ≡ 0 → t ≡ false → x ≡ 4) × (a ≡ 0 → t ≡ true → x ≡ c)
     order a t c x e = (λ h. e ∙ first-given a _ h, λ z f. e ∙ rw (z, f), λ z f. e ∙ rw (z, f))
 
--- ---- what a test that passed says
+-- ---- what a test that passed gives
 
--- a refusal of one test
+-- a test whose number is not 0 failed
 pub refused : (b : Bool) (k : ℕ) → (cond b 0 k ≡ 0 → ⊥) → b ≡ false
 refused true k h = absurd (h refl)
 refused false k h = refl
 
--- and a test that was not refused
+-- a test whose number is 0 passed
 pub not-refused : (b : Bool) (k : ℕ) → cond b 0 (suc k) ≡ 0 → b ≡ true
 not-refused true k e = refl
 not-refused false k e = absurd (omega arith)
@@ -104,7 +111,7 @@ pub bounds-cones : (n m aEntries pEntries : ℕ) (cones : List ℕ) → bounds n
 bounds-cones n m aEntries pEntries cones e =
     and-last (leb n 65536 && leb m 65536 && leb aEntries 262144 && leb pEntries 262144) (conesBounded cones) e
 
--- what checks 1 and 4 say of rows and cones
+-- the facts that checks 1 and 4 give of rows and cones
 pub tables-passed : (n m : ℕ) (P : Csc) (q : List Float) (A : Csc) (b : List Float) (cones : List ℕ) → tablesRefusal n m P q A b cones ≡ 0
     → (m ≤ 65536) × T (conesBounded cones) × T (conesRead m cones)
 tables-passed n m P q A b cones e =

@@ -1,4 +1,4 @@
--- Checks 1 to 7 in the groups that the code makes them in.
+-- Checks 1 to 7 in the groups in which the code makes them.
 use Prim.Native.Nat.{ℕ}
 use mathlib.Core.Bool.{Bool, cond, _&&_}
 use mathlib.Core.List.{List, [], _∷_}
@@ -11,32 +11,32 @@ use Rattle.layout.specs.Patterns.{patterns}
 use Rattle.layout.specs.Checks.{conesBounded, startsRight, rowsInOrder, rowsRight, conesRead, patternsRead, treeRight, cliquesRight, Check, check, firstFailing}
 use Rattle.layout.specs.Answers.{joinBounded, orElse}
 
--- 1
+-- check 1
 abbrev pub bounds : ℕ → ℕ → ℕ → ℕ → List ℕ → Bool
 bounds n m aEntries pEntries cones = leb n 65536 && leb m 65536 && leb aEntries 262144 && leb pEntries 262144 && conesBounded cones
 
--- 2 and 3
+-- checks 2 and 3
 abbrev pub matricesRefusal : ℕ → ℕ → Csc → Csc → ℕ
 matricesRefusal n m P A =
     firstFailing (check 2 (startsRight n A && startsRight n P) ∷ check 3 (rowsInOrder m n A && rowsRight n n P) ∷ [])
 
--- 4 but for α
+-- check 4 except for α
 abbrev pub recordsRefusal : ℕ → ℕ → List Float → List Float → List ℕ → ℕ
 recordsRefusal n m q b cones = firstFailing (check 4 (conesRead m cones && eqb (length q) n && eqb (length b) m) ∷ [])
 
--- 1 to 3, and 4 but for α
+-- checks 1 to 3, and 4 except for α
 abbrev pub tablesRefusal : ℕ → ℕ → Csc → List Float → Csc → List Float → List ℕ → ℕ
 tablesRefusal n m P q A b cones =
     orElse (cond (bounds n m (length (A .values)) (length (P .values)) cones) 0 1)
     (orElse (matricesRefusal n m P A) (recordsRefusal n m q b cones))
 
--- 5, 6 and 7
+-- checks 5, 6 and 7
 abbrev pub patternsRefusal : List ℕ → ℕ → List ℕ → ℕ
 patternsRefusal cones count words =
     let ps = patterns count words in
     firstFailing (check 5 (patternsRead cones count words) ∷ check 6 (all treeRight ps) ∷ check 7 (all cliquesRight ps) ∷ [])
 
--- those of a joining, which lacks the inputs of 2 and 3 and, of 4, all but the records and m
+-- the checks of a joining, which has no inputs for 2 and 3 and, for 4, only the records and m
 abbrev pub joinedChecks : ℕ → ℕ → List ℕ → ℕ → List ℕ → List Check
 joinedChecks n m cones count words =
     let ps = patterns count words in

@@ -1,4 +1,4 @@
-// Checks 1 to 7 in document 01's order: of a whole problem, and of what a joining is given.
+// Checks 1 to 7 in document 01's order, for a whole problem and for the inputs of a joining.
 ghost use mathlib.Core.Path.{_≡_};
 ghost use mathlib.Core.Bool.{true, false, _&&_};
 ghost use Prim.Native.Nat.{_≤_, _<_};
@@ -15,7 +15,7 @@ ghost use Rattle.checks.specs.Order.{bounds, matricesRefusal, recordsRef
 use constants::limit;
 use constants::refusal;
 
-// Check 1 of a joining: n, m and the cones.
+// Makes check 1 for a joining: bounds on `n`, `m` and the cones.
 pub fn join_bounded(n: u32, m: u32, cones: &[u32]) -> bool
     ensures { λ r. ⌜ r ≡ joinBounded n m (now (cones .entry)) ⌝ }
 {
@@ -28,7 +28,7 @@ pub fn join_bounded(n: u32, m: u32, cones: &[u32]) -> bool
     supportedcone::cones_bounded(cones)
 }
 
-// Check 1 of a problem.
+// Makes check 1 for a problem.
 pub fn bounded(n: u32, m: u32, a_entries: usize, p_entries: usize, cones: &[u32]) -> bool
     ensures { λ r. ⌜ r ≡ bounds n m «a_entries» «p_entries» (now (cones .entry)) ⌝ }
 {
@@ -41,7 +41,7 @@ pub fn bounded(n: u32, m: u32, a_entries: usize, p_entries: usize, cones: &[u32]
     join_bounded(n, m, cones)
 }
 
-// Checks 2 and 3. Only A may repeat a row in a column.
+// Makes checks 2 and 3 on A and P; only A may repeat a row in a column. Returns 2, 3 or 0.
 pub fn check_matrices(
     n: u32,
     m: u32,
@@ -69,7 +69,7 @@ pub fn check_matrices(
     refusal::DONE
 }
 
-// Check 4 but for α: records and rows, and how many values q and b have.
+// Makes check 4 except for α: the cone records, their rows, and the lengths of q and b. Returns 4 or 0.
 pub fn check_records(n: u32, m: u32, q_count: usize, b_count: usize, cones: &[u32]) -> u32
     requires { ⌜ conesBounded (now cones) ≡ true ⌝ }
     ensures { λ r. ⌜ r ≡ recordsRefusal n m (unvalued «q_count») (unvalued «b_count») (now (cones .entry)) ⌝ }
@@ -86,8 +86,8 @@ pub fn check_records(n: u32, m: u32, q_count: usize, b_count: usize, cones: &[u3
     refusal::DONE
 }
 
-// Checks 1 to 3, and 4 but for α, of a problem whose float tables have these lengths: the number of the first that fails, or 0. They
-// look at no value.
+// Makes checks 1 to 3, and check 4 except for α, on a problem whose float tables have these lengths; no check depends on a float's value.
+// Returns the number of the first check that fails, or 0.
 fn check_tables(
     n: u32,
     m: u32,
@@ -122,7 +122,7 @@ fn check_tables(
     check_records(n, m, q_count, b_count, cones)
 }
 
-// Checks 5, 6 and 7 in order, where one of them fails: it is the last where the others pass.
+// Finds which of checks 5, 6 and 7 is the first to fail, where at least one fails: if 5 and 6 pass, it is 7. Returns its number.
 fn refuse_patterns(cones: &[u32], count: u32, words: &[u32]) -> u32
     requires { ⌜ (patternsRead (now cones) count (now words) && all treeRight (patterns count (now words)) && all cliquesRight (patterns count (now words))) ≡ false ⌝ }
     ensures { λ r. ⌜ (r ≡ patternsRefusal (now (cones .entry)) count (now (words .entry))) × (0 < r) ⌝ }
@@ -136,7 +136,7 @@ fn refuse_patterns(cones: &[u32], count: u32, words: &[u32]) -> u32
     refusal::CLIQUES
 }
 
-// The number of the first check that fails, or 0 and how many rows and overlaps the blocks have.
+// The number of the first check that fails, or 0; where it is 0, also the number of block rows and of overlaps.
 pub struct Joined {
     pub refusal: u32,
     pub rows: u64,
@@ -153,8 +153,8 @@ fn refused_as(refusal: u32) -> Joined
     }
 }
 
-// Checks 5, 6 and 7 after 1 and 4: one walk decides whether they pass, and counts; where they do not, the first two in order find
-// the number.
+// Makes checks 5, 6 and 7 once 1 and 4 have passed: a single pass over the patterns decides whether they hold and counts rows and overlaps.
+// Where they do not hold, checks 5 and 6 are made again in order to find the number.
 fn count_patterns(m: u32, cones: &[u32], count: u32, words: &[u32]) -> Joined
     requires { ⌜ (m ≤ 65536) × T (conesBounded (now cones)) × T (conesRead m (now cones)) ⌝ }
     ensures { λ r. ⌜ r .refusal ≡ patternsRefusal (now (cones .entry)) count (now (words .entry)) ⌝ }
@@ -171,7 +171,7 @@ fn count_patterns(m: u32, cones: &[u32], count: u32, words: &[u32]) -> Joined
     refused_as(refuse_patterns(cones, count, words))
 }
 
-// Checks 1 to 7 of a problem whose float tables have these lengths: the number of the first that fails, or 0.
+// Makes checks 1 to 7 on a problem whose float tables have these lengths. Returns the number of the first check that fails, or 0.
 pub fn check_lengths(
     n: u32,
     m: u32,
@@ -215,7 +215,7 @@ pub fn check_lengths(
     patterns.refusal
 }
 
-// Checks 1 to 7: the number of the first that fails, or 0. Each α is read at its place, as the cone that takes it is.
+// Makes checks 1 to 7 on a problem, where each cone is read with its own values of α. Returns the number of the first check that fails, or 0.
 pub fn check_problem(
     n: u32,
     m: u32,
@@ -259,7 +259,7 @@ pub fn check_problem(
     patterns.refusal
 }
 
-// What a joining is given: checks 1, 4, 5, 6 and 7.
+// Makes checks 1, 4, 5, 6 and 7 on the inputs of a joining. Returns the number of the first check that fails, or 0 with the counts.
 pub fn check_joined(n: u32, m: u32, cones: &[u32], count: u32, words: &[u32]) -> Joined
     ensures { λ r. ⌜ r .refusal ≡ joinedRefusal n m (now (cones .entry)) count (now (words .entry)) ⌝ }
     ensures { λ r. ⌜ (r .refusal ≡ 0 → (r .rows ≡ blockRowCount (joinedParts (now (cones .entry)) count (now (words .entry)))) × (r .overlaps ≡ overlapCount (joinedParts (now (cones .entry)) count (now (words .entry))))) ⌝ }

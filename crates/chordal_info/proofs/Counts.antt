@@ -1,21 +1,21 @@
--- The counts of a problem's blocks: no more overlaps than rows, and no more cones than rows beside the original ones.
+-- Bounds on the counts of a problem's blocks: no more overlaps than block rows, and no more new cones than block rows plus original cones.
 use Prim.Native.Nat.{ℕ, suc, _+_, _≤_, _<_}
 use native.Mathlib.Omega.{arith}
-use mathlib.Core.Path.{_≡_, refl, sym, ap, subst}
+use mathlib.Core.Path.{_≡_, sym, subst}
 use mathlib.Core.List.{List, [], _∷_, map}
 use lib.ListN.{length, getD}
 use lib.Dec.{T, leb}
 use Rattle.layout.specs.Lists.{all, sum}
 use Rattle.layout.specs.Triangle.{triangle}
 use Rattle.layout.specs.Problem.{Problem, Route}
-use Rattle.layout.specs.Cones.{Cone, records, rowCount}
-use Rattle.layout.specs.Patterns.{Pattern, Clique, blockSize, noClique, patterns}
-use Rattle.layout.specs.Blocks.{Part, whole, cut, partsFrom, parts, partRows, partOverlaps, blockRowCount, overlapCount, coneCount}
+use Rattle.layout.specs.Cones.{records, rowCount}
+use Rattle.layout.specs.Patterns.{Clique, blockSize, noClique, patterns}
+use Rattle.layout.specs.Blocks.{Part, whole, cut, parts, partRows, partOverlaps, blockRowCount, overlapCount, coneCount}
 use Rattle.layout.specs.Checks.{Sound, sizesBounded, layout, checks, refusal, Laid}
 use Rattle.layout.proofs.Tests.{and-iff, leb-iff}
 use Rattle.layout.proofs.Triangles.{triangle-mono}
 use Rattle.layout.proofs.Tree.{cliques-right}
-use Rattle.layout.proofs.Laid.{sound-laid}
+use Rattle.layout.proofs.Laid.{sound-laid, parts-count}
 use Rattle.layout.proofs.Order.{passed}
 use Rattle.layout.proofs.Accepted.{accepted-checked}
 use Rattle.chordal_info.specs.Sizes.{entriesKept, Fitting}
@@ -37,7 +37,7 @@ overlaps-few (x ∷ ps) = omega (arith, part-overlaps x, overlaps-few ps)
 
 -- ---- cones
 
--- a block has a row
+-- there are no more cliques than block rows, as each block has at least one row
 clique-rows : (cs : List Clique) → ((c : ℕ) → c < length cs → ¬ (length (getD cs c noClique .snode) ≡ 0))
     → length cs ≤ sum (map (λ c. triangle (blockSize c)) cs)
 clique-rows [] h = omega arith
@@ -50,11 +50,6 @@ cones-few row (whole i c r ∷ ps) h = omega (arith, cones-few (row + rowCount c
 cones-few row (cut i r k p ∷ ps) h =
     omega (arith, clique-rows (p .cliques) (cliques-right p (h .1 .cliques) .nonempty), cones-few (row + triangle (p .vertexCount)) ps (h .2))
 
--- a part for each cone
-parts-count : (i row k : ℕ) (cs : List Cone) (ps : List Pattern) → length (partsFrom i row k cs ps) ≡ length cs
-parts-count i row k [] ps = refl
-parts-count i row k (c ∷ cs) ps = ap suc (parts-count (suc i) (row + rowCount c) _ cs _)
-
 pub sound-cones : {m : ℕ} {cones : List ℕ} {count : ℕ} {words : List ℕ} → Sound m cones count words
     → let ps = parts (records cones) (patterns count words) in coneCount ps ≤ 1024 + blockRowCount ps
 sound-cones {m} {cones} {count} {words} h =
@@ -66,7 +61,7 @@ sound-cones {m} {cones} {count} {words} h =
       leb-iff (length (records cones)) 1024 .0 (and-iff (leb (length (records cones)) 1024) (all sizesBounded (records cones)) .0 (h .bounded) .0),
     )
 
--- ---- the counts of a problem that the route accepts fit
+-- ---- the counts of an accepted problem are within their bounds
 
 pub accepted-fitting : (route : Route) (p : Problem) → refusal route p ≡ 0
     → let ps = layout p in

@@ -1,4 +1,4 @@
--- Checks 9 and 10 in order, by a route's number.
+-- Checks 9 and 10 in order, for a route given by its number.
 use Prim.Native.Nat.{ℕ, zero, suc}
 use mathlib.Core.Path.{_≡_, refl, ap}
 use mathlib.Core.Bool.{Bool, true, false, cond}
@@ -13,7 +13,7 @@ use Rattle.chordal_info.specs.Sizes.{rowsFit}
 use Rattle.chordal_info.specs.Routes.{entriesCheck, Counted}
 use Rattle.chordal_info.proofs.Sizes.{rows-fit}
 
--- ---- the first that fails, whatever check 10 is
+-- ---- the first failing one of checks 9 and 10
 
 abbrev inOrder : Bool → Bool → ℕ
 inOrder entries rows = firstFailing (check 9 entries ∷ check 10 rows ∷ [])
@@ -24,7 +24,7 @@ entries-fail entries rows e = rw e
 pub entries-pass : (entries rows : Bool) → entries ≡ true → inOrder entries rows ≡ cond rows 0 10
 entries-pass entries rows e = rw e
 
--- ---- check 9 by the route's number
+-- ---- check 9 for a route number
 
 module _ (r m : ℕ) (rows : List ℕ) (b : List Float) (ps : List Part) where
   pub entries-standard : r ≡ 0 → entriesCheck (routeOf r) m rows b ps ≡ true
@@ -35,7 +35,7 @@ pub entries-compact : (r m : ℕ) (rows : List ℕ) (b : List Float) (ps : List 
 entries-compact zero m rows b ps h = absurd (h refl)
 entries-compact (suc r) m rows b ps h = refl
 
--- ---- check 10 from the counts
+-- ---- check 10 from the counted rows and overlaps
 
 module _ (route : Route) (m : ℕ) (ps : List Part) (rows overlaps : ℕ) (h : Counted ps rows overlaps) where
   counted-fit : rowsFit route m rows overlaps ≡ check10 route m ps
@@ -44,7 +44,7 @@ module _ (route : Route) (m : ℕ) (ps : List Part) (rows overlaps : ℕ) (h : C
   pub counted-rows : let tenth : Bool → ℕ = λ t. cond t 0 10 in tenth (rowsFit route m rows overlaps) ≡ tenth (check10 route m ps)
   counted-rows = let tenth : Bool → ℕ = λ t. cond t 0 10 in ap tenth counted-fit
 
--- check 9 of a problem, from what it reads of it
+-- check 9 of a problem depends only on m, the rows of A's entries, b and the parts
 pub entries-check : (route : Route) (p : Problem) → check9 route p ≡ entriesCheck route (p .m) (p .A .rows) (p .b) (layout p)
 entries-check standard p = refl
 entries-check compact p = refl

@@ -1,4 +1,4 @@
--- Check 10 and the sizes from counts, for a route's number and for a problem that the route accepts.
+-- Check 10 and the output sizes from counts, for a route number and for a problem that the route accepts.
 use Prim.Native.Nat.{ℕ, suc, _+_, _*_, _≤_, _<_}
 use native.Mathlib.Nat.{le-of-eq}
 use native.Mathlib.Numerals.{add-one}
@@ -37,14 +37,14 @@ route-sizes compact p ok =
     compact-sizes p ok
     ∙ ap (λ (a : ℕ). compactSizes (p .n) (length (p .P .values)) a (length (p .alphas)) (layout p)) (sums-count (p .n) (p .A) (right-A compact p ok))
 
--- no more than A has
+-- the entries of A that a route keeps are at most 262144
 pub entries-few : (route : Route) (p : Problem) → refusal route p ≡ 0 → entriesKept route (p .n) (p .A .starts) (p .A .rows) ≤ 262144
 entries-few standard p ok = omega (arith, right-A standard p ok .even, accepted-checked standard p ok .fewEntriesA)
 entries-few compact p ok =
     let right = right-A compact p ok in
     omega (arith, count-few (p .A .starts) (p .A .rows) (le-of-eq (sym (right .count)), λ c l. (right .rise c l, right .inside (suc c) l)) (p .n) (omega arith) .1, right .even, accepted-checked compact p ok .fewEntriesA)
 
--- ---- what the bounds say
+-- ---- bounds from check 10
 
 pub rows-few : (route : Route) (m rows overlaps : ℕ) → T (rowsFit route m rows overlaps) → rows ≤ 262144
 rows-few standard m rows overlaps h = omega (arith, leb-iff (m + rows) 262144 .0 h)
@@ -54,7 +54,7 @@ pub rows-many : (route : Route) (m rows overlaps : ℕ) → 262144 < rows → ro
 rows-many standard m rows overlaps h = lt-leb (m + rows) 262144 (omega arith)
 rows-many compact m rows overlaps h = rw (lt-leb rows 262144 h)
 
--- ---- the lengths as they are computed
+-- ---- the lengths as the code computes them
 
 module _ (n m p a α rows overlaps cones : ℕ) {added b coneWords mapWords : ℕ} where
   pub lengths-standard : {route : Route} → route ≡ standard → added ≡ rows → b ≡ rows + m → coneWords ≡ 3 * cones + 3 → mapWords ≡ 0

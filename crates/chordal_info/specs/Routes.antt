@@ -13,10 +13,10 @@ abbrev pub entriesCheck : Route → ℕ → List ℕ → List Float → List Par
 entriesCheck standard m rows b ps = true
 entriesCheck compact m rows b ps = entriesRight m rows b ps
 
--- layout's `routeChecks`, by what they read: m, the rows of A's entries, b, the parts
+-- the same checks as layout's `routeChecks`, in terms of what they read: m, the rows of A's entries, b and the parts
 abbrev pub routeTests : Route → ℕ → List ℕ → List Float → List Part → List Check
 routeTests route m rows b ps = check 9 (entriesCheck route m rows b ps) ∷ check 10 (check10 route m ps) ∷ []
 
--- how many rows the blocks have, and how many of them are overlaps
+-- rows and overlaps are the numbers of block rows and of overlaps among them
 abbrev pub Counted : List Part → ℕ → ℕ → Type 0
 Counted ps rows overlaps = (rows ≡ blockRowCount ps) × (overlaps ≡ overlapCount ps)

@@ -23,7 +23,7 @@ use csc::copy_numbers;
 
 // ---- check 10
 
-// From how many rows and overlaps the blocks have.
+// Returns whether check 10 passes, given the blocks' `rows` and `overlaps`.
 pub fn rows_right(route: u32, m: u32, rows: u64, overlaps: u64) -> bool
     ensures { λ r. ⌜ r ≡ rowsFit (routeOf route) m rows overlaps ⌝ }
 {
@@ -38,7 +38,7 @@ pub fn rows_right(route: u32, m: u32, rows: u64, overlaps: u64) -> bool
 
 // ---- the route's checks in order
 
-// Check 10 alone, which is all that a route adds to a joining's checks: 0 or 10.
+// Makes check 10 alone, the only one that a joining's route adds to its checks. Returns 0 or 10.
 pub fn rows_refusal(route: u32, m: u32, rows: u64, overlaps: u64) -> u32
     ensures { λ r. ⌜ r ≡ cond (rowsFit (routeOf route) m rows overlaps) 0 10 ⌝ }
 {
@@ -48,7 +48,7 @@ pub fn rows_refusal(route: u32, m: u32, rows: u64, overlaps: u64) -> u32
     refusal::TOO_LARGE
 }
 
-// Checks 9 and 10 of a whole problem whose blocks' rows and overlaps are counted: the number of the first that fails.
+// Makes checks 9 and 10 of a whole problem, given its blocks' `rows` and `overlaps`. Returns the number of the first that fails, or 0.
 pub fn check_route(
     route: u32,
     m: u32,
@@ -76,7 +76,7 @@ pub fn check_route(
 
 // ---- the sizes
 
-// How many entries of A, which has n columns, a route keeps: each run is one on the compact route.
+// Counts the entries that a route keeps of an A with `n` columns: the compact route merges each run of repeated rows into one entry.
 pub fn count_entries(route: u32, n: u32, starts: &[u32], rows: &[u32]) -> u32
     requires { ⌜ ColumnsInside n (now starts) (now rows) × (length (now rows) ≤ 262144) ⌝ }
     ensures { λ r. ⌜ r ≡ entriesKept (routeOf route) n (now (starts .entry)) (now (rows .entry)) ⌝ }
@@ -91,7 +91,7 @@ const RECORD_WORDS: u32 = record::WORDS as u32;
 
 const ENTRY_WORDS: u32 = entry::WORDS as u32;
 
-// The length of each output of the cut, from the counts of parts' `get_decomposed_dim_and_overlaps`.
+// Writes the length of each of the cut's outputs to `out`, from the counts that `parts::get_decomposed_dim_and_overlaps` gives.
 pub fn write_sizes(
     route: u32,
     n: u32,

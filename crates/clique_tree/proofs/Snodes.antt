@@ -1,4 +1,4 @@
--- Snodes, one after the other.
+-- Concatenated snodes.
 use Prim.Native.Nat.{ℕ, _+_, _-_, _≤_, _<_}
 use native.Mathlib.Omega.{arith}
 use mathlib.Core.Bool.{Bool, true, false, not, _&&_}
@@ -19,13 +19,13 @@ use Rattle.supernode_tree.specs.declared.CliqueRead.the-variants.{Clique as Fou
 use Rattle.supernode_tree.proofs.Cliques.{whole-next, from-next, from-none, snode-size}
 use Rattle.clique_tree.specs.Trees.{snodesOf, fills, snodesFill, snodesOk}
 
--- a repeat in the front is a repeat
+-- a duplicate in a prefix is a duplicate in the whole list
 pub repeats-front : (p : ℕ → Bool) (xs ys : List ℕ) → distinct (keep p xs) ≡ false → distinct (keep p (xs ++ ys)) ≡ false
 repeats-front p xs ys e = failed _ (λ d. fails _ e (distinct-append (keep p xs) (keep p ys) .0 (subst (λ (l : List ℕ). T (distinct l)) (keep-append p xs ys) d) .0))
 
--- ---- snodes counted, none of them empty, and their numbers below n
+-- ---- counting snode members, with no snode empty and all members below n
 
--- so many cliques are left
+-- the loop's state where `left` cliques are left, from offset `at`
 pub record Counting (n : ℕ) (ws : List ℕ) (first count total at left : ℕ) : Type 0 where
   pub stand : Whole ws at left
   pub full : all (fills n) (cliquesFrom ws first count) ≡ all (fills n) (cliquesFrom ws at left)
@@ -74,7 +74,7 @@ module _ (n : ℕ) (ws : List ℕ) (first count total at left : ℕ) (k : Counti
       let same : total ≡ length (snodesOf (cliquesFrom ws first count)) = omega (arith, k .sum, ap (λ (cs : List Clique). length (snodesOf cs)) none) in
       ap (λ (m : ℕ). eqb m n) same ∙ sym (and-true _ _ (k .full ∙ ap (all (fills n)) none))
 
--- ---- and what is left to test of them
+-- ---- what is left to test then
 
 all-snodes : (p : ℕ → Bool) (cs : List Clique) → all p (snodesOf cs) ≡ all (λ (c : Clique). all p (c .snode)) cs
 all-snodes p [] = refl
@@ -86,7 +86,7 @@ module _ (n : ℕ) (cs : List Clique) where
       all-both (λ (c : Clique). not (eqb (length (c .snode)) 0)) (λ (c : Clique). all (λ x. ltb x n) (c .snode)) cs
       ∙ ap (λ (b : Bool). all (λ c. not (eqb (length (c .snode)) 0)) cs && b) (sym (all-snodes (λ x. ltb x n) cs))
 
-  -- by the tests that both make
+  -- both forms of the test agree
   tests : (f : Bool) (m : ℕ) (below : ℕ → Bool) (d : Bool)
       → ((f && below n && eqb m n) ≡ false → (f && eqb m n && (below m && d)) ≡ false)
       × ((f && below n && eqb m n) ≡ true → (m ≡ n) × (below n ≡ true) × (d ≡ (f && eqb m n && (below m && d))))

@@ -1,4 +1,4 @@
--- Check 6 as a walk over a pattern's cliques.
+-- Check 6, clique by clique.
 use Prim.Native.Nat.{ℕ, zero, suc, _+_}
 use native.Mathlib.Omega.{arith}
 use mathlib.Core.Bool.{Bool, true, false, not, _&&_}
@@ -13,14 +13,14 @@ use Rattle.layout.specs.Lists.{all, upFrom}
 use Rattle.layout.specs.Patterns.{Read, read, short, andThen, Head, readHead, withCliques, readClique, readCliques, Clique, Pattern, noClique, noPattern}
 use Rattle.layout.specs.Checks.{parentRight, treeRight, cliquesRight}
 use Rattle.supernode_tree.proofs.Many.{many-length}
-use Rattle.supernode_tree.specs.Reads.{whole, valueOr, patternAt}
+use Rattle.supernode_tree.specs.Reads.{isWhole, valueOr, patternAt}
 use Rattle.clique_tree.specs.Trees.{cliqueOk, treeFrom, snodesOk, separatorOk, separatorsOk, separatorsBelow}
 use Rattle.layout.proofs.Tests.{and-iff, and-true, and-right, lt-or-le, passed, passes, failed, differ}
 use Rattle.layout.proofs.Members.{all-at, all-has}
 use Rattle.layout.proofs.Walks.{all-both}
 use Rattle.layout.proofs.Tree.{in-vertex, in-iff}
 
--- of cliques that are read
+-- check 6 for cliques read from words; false if the words end early
 abbrev pub treeRead : ℕ → ℕ → Read (List Clique) → Bool
 treeRead k c (read cs left) = treeFrom k c cs
 treeRead k c short = false
@@ -42,11 +42,11 @@ tree-start ws at h rest e = rw e (go (readCliques (h .cliqueCount) rest) refl)
         ≡ (not (eqb (h .cliqueCount) 0) && treeRead (h .cliqueCount) 0 r)
     go (read cs left) q =
         let m : length cs ≡ h .cliqueCount =
-        sym (ap (λ (r : Read (List Clique)). length (valueOr [] r)) q) ∙ many-length readClique (h .cliqueCount) rest (ap whole q) in
+        sym (ap (λ (r : Read (List Clique)). length (valueOr [] r)) q) ∙ many-length readClique (h .cliqueCount) rest (ap isWhole q) in
         tree-right (withCliques h cs) ∙ ap (λ (k : ℕ). not (eqb k 0) && treeFrom k 0 cs) m
     go short q = sym (and-right (not (eqb (h .cliqueCount) 0)) false refl)
 
--- all cliques passed: there is one
+-- where all cliques passed, only their count is left to test: it must not be 0
 pub tree-done : (k : ℕ) (b : Bool) → b ≡ true → ltb 0 k ≡ (not (eqb k 0) && b)
 tree-done k b e = elim (lt-or-le 0 k) [
   | inl h ↦ rw (e, lt-ltb 0 k h, ne-eqb k 0 (λ q. omega arith))
@@ -61,7 +61,7 @@ tree-step k c j ws rest q e = rw e (go (readCliques j rest))
     go (read cs left) = refl
     go short = sym (and-right (cliqueOk k c q) false refl)
 
--- ---- separators below the vertex count
+-- ---- separator members below the vertex count
 
 pub below-right : (n : ℕ) (cs : List Clique) → separatorsBelow n cs ≡ true → separatorsOk cs ≡ true
 below-right n cs h = second (all (λ (c : Clique). all (λ x. ltb x n) (c .separator)) cs) (separatorsOk cs)
@@ -70,7 +70,7 @@ below-right n cs h = second (all (λ (c : Clique). all (λ x. ltb x n) (c .separ
     second : (a b : Bool) → (a && b) ≡ true → b ≡ true
     second a b e = passed b (and-iff a b .0 (passes (a && b) e) .1)
 
--- in a pattern that passes check 6, and whose snodes are right, separators that are right have no other members
+-- in a pattern that passes check 6 and has right snodes, members of right separators are below the vertex count
 pub separators-below : (p : Pattern) → treeRight p ≡ true → snodesOk (p .vertexCount) (p .cliques) ≡ true
     → separatorsBelow (p .vertexCount) (p .cliques) ≡ separatorsOk (p .cliques)
 separators-below p tree snodes = same (separatorsBelow n cs) (separatorsOk cs) (below-right n cs) back

@@ -9,7 +9,7 @@ use Rattle.layout.specs.Lists.{all, join}
 use Rattle.layout.specs.Checks.{isPermutation}
 use Rattle.vertex_set.specs.OnceIn.{onceIn, onceBelowIn}
 
--- clique c of k, with its parent and the count of its separator
+-- check 6 for clique c of k, given its parent and the size of its separator
 abbrev pub parentOk : ℕ → ℕ → ℕ → ℕ → Bool
 parentOk k c parent separators =
     cond (eqb (suc c) k) (eqb parent noParent && eqb separators 0) (ltb c parent && ltb parent k)
@@ -17,12 +17,12 @@ parentOk k c parent separators =
 abbrev pub cliqueOk : ℕ → ℕ → Clique → Bool
 cliqueOk k c q = parentOk k c (q .parent) (length (q .separator))
 
--- cliques of k, from number c on
+-- check 6 for consecutive cliques, the first numbered c, out of k
 abbrev pub treeFrom : ℕ → ℕ → List Clique → Bool
 treeFrom k c [] = true
 treeFrom k c (q ∷ qs) = cliqueOk k c q && treeFrom k (suc c) qs
 
--- a separator among cliques cs: no repeat, and its parent's clique holds each member
+-- whether a separator is duplicate-free and its parent's clique, in cs, contains each member
 abbrev pub separatorOk : List Clique → ℕ → List ℕ → Bool
 separatorOk cs parent us = onceIn (members (getD cs parent noClique)) us
 
@@ -36,18 +36,18 @@ separatorBelow n cs parent us = onceBelowIn n (members (getD cs parent noClique)
 abbrev pub separatorsBelow : ℕ → List Clique → Bool
 separatorsBelow n cs = all (λ c. separatorBelow n cs (c .parent) (c .separator)) cs
 
--- the snodes' numbers, one after the other
+-- the members of all snodes, concatenated
 abbrev pub snodesOf : List Clique → List ℕ
 snodesOf cs = join (λ c. c .snode) cs
 
--- a snode is not empty, and its numbers are below n
+-- whether a snode is nonempty and its members are below n
 abbrev pub fills : ℕ → Clique → Bool
 fills n c = not (eqb (length (c .snode)) 0) && all (λ x. ltb x n) (c .snode)
 
--- each is so, and together they are n
+-- whether each snode is so, and they have n members in all
 abbrev pub snodesFill : ℕ → List Clique → Bool
 snodesFill n cs = all (fills n) cs && eqb (length (snodesOf cs)) n
 
--- none is empty, and together they hold each number below n once
+-- whether no snode is empty and together they hold each number below n exactly once
 abbrev pub snodesOk : ℕ → List Clique → Bool
 snodesOk n cs = all (λ c. not (eqb (length (c .snode)) 0)) cs && eqb (length (snodesOf cs)) n && isPermutation (snodesOf cs)

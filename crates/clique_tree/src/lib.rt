@@ -1,4 +1,4 @@
-// Checks 6 and 7: a pattern's cliques are a clique tree over its vertices.
+// Checks 6 and 7: the cliques of a pattern form a clique tree over its vertices.
 ghost use mathlib.Core.Path.{_≡_};
 ghost use Prim.Native.Nat.{_-_, _*_, _≤_, _<_};
 ghost use mathlib.Core.Bool.{true};
@@ -7,7 +7,7 @@ ghost use Rattle.layout.specs.Lists.{all, distinct, keep};
 ghost use Rattle.layout.specs.Checks.{treeRight, cliquesRight};
 ghost use Rattle.layout.specs.Patterns.{readPattern, readPatterns, patterns, endsRight};
 ghost use Rattle.utils.specs.Windows.{within};
-ghost use Rattle.supernode_tree.specs.Reads.{patternAt, whole, Whole, cliquesFrom};
+ghost use Rattle.supernode_tree.specs.Reads.{patternAt, isWhole, Whole, cliquesFrom};
 ghost use Rattle.supernode_tree.specs.Offsets.{OffsetsEvery};
 ghost use Rattle.vertex_set.specs.OnceIn.{onceBelowIn};
 ghost use Rattle.clique_tree.specs.Trees.{parentOk, snodesOf, snodesFill, snodesOk, separatorsBelow};
@@ -17,7 +17,7 @@ use supernode_tree::Pattern;
 
 // ---- check 6
 
-// The c-th of count cliques has a later parent, or is the last and has neither parent nor separator.
+// Checks that clique number `c` of `count` has a later parent or, if it is the last, neither parent nor separator.
 pub fn parent_right(q: Clique, c: u32, count: u32) -> bool
     requires { ⌜ c < count ⌝ }
     ensures { λ r. ⌜ r ≡ parentOk count c (q .parent) (q .«separator_count») ⌝ }
@@ -28,9 +28,9 @@ pub fn parent_right(q: Clique, c: u32, count: u32) -> bool
     c < q.parent && q.parent < count
 }
 
-// Check 6 of the pattern that stands at an offset.
+// Makes check 6 on the pattern whose words start at offset `at`: at least one clique, and the parent of each is right.
 pub fn tree_right(words: &[u32], at: usize) -> bool
-    requires { ⌜ whole (readPattern (drop at (now words))) ≡ true ⌝ }
+    requires { ⌜ isWhole (readPattern (drop at (now words))) ≡ true ⌝ }
     ensures { λ r. ⌜ r ≡ treeRight (patternAt (now (words .entry)) at) ⌝ }
 {
     let p = Pattern::here(words, at);
@@ -48,7 +48,7 @@ pub fn tree_right(words: &[u32], at: usize) -> bool
     0 < count
 }
 
-// Check 6.
+// Makes check 6 on all `count` patterns.
 pub fn trees_right(count: u32, words: &[u32]) -> bool
     requires { ⌜ endsRight (readPatterns count (now words)) ≡ true ⌝ }
     ensures { λ r. ⌜ r ≡ all treeRight (patterns count (now (words .entry))) ⌝ }
@@ -67,7 +67,8 @@ pub fn trees_right(count: u32, words: &[u32]) -> bool
 
 // ---- check 7: snodes
 
-// No snode is empty, each of their numbers is below n, and together they are n.
+// Checks that no snode of the `count` cliques from offset `first` is empty, that all snode members are below `n`, and that there are `n`
+// members in all.
 fn snodes_fill(words: &[u32], first: usize, count: u32, n: usize) -> bool
     requires { ⌜ Whole (now words) first count ⌝ }
     ensures { λ r. ⌜ r ≡ snodesFill n (cliquesFrom (now (words .entry)) first count) ⌝ }
@@ -92,7 +93,7 @@ fn snodes_fill(words: &[u32], first: usize, count: u32, n: usize) -> bool
     total == n
 }
 
-// No number of the window stands twice in the snodes.
+// Checks that the snodes hold no number twice, among the numbers from `low` to `low + marks.len() - 1` (a window). `marks` is overwritten.
 fn snodes_once_within(
     words: &[u32],
     first: usize,
@@ -119,7 +120,8 @@ fn snodes_once_within(
     true
 }
 
-// No snode is empty, and together they hold each number below n once, looked for window by window.
+// Checks that no snode is empty and that the snodes together hold each number below `n` exactly once. Marks one window of `marks.len()`
+// numbers at a time.
 fn snodes_right(words: &[u32], first: usize, count: u32, n: usize, marks: &mut [bool]) -> bool
     requires { ⌜ Whole (now words) first count ⌝ }
     requires { ⌜ 0 < length (now marks) ⌝ }
@@ -142,7 +144,7 @@ fn snodes_right(words: &[u32], first: usize, count: u32, n: usize, marks: &mut [
 
 // ---- check 7: separators
 
-// A separator, which stands from a to e, repeats no member, each is below n, and its parent's clique, from b to f, holds it.
+// Checks that the separator in `words[a..e]` is duplicate-free, with members below `n` that are all in its parent's clique, `words[b..f]`.
 pub fn separator_right(
     words: &[u32],
     a: usize,
@@ -160,7 +162,7 @@ pub fn separator_right(
     vertex_set::once_in(&words[a..e], &words[b..f], n, marks)
 }
 
-// Each separator, with the offset of every step-th clique to find the parents from.
+// Checks the separator of each clique. `offsets` holds the offset of every `step`-th clique, from which parents are found.
 fn separators_by(
     words: &[u32],
     first: usize,
@@ -190,7 +192,8 @@ fn separators_by(
     true
 }
 
-// Each separator. The table of offsets that finds the parents is filled here, as close as it has room for.
+// Checks the separator of each clique. Fills `offsets` with the offset of every `step`-th clique, with `step` large enough for them to fit,
+// so that parents are found fast.
 fn separators_right(
     words: &[u32],
     first: usize,
@@ -210,10 +213,10 @@ fn separators_right(
 
 // ---- check 7
 
-// Check 7 of the pattern that stands at an offset and passes check 6, with lent tables. Its parents come later, so that a member of a
-// separator is in a later snode, and below the vertex count.
+// Makes check 7 on the pattern at offset `at`, which passes check 6, with scratch buffers `marks` and `offsets`. By check 6 parents come
+// later, so each separator member is in a later snode and below the vertex count.
 fn cliques_right_by(words: &[u32], at: usize, marks: &mut [bool], offsets: &mut [usize]) -> bool
-    requires { ⌜ (whole (readPattern (drop at (now words))) ≡ true) × (treeRight (patternAt (now words) at) ≡ true) ⌝ }
+    requires { ⌜ (isWhole (readPattern (drop at (now words))) ≡ true) × (treeRight (patternAt (now words) at) ≡ true) ⌝ }
     requires { ⌜ (0 < length (now marks)) × (256 ≤ length (now offsets)) ⌝ }
     ensures { λ r. ⌜ r ≡ cliquesRight (patternAt (now (words .entry)) at) ⌝ }
 {
@@ -237,9 +240,9 @@ fn cliques_right_by(words: &[u32], at: usize, marks: &mut [bool], offsets: &mut 
     )
 }
 
-// The same, in little stack: 256 vertices are one window.
+// Makes check 7 with small buffers on the stack: up to 256 vertices take one window.
 fn few_cliques_right(words: &[u32], at: usize) -> bool
-    requires { ⌜ (whole (readPattern (drop at (now words))) ≡ true) × (treeRight (patternAt (now words) at) ≡ true) ⌝ }
+    requires { ⌜ (isWhole (readPattern (drop at (now words))) ≡ true) × (treeRight (patternAt (now words) at) ≡ true) ⌝ }
     ensures { λ r. ⌜ r ≡ cliquesRight (patternAt (now (words .entry)) at) ⌝ }
 {
     let mut marks = [false; scratch::VERTICES];
@@ -251,9 +254,9 @@ const MANY_MARKS: usize = 65536;
 
 const MANY_OFFSETS: usize = 4096;
 
-// The same, with tables for many vertices.
+// Makes check 7 with buffers for many vertices.
 fn many_cliques_right(words: &[u32], at: usize) -> bool
-    requires { ⌜ (whole (readPattern (drop at (now words))) ≡ true) × (treeRight (patternAt (now words) at) ≡ true) ⌝ }
+    requires { ⌜ (isWhole (readPattern (drop at (now words))) ≡ true) × (treeRight (patternAt (now words) at) ≡ true) ⌝ }
     ensures { λ r. ⌜ r ≡ cliquesRight (patternAt (now (words .entry)) at) ⌝ }
 {
     let mut marks = [false; MANY_MARKS];
@@ -261,9 +264,9 @@ fn many_cliques_right(words: &[u32], at: usize) -> bool
     cliques_right_by(words, at, &mut marks, &mut offsets)
 }
 
-// The same; a pattern of at most 256 vertices has smaller tables to clear.
+// Makes check 7 on the pattern at offset `at`, which passes check 6. Patterns with at most 256 vertices use smaller buffers, faster to clear.
 pub fn cliques_right(words: &[u32], at: usize) -> bool
-    requires { ⌜ (whole (readPattern (drop at (now words))) ≡ true) × (treeRight (patternAt (now words) at) ≡ true) ⌝ }
+    requires { ⌜ (isWhole (readPattern (drop at (now words))) ≡ true) × (treeRight (patternAt (now words) at) ≡ true) ⌝ }
     ensures { λ r. ⌜ r ≡ cliquesRight (patternAt (now (words .entry)) at) ⌝ }
 {
     let p = Pattern::here(words, at);

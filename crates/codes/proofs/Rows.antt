@@ -1,4 +1,4 @@
--- The codes of rows whose original rows are few.
+-- The codes of rows whose original rows are below 65,536.
 use Prim.Native.Nat.{ℕ, _≤_, _<_}
 use native.Mathlib.Omega.{arith}
 use mathlib.Core.List.{List, map}
@@ -25,7 +25,7 @@ rows-inside n R h r l =
     let e = getD-map cutCode R r (kept 0) 0 k in
     λ s. rw e (code-inside (rowAt R r) n (h r k) (rw e at s))
 
--- original rows below 65,536
+-- all original rows are below 65,536
 abbrev pub Small : List Row → Type 0
 Small R = EveryAt (kept 0) (λ x. originalRow x < 65536) R
 

@@ -1,4 +1,4 @@
--- What the writers ask of constraints that the compact route accepts, and the cut's A and b as the writers state them.
+-- The preconditions of the writers for constraints that the compact route accepts, and the cut's A and b in the form in which the writers state them.
 use Prim.Native.Nat.{ℕ, suc, _+_, _-_, _*_, _/_, _≤_, _<_}
 use native.Mathlib.Nat.{le-of-eq}
 use native.Mathlib.Omega.{arith}
@@ -36,29 +36,29 @@ use Rattle.csc.proofs.Runs.{run-start, length-run-starts, sums-starts, sums-cou
 use Rattle.augment_standard.specs.Beside.{hStarts, besideStarts}
 use Rattle.augment_standard.proofs.Columns.{length-hStarts}
 use Rattle.augment_compact.specs.Cut.{tiedRows, cutRows, cutValues}
-use Rattle.augment_compact.specs.Places.{placed, ColumnsInOrder, RunsStart}
+use Rattle.augment_compact.specs.Places.{rowTable, ColumnsInOrder, RunsStart}
 use Rattle.augment_compact.proofs.Cut.{cut-compact, tied-count}
 use Rattle.augment_compact.proofs.Places.{few-rows as few-codes, accepted-order, accepted-placing}
 use Rattle.augment_standard.specs.Constraints.{Accepted}
 use Rattle.augment_standard.proofs.Constraints.{whole, sound, few-entries, starts-right, same-b}
 
--- as many codes as augmented rows
+-- there are as many codes as augmented rows
 module _ {m : ℕ} {cones : List ℕ} {count : ℕ} {words : List ℕ} (h : Sound m cones count words) where
   pub codes-count : length (map cutCode (compactRows (joinedParts cones count words))) ≡ blockRowCount (joinedParts cones count words)
   codes-count = table-length CutRows (joinedParts cones count words) (sound-laid h .0)
 
--- a table to which xs was written holds it at its front
+-- xs is a prefix of a table to which it was written
 pub front : (xs old : List ℕ) {new : List ℕ} {k : ℕ} → k ≡ length xs → k ≤ length old → new ≡ written xs old → (take k new ≡ xs) × (k ≤ length new)
 front xs old {new} {k} e room w = (
   ap (λ (n : ℕ). take n new) e ∙ ap (take (length xs)) w ∙ take-written xs old,
   omega (arith, ap length w, length-written xs old (omega arith)),
 )
 
--- a table just cleared has room
+-- a table of zeros keeps its length
 pub cleared : {k : ℕ} (size : ℕ) → k ≤ size → k ≤ length (replicate {A = ℕ} size 0)
 cleared size room = omega (arith, length-replicate {A = ℕ} size 0)
 
--- flags just cleared are down, and as many are lent as n rows need
+-- flags for n rows, one for each 64: they fit in a table of size flags, and are all false in a cleared one
 pub few-flags : (n size : ℕ) → n ≤ 64 * size → (n + 63) / 64 ≤ size
 few-flags n size room = omega arith
 
@@ -82,18 +82,18 @@ flags-down n size room few =
     )
 
 module _ {p : Problem} (h : Accepted compact p) where
-  -- ---- counts
+  -- ---- bounds on the counts
 
   pub few-rows : {rows : ℕ} → rows ≡ blockRowCount (layout p) → rows ≤ 262144
   few-rows e = omega (arith, e, codes-count (sound h), few-codes (whole h) (h .accepted))
 
-  -- no more columns are added than there are overlaps
+  -- at most 262144 overlap columns are added
   pub few-overlaps : (k : ℕ) → k ≡ overlapCount (layout p) → k ≤ 262144
   few-overlaps k e =
       let tenth = and-iff (leb (blockRowCount (layout p)) 262144) (leb (overlapCount (layout p)) 131072) .0 (passed 10 (checks compact (whole h)) tt (h .accepted)) in
       omega (arith, e, leb-iff (overlapCount (layout p)) 131072 .0 (tenth .1))
 
-  -- ---- what the writers ask of A, b and the codes
+  -- ---- the preconditions of the writers on A, b and the codes
 
   pub rows-inside : RowsInside (length (p .b)) (map cutCode (compactRows (layout p)))
   rows-inside = accepted-inside (whole h) (h .accepted) (length (p .b)) (omega (arith, same-b h))
@@ -124,10 +124,10 @@ module _ {p : Problem} (h : Accepted compact p) where
   columns-right k old room w = (starts-right h, accepted-order (whole h) (h .accepted), runs-start k old room w)
 
   codes-placing : (t : List ℕ) → p .m ≤ length t
-      → Placing (map cutCode (compactRows (layout p))) (placed 0 (map cutCode (compactRows (layout p))) t) (p .A .rows)
+      → Placing (map cutCode (compactRows (layout p))) (rowTable 0 (map cutCode (compactRows (layout p))) t) (p .A .rows)
   codes-placing = accepted-placing (whole h) (h .accepted)
 
-  -- as many rows and values as the cut's A has
+  -- the numbers of rows and values of the cut's A
   entries : length (summedA p .values) ≡ runCount (p .n) (p .A)
   entries = sums-count (p .n) (p .A) right
 
@@ -157,7 +157,7 @@ module _ {p : Problem} (h : Accepted compact p) where
         ap (cutValues (p .n) (sums (p .n) (p .A)) (map cutCode (compactRows (layout p)))) e
         ∙ ap (λ (M : Csc). M .values) (cut-compact (whole h) (h .accepted))
 
--- ---- the codes of so many rows, in tables just cleared
+-- ---- the codes of the augmented rows, in freshly cleared tables
 
 module _ {p : Problem} (h : Accepted compact p) {rows : ℕ} (e : rows ≡ blockRowCount (layout p)) where
   pub coded : {size : ℕ} {table : List ℕ} → rows ≤ size → table ≡ written (map cutCode (compactRows (layout p))) (replicate size 0)
@@ -165,11 +165,11 @@ module _ {p : Problem} (h : Accepted compact p) {rows : ℕ} (e : rows ≡ block
   coded {size} room w =
       front (map cutCode (compactRows (layout p))) (replicate size 0) (e ∙ sym (codes-count (sound h))) (omega (arith, length-replicate {A = ℕ} size 0)) w
 
-  -- what `write_entries` asks of them
+  -- the precondition of `write_entries` on the codes
   module _ (size flags k rowsRoom valuesRoom : ℕ) where
     abbrev Placeable : List ℕ → Type 0
     Placeable cs =
-        (RowsInside (length (replicate {A = ℕ} size 0)) cs × Placing cs (placed 0 cs (replicate size 0)) (p .A .rows) × Clear (length cs) (take ((rows + 63) / 64) (replicate flags false)))
+        (RowsInside (length (replicate {A = ℕ} size 0)) cs × Placing cs (rowTable 0 cs (replicate size 0)) (p .A .rows) × Clear (length cs) (take ((rows + 63) / 64) (replicate flags false)))
         × ((runCount (p .n) (p .A) + length (tiedRows 0 cs) ≤ rowsRoom) × (runCount (p .n) (p .A) + 2 * k ≤ valuesRoom))
 
     pub placeable : {cs : List ℕ} → cs ≡ map cutCode (compactRows (layout p)) → p .m ≤ size → rows ≤ 64 * flags → flags ≤ 4096 → k ≡ overlapCount (layout p)

@@ -13,11 +13,12 @@ ghost use Rattle.csc.specs.Matrix.{matrix, ColumnsInside};
 ghost use Rattle.sparsevector.specs.Values.{codeValue};
 ghost use Rattle.augment_standard.specs.Beside.{besideStarts};
 ghost use Rattle.augment_standard.specs.Constraints.{constraints};
-ghost use Rattle.compact_constraints.specs.System.{system, SystemFits, HoldsSystem};
+ghost use Rattle.compact_constraints.specs.System.{SystemFits, HoldsSystem};
+ghost use Rattle.layout.specs.Problem.{system};
 use constants::scratch;
 use tables::Table;
 
-// Writes the starts of A with the k overlaps' columns, the codes of the `rows` augmented rows to their table, and b from these.
+// Writes the starts of A with its `k` overlap columns, the codes of the `rows` augmented rows to `table`, and from these codes the augmented b.
 fn write_starts_and_b(
     n: u32,
     m: u32,
@@ -47,7 +48,8 @@ fn write_starts_and_b(
     sparsevector::move_values(b_out, &table[..rows], b);
 }
 
-// Writes A with the k overlaps' columns, and b, for at most 2048 rows of either kind. Its tables take less time to clear than such a cut takes.
+// Writes A with its `k` overlap columns, and b, where there are at most 2048 original and 2048 augmented rows. Clearing its tables takes less
+// time than such a cut.
 fn with_small_tables(
     n: u32,
     m: u32,
@@ -109,8 +111,8 @@ fn with_small_tables(
     );
 }
 
-// Writes them for any number of rows that the checks accept. A small problem never enters the frame that these tables need: it is called
-// from two places, and does enough itself, so that the compiler gives it a frame of its own.
+// Does what `with_small_tables` does, for any number of rows that the checks accept. It is called from two places and does enough itself to be
+// compiled with its own stack frame, so that a small problem never enters the large frame that these tables need.
 fn with_large_tables(
     n: u32,
     m: u32,
@@ -171,7 +173,7 @@ fn with_large_tables(
     );
 }
 
-// Writes A with the k overlaps' columns, and b, over `rows` augmented rows.
+// Writes A with its `k` overlap columns, and b, over `rows` augmented rows, with tables that suit their number.
 pub fn write_compact_a(
     n: u32,
     m: u32,

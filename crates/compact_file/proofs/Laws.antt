@@ -1,4 +1,4 @@
--- The program of Q-2 in parts: the doubles of a file, sizes, and the numbers in order.
+-- The parts of the Q-2 program: the doubles of a file, the output sizes, and the refusal numbers in their order.
 use Prim.Native.Nat.{ℕ, zero, suc, _+_, _*_, _/_, _%_, _≤_, _<_}
 use native.Mathlib.Omega.{arith}
 use mathlib.Core.Path.{_≡_, refl, sym, ap, ap₂, _∙_}
@@ -13,7 +13,7 @@ use Rattle.layout.specs.Lists.{Below, written}
 use Rattle.layout.specs.Problem.{Problem, compact}
 use Rattle.layout.specs.Checks.{checks, refusal}
 use Rattle.layout.specs.Answers.{orElse, output, sizes, problemRefusal}
-use Rattle.layout.specs.File.{Tables, floats, problemOf, widths, products, endFrom, fileOf, fileTables, shapeFailing, compactTables, compactFile, refusedText, answer, programRefusal, programOutput}
+use Rattle.layout.specs.File.{BitTables, floats, problemOf, widths, products, endFrom, fileOf, fileTables, shapeFailing, compactTables, compactFile, refusedText, answer, programRefusal, programOutput}
 use Rattle.layout.specs.FileWords.{pairsOf, fileWords, wordTables, wordShapeFailing, wordShapeChecks}
 use Rattle.layout.specs.Calls.Sizes.{Sizes}
 use Rattle.layout.specs.Calls.FileWords.{FileWords}
@@ -22,12 +22,12 @@ use Rattle.layout.proofs.Order.{failing-most}
 use Rattle.layout.proofs.File.{read-passed}
 use Rattle.layout.proofs.FileWords.{words-length, shape-words, words-tables}
 use Rattle.layout.proofs.Program.{compact-length, program-in-order, program-read}
-use Rattle.file_parts.proofs.Doubles.{pairs-even, length-halved}
+use Rattle.file_views.proofs.Doubles.{pairs-even, length-halved}
 use Rattle.compact_tables.specs.Writers.{Writes}
 use Rattle.compact_tables.proofs.Fronts.{front, front-floats}
-use Rattle.compact_file.specs.Program.{tablesRefusal, tablesOutput, wordsRefusal, wordsOutput, Small, programBytes, CutFile}
+use Rattle.compact_file.specs.Program.{cutTablesRefusal, cutTablesOutput, wordsRefusal, wordsOutput, Small, programBytes, CutFile}
 
--- ---- the doubles of a file, from its words two and two
+-- ---- the doubles of a file, each made of two words
 
 pub halves-fit : (ws : List ℕ) (room : ℕ) → length ws ≤ 2 * room
     → (length (take (2 * (length ws / 2)) ws) ≡ 2 * (length (take (2 * (length ws / 2)) ws) / 2)) × (length (take (2 * (length ws / 2)) ws) / 2 ≤ room)
@@ -50,19 +50,19 @@ orElse-nothing : (r : ℕ) → orElse r 0 ≡ r
 orElse-nothing zero = refl
 orElse-nothing (suc r) = refl
 
--- what `sizes` answers on the compact route, in eleven numbers that were 0
+-- the result of `sizes` on the compact route, with eleven zeros in its output before
 pub sized-number : (q : Problem) {after : List ℕ} {r : ℕ} → Sizes 1 q (replicate 11 0) after r → r ≡ refusal compact q
 sized-number q h = h .number ∙ orElse-nothing (refusal compact q)
 
 pub sized-lengths : (q : Problem) {after : List ℕ} {r : ℕ} → Sizes 1 q (replicate 11 0) after r → r ≡ 0 → set after 10 0 ≡ take 10 (sizes compact q) ++ (0 ∷ [])
 sized-lengths q h z = ap (λ (l : List ℕ). set l 10 0) (h .out ∙ ap (λ (k : ℕ). output k (sizes compact q) (replicate 11 0)) z)
 
--- so where the compact file ends
-pub sized-end : (t : Tables) {after : List ℕ} {r end : ℕ} → Sizes 1 (problemOf t) (replicate 11 0) after r → r ≡ 0
+-- the end of the compact file, from the sizes
+pub sized-end : (t : BitTables) {after : List ℕ} {r end : ℕ} → Sizes 1 (problemOf t) (replicate 11 0) after r → r ≡ 0
     → end ≡ endFrom 80 (products widths (set after 10 0)) → end ≡ length (fileOf (compactTables t))
 sized-end t h z e = e ∙ ap (λ (l : List ℕ). endFrom 80 (products widths l)) (sized-lengths (problemOf t) h z) ∙ sym (compact-length t)
 
--- ---- the numbers in order
+-- ---- the refusal numbers in their order
 
 refused-answer : (r : ℕ) (file : List ℕ) {n : ℕ} → (n ≡ 0 → ⊥) → r ≡ n → answer r file ≡ refusedText n
 refused-answer zero file h e = absurd (h (sym e))
@@ -72,31 +72,31 @@ first-number : (a late : ℕ) {r : ℕ} → (r ≡ 0 → ⊥) → r ≡ a → or
 first-number zero late h e = absurd (h e)
 first-number (suc a) late h e = sym e
 
--- refused by the route's checks
-pub tables-refused : (t : Tables) {r : ℕ} → (r ≡ 0 → ⊥) → r ≡ refusal compact (problemOf t) → (r < 100) × (tablesOutput t ≡ refusedText r)
+-- tables that the compact route's checks refuse
+pub tables-refused : (t : BitTables) {r : ℕ} → (r ≡ 0 → ⊥) → r ≡ refusal compact (problemOf t) → (r < 100) × (cutTablesOutput t ≡ refusedText r)
 tables-refused t {r} h e =
     let late : ℕ = cond (leb (length (fileOf (compactTables t))) 65536) 0 10 in (
       omega (arith, failing-most 10 (checks compact (problemOf t)) tt),
-      refused-answer (tablesRefusal t) (fileOf (compactTables t)) h (first-number (refusal compact (problemOf t)) late h e),
+      refused-answer (cutTablesRefusal t) (fileOf (compactTables t)) h (first-number (refusal compact (problemOf t)) late h e),
     )
 
--- by the length
-pub tables-long : (t : Tables) → refusal compact (problemOf t) ≡ 0 → 65536 < length (fileOf (compactTables t)) → tablesOutput t ≡ refusedText 10
+-- accepted tables whose compact file is too long
+pub tables-long : (t : BitTables) → refusal compact (problemOf t) ≡ 0 → 65536 < length (fileOf (compactTables t)) → cutTablesOutput t ≡ refusedText 10
 tables-long t ok long =
     ap (λ (r : ℕ). answer r (fileOf (compactTables t))) (
     ap (λ (r : ℕ). orElse r (cond (leb (length (fileOf (compactTables t))) 65536) 0 10)) ok
     ∙ ap (λ (b : Bool). cond b 0 10) (lt-leb (length (fileOf (compactTables t))) 65536 long))
 
--- by nothing
-pub tables-passed : (t : Tables) → refusal compact (problemOf t) ≡ 0 → length (fileOf (compactTables t)) ≤ 65536
-    → (tablesRefusal t ≡ 0) × (tablesOutput t ≡ fileOf (compactTables t))
+-- accepted tables whose compact file is short enough
+pub tables-passed : (t : BitTables) → refusal compact (problemOf t) ≡ 0 → length (fileOf (compactTables t)) ≤ 65536
+    → (cutTablesRefusal t ≡ 0) × (cutTablesOutput t ≡ fileOf (compactTables t))
 tables-passed t ok short =
-    let none : tablesRefusal t ≡ 0 =
+    let none : cutTablesRefusal t ≡ 0 =
     ap (λ (r : ℕ). orElse r (cond (leb (length (fileOf (compactTables t))) 65536) 0 10)) ok
     ∙ ap (λ (b : Bool). cond b 0 10) (le-leb (length (fileOf (compactTables t))) 65536 short) in
     (none, ap (λ (r : ℕ). answer r (fileOf (compactTables t))) none)
 
--- and what its writer asks
+-- the preconditions of the compact file's writer
 pub sized-writes : (ws : List ℕ) → Small ws → {after : List ℕ} {r : ℕ} → Sizes 1 (problemOf (wordTables ws)) (replicate 11 0) after r → r ≡ 0
     → length (fileOf (compactTables (wordTables ws))) ≤ 65536 → Writes (wordTables ws) (set after 10 0)
 sized-writes ws small h z short =
@@ -106,21 +106,21 @@ sized-writes ws small h z short =
 
 -- ---- words
 
--- refused by 13 or 14
+-- words refused by check 13 or 14
 pub words-refused : (ws : List ℕ) (n : ℕ) {r : ℕ} → (r ≡ 0 → ⊥) → r ≡ wordShapeFailing ws n → (r < 100) × (wordsOutput ws n ≡ refusedText r)
 words-refused ws n {r} h e = (
   omega (arith, failing-most 14 (wordShapeChecks ws n) tt),
-  refused-answer (wordsRefusal ws n) (fileOf (compactTables (wordTables ws))) h (first-number (wordShapeFailing ws n) (tablesRefusal (wordTables ws)) h e),
+  refused-answer (wordsRefusal ws n) (fileOf (compactTables (wordTables ws))) h (first-number (wordShapeFailing ws n) (cutTablesRefusal (wordTables ws)) h e),
 )
 
--- and where they pass, the tables decide
-pub words-passed : (ws : List ℕ) (n : ℕ) → wordShapeFailing ws n ≡ 0 → wordsOutput ws n ≡ tablesOutput (wordTables ws)
-words-passed ws n e = ap (λ (r : ℕ). answer (orElse r (tablesRefusal (wordTables ws))) (fileOf (compactTables (wordTables ws)))) e
+-- where checks 13 and 14 pass, the output is that of the tables
+pub words-passed : (ws : List ℕ) (n : ℕ) → wordShapeFailing ws n ≡ 0 → wordsOutput ws n ≡ cutTablesOutput (wordTables ws)
+words-passed ws n e = ap (λ (r : ℕ). answer (orElse r (cutTablesRefusal (wordTables ws))) (fileOf (compactTables (wordTables ws)))) e
 
 -- ---- bytes
 
 module _ (bs : List ℕ) (bytes : Below 256 bs) (short : length bs ≤ 8192) where
-  -- a file that stands right has few words, and its compact problem passes
+  -- a file of the right shape has few words, and its compact problem passes checks 1 to 7 where nothing is refused
   pub small-words : wordShapeFailing (fileWords bs) (length bs) ≡ 0 → Small (fileWords bs)
   small-words e =
       let shape : shapeFailing bs ≡ 0 = sym (shape-words bs) ∙ e in
@@ -130,11 +130,11 @@ module _ (bs : List ℕ) (bytes : Below 256 bs) (short : length bs ≤ 8192) whe
         passes = λ h.
             let number : programRefusal bs ≡ 0 =
             program-in-order bs
-            ∙ ap₂ (λ (b : Bool) (r : ℕ). orElse (cond b 0 1) (orElse r (tablesRefusal (fileTables bs)))) (le-leb (length bs) 8192 short) shape
-            ∙ ap tablesRefusal (sym same) ∙ h in
+            ∙ ap₂ (λ (b : Bool) (r : ℕ). orElse (cond b 0 1) (orElse r (cutTablesRefusal (fileTables bs)))) (le-leb (length bs) 8192 short) shape
+            ∙ ap cutTablesRefusal (sym same) ∙ h in
             let (read, back, stands) = program-read bs bytes number in
-            ap (λ (u : Tables). problemRefusal (problemOf (compactTables u))) same
-            ∙ ap (λ (u : Tables). problemRefusal (problemOf u)) (sym back) ∙ read-passed (programOutput bs) read .1;
+            ap (λ (u : BitTables). problemRefusal (problemOf (compactTables u))) same
+            ∙ ap (λ (u : BitTables). problemRefusal (problemOf u)) (sym back) ∙ read-passed (programOutput bs) read .1;
       }
 
   pub program-words : programOutput bs ≡ wordsOutput (fileWords bs) (length bs)
@@ -142,32 +142,32 @@ module _ (bs : List ℕ) (bytes : Below 256 bs) (short : length bs ≤ 8192) whe
       let ws = fileWords bs in
       ap (λ (r : ℕ). answer r (compactFile bs)) (
       program-in-order bs
-      ∙ ap (λ (b : Bool). orElse (cond b 0 1) (orElse (shapeFailing bs) (tablesRefusal (fileTables bs)))) (le-leb (length bs) 8192 short)
-      ∙ ap (λ (r : ℕ). orElse r (tablesRefusal (fileTables bs))) (sym (shape-words bs)))
+      ∙ ap (λ (b : Bool). orElse (cond b 0 1) (orElse (shapeFailing bs) (cutTablesRefusal (fileTables bs)))) (le-leb (length bs) 8192 short)
+      ∙ ap (λ (r : ℕ). orElse r (cutTablesRefusal (fileTables bs))) (sym (shape-words bs)))
       ∙ later (wordShapeFailing ws (length bs)) (λ e. sym (words-tables bs bytes (sym (shape-words bs) ∙ e)))
     where
-      later : (s : ℕ) {u v : Tables} → (s ≡ 0 → u ≡ v)
-          → answer (orElse s (tablesRefusal u)) (fileOf (compactTables u)) ≡ answer (orElse s (tablesRefusal v)) (fileOf (compactTables v))
-      later zero e = ap (λ (w : Tables). answer (tablesRefusal w) (fileOf (compactTables w))) (e refl)
+      later : (s : ℕ) {u v : BitTables} → (s ≡ 0 → u ≡ v)
+          → answer (orElse s (cutTablesRefusal u)) (fileOf (compactTables u)) ≡ answer (orElse s (cutTablesRefusal v)) (fileOf (compactTables v))
+      later zero e = ap (λ (w : BitTables). answer (cutTablesRefusal w) (fileOf (compactTables w))) (e refl)
       later (suc s) e = refl
 
--- the words that were read of a file
+-- the words read from a file are its words
 pub words-taken : (bs : List ℕ) {out : List ℕ} {r : ℕ} → length bs ≤ 8192 → FileWords bs (replicate 2048 0) out r → take (length bs / 4) out ≡ fileWords bs
 words-taken bs {out} {r} short h =
     let count = words-length bs in
     let zero : r ≡ 0 = h .number ∙ ap (λ (b : Bool). cond b 0 11) (le-leb (length (fileWords bs)) 2048 (omega arith)) in
     front (fileWords bs) (replicate 2048 0) (length bs / 4) (h .out ∙ ap (λ (k : ℕ). output k (fileWords bs) (replicate 2048 0)) zero) (sym count)
 
--- a file too long
+-- a file that is too long is refused under 1
 pub program-long : (bs : List ℕ) → 8192 < length bs → programOutput bs ≡ refusedText 1
 program-long bs long =
     ap (λ (r : ℕ). answer r (compactFile bs)) (
     program-in-order bs
-    ∙ ap (λ (b : Bool). orElse (cond b 0 1) (orElse (shapeFailing bs) (tablesRefusal (fileTables bs)))) (lt-leb (length bs) 8192 long))
+    ∙ ap (λ (b : Bool). orElse (cond b 0 1) (orElse (shapeFailing bs) (cutTablesRefusal (fileTables bs)))) (lt-leb (length bs) 8192 long))
 
--- ---- the line of a refusal
+-- ---- the refusal line
 
--- "refused "
+-- the bytes of "refused "
 abbrev pub refusedWord : List ℕ
 refusedWord = 114 ∷ 101 ∷ 102 ∷ 117 ∷ 115 ∷ 101 ∷ 100 ∷ 32 ∷ []
 
@@ -177,7 +177,7 @@ one-digit k l = ap (λ (b : Bool). refusedWord ++ (cond b ((48 + k) ∷ []) ((48
 two-digits : (k : ℕ) → 10 ≤ k → refusedText k ≡ refusedWord ++ ((48 + k / 10) ∷ (48 + k % 10) ∷ 10 ∷ [])
 two-digits k l = ap (λ (b : Bool). refusedWord ++ (cond b ((48 + k) ∷ []) ((48 + k / 10) ∷ (48 + k % 10) ∷ []) ++ (10 ∷ []))) (le-ltb k 10 l)
 
--- with one digit, or two, stored after it
+-- one or two digits and a line feed, stored after "refused "
 pub digit-written : (k : ℕ) (old : List ℕ) {out : List ℕ} → k < 10 → 11 ≤ length old → out ≡ written refusedWord old
     → (10 ≡ length (refusedText k)) × (set (set out 8 (48 + k)) 9 10 ≡ written (refusedText k) old)
 digit-written k old l room e =
@@ -197,7 +197,7 @@ digits-written k old l room e =
           ∙ set-written (refusedWord ++ (a ∷ b ∷ [])) old 10 10 refl (omega arith) ∙ ap (λ (xs : List ℕ). written xs old) text,
     )
 
--- ---- the promise
+-- ---- the contract of `cut_file`
 
 pub none-written : (file old : List ℕ) → length old < 65536 → CutFile file old old 0
 none-written file old l =

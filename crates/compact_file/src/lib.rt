@@ -1,27 +1,27 @@
-// The compact cut from a file's bytes to a file's bytes (Q-2): a file of at most 8,192 bytes is read and cut on the compact route, and the
-// compact problem, which has no patterns, written as a file of at most 65,536 bytes; or a line that says why not.
+// The compact cut from the bytes of a problem file to the bytes of another (Q-2). A file of at most 8,192 bytes is read and cut on the compact route;
+// the compact problem, which has no patterns, is written as a file of at most 65,536 bytes. If anything is refused, a line with the number is written.
 ghost use mathlib.Core.Path.{_≡_};
 ghost use Prim.Native.Nat.{_≤_, _<_};
 ghost use lib.ListN.{length};
 ghost use Rattle.layout.specs.Lists.{written};
-ghost use Rattle.layout.specs.File.{refusedText};
-ghost use Rattle.layout.specs.FileWords.{wordTables, wordShapeFailing};
-ghost use Rattle.file_shape.specs.Parts.{Stands};
-ghost use Rattle.compact_file.specs.Program.{tablesOutput, Small, wordsOutput, CutFile};
+ghost use Rattle.layout.specs.File.{floats, refusedText};
+ghost use Rattle.layout.specs.FileWords.{pairsOf, wordTables, wordShapeFailing};
+ghost use Rattle.file_shape.specs.Parts.{WellShaped};
+ghost use Rattle.compact_file.specs.Program.{cutTablesOutput, Small, wordsOutput, CutFile};
 use compact_tables::OUT_BYTES;
 use constants::file_table;
 use constants::refusal;
 
-// The longest file that is read, and how many words and doubles it can have.
+// The longest file that is read, and the largest numbers of words and doubles in it.
 const IN_BYTES: usize = 8192;
 
 const IN_WORDS: usize = IN_BYTES / file_table::WORD_BYTES;
 
 const IN_DOUBLES: usize = IN_BYTES / file_table::DOUBLE_BYTES;
 
-// ---- the line of a refusal
+// ---- the refusal line
 
-// Writes "refused ", `number` and a line feed. Returns how many bytes these are.
+// Writes "refused ", `number` and a line feed to `out`. Returns the number of bytes written.
 fn refuse(number: u32, out: &mut [u8]) -> usize
     requires { ⌜ (number < 100) × (11 ≤ length (now out)) ⌝ }
     ensures { λ r. ⌜ (r ≡ length (refusedText number)) × (now (out .exit) ≡ written (refusedText number) (now (out .entry))) ⌝ }
@@ -38,21 +38,18 @@ fn refuse(number: u32, out: &mut [u8]) -> usize
     11
 }
 
-// ---- the answer
+// ---- the output
 
-// Writes the compact file of a file's problem, or why there is none. Returns how many bytes these are.
-fn cut_tables(words: &[u32], out: &mut [u8]) -> usize
-    requires { ⌜ Stands (now words) × Small (now words) × (65536 ≤ length (now out)) ⌝ }
+// Writes to `out` the compact file of the problem in a file's `words`, or a refusal line; `patterns` and `values` are the doubles that the words form in
+// pairs. Returns the number of bytes written.
+fn cut_doubles(words: &[u32], patterns: &[u64], values: &[f64], out: &mut [u8]) -> usize
+    requires { ⌜ WellShaped (now words) × (now patterns ≡ pairsOf (now words)) × (now values ≡ floats (pairsOf (now words))) ⌝ }
+    requires { ⌜ Small (now words) × (65536 ≤ length (now out)) ⌝ }
     ensures { λ r. let t = wordTables (now (words .entry)) in
-        ⌜ (r ≡ length (tablesOutput t)) × (now (out .exit) ≡ written (tablesOutput t) (now (out .entry))) ⌝ }
+        ⌜ (r ≡ length (cutTablesOutput t)) × (now (out .exit) ≡ written (cutTablesOutput t) (now (out .entry))) ⌝ }
 {
-    let half = words.len() / 2;
-    let mut patterns = [0u64; IN_DOUBLES];
-    file_bytes::write_patterns(&words[..2 * half], &mut patterns);
-    let mut values = [0.0; IN_DOUBLES];
-    file_bytes::write_floats(&patterns[..half], &mut values);
     let mut lengths = [0u32; file_table::COUNT];
-    let number = file_parts::size_tables(words, &values[..half], &mut lengths);
+    let number = file_parts::size_tables(words, values, &mut lengths);
     if number != 0 {
         return refuse(number, out);
     }
@@ -61,11 +58,26 @@ fn cut_tables(words: &[u32], out: &mut [u8]) -> usize
     if OUT_BYTES < end {
         return refuse(refusal::TOO_LARGE, out);
     }
-    compact_tables::write_cut(words, &patterns[..half], &values[..half], &lengths, out);
+    compact_tables::write_cut(words, patterns, values, &lengths, out);
     end
 }
 
-// The same of the words of a file of `bytes` bytes, once 13 and 14 let them pass.
+// Writes to `out` the compact file of the problem in a file's `words`, or a refusal line. Returns the number of bytes written.
+fn cut_tables(words: &[u32], out: &mut [u8]) -> usize
+    requires { ⌜ WellShaped (now words) × Small (now words) × (65536 ≤ length (now out)) ⌝ }
+    ensures { λ r. let t = wordTables (now (words .entry)) in
+        ⌜ (r ≡ length (cutTablesOutput t)) × (now (out .exit) ≡ written (cutTablesOutput t) (now (out .entry))) ⌝ }
+{
+    let half = words.len() / 2;
+    let mut patterns = [0u64; IN_DOUBLES];
+    file_bytes::write_patterns(&words[..2 * half], &mut patterns);
+    let mut values = [0.0; IN_DOUBLES];
+    file_bytes::write_floats(&patterns[..half], &mut values);
+    cut_doubles(words, &patterns[..half], &values[..half], out)
+}
+
+// Makes checks 13 and 14 on the `words` of a file of `bytes` bytes. Writes to `out` a refusal line, or else what `cut_tables` writes.
+// Returns the number of bytes written.
 fn cut_words(words: &[u32], bytes: usize, out: &mut [u8]) -> usize
     requires { ⌜ (wordShapeFailing (now words) bytes ≡ 0 → Small (now words)) × (65536 ≤ length (now out)) ⌝ }
     ensures { λ r. ⌜ (r ≡ length (wordsOutput (now (words .entry)) bytes)) × (now (out .exit) ≡ written (wordsOutput (now (words .entry)) bytes) (now (out .entry))) ⌝ }
@@ -77,8 +89,8 @@ fn cut_words(words: &[u32], bytes: usize, out: &mut [u8]) -> usize
     cut_tables(words, out)
 }
 
-// Writes what the program writes where it reads `file`: the compact file, or "refused " and the number. Returns how many bytes these are;
-// 0, with nothing written, where `out` has less than the 65,536 bytes that it can take.
+// Writes to `out` what the program prints for `file`: the compact file, or "refused " and the number. Returns the number of bytes written;
+// 0, with nothing written, where `out` has less than 65,536 bytes, the longest output.
 pub fn cut_file(file: &[u8], out: &mut [u8]) -> usize
     ensures { λ r. ⌜ CutFile (now (file .entry)) (now (out .entry)) (now (out .exit)) r ⌝ }
 {

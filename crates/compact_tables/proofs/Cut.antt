@@ -1,17 +1,17 @@
--- The compact problem of tables that the route accepts, where its file is no longer than 65,536 bytes: its lengths, and its tables from a
--- cut's outputs.
+-- The compact problem of accepted tables whose compact file has at most 65,536 bytes: the lengths of its tables, and its tables in terms of
+-- the cut's outputs.
 use Prim.Native.Nat.{ℕ, suc, _+_, _-_, _≤_, _<_}
 use native.Mathlib.Omega.{arith}
 use mathlib.Core.Path.{_≡_, sym, ap, subst, _∙_}
 use mathlib.Core.List.{List, [], _∷_, _++_}
 use lib.ListN.{length, getD, take, replicate, length-map}
 use lib.Dec.{lit<}
-use lib.Ieee.{Float, binary64, ofBits}
+use lib.Ieee.{Float, binary64, ofBits, toBits}
 use Rattle.layout.specs.Problem.{Problem, compact}
 use Rattle.layout.specs.Blocks.{blockRowCount, overlapCount}
 use Rattle.layout.specs.Checks.{layout, refusal}
 use Rattle.layout.specs.Answers.{Augmented, augmented, sizes, problemRefusal}
-use Rattle.layout.specs.File.{tables, Tables, floats, bits, problemOf, widths, products, fileOf, compactTables}
+use Rattle.layout.specs.File.{bitTables, BitTables, floats, bits, problemOf, widths, products, fileOf, compactTables}
 use Rattle.layout.specs.Calls.Cut.{Constrained, constrained, constrainedOf, HoldsConstrained}
 use Rattle.layout.proofs.Sizes.{compact-sizes}
 use Rattle.layout.proofs.Offsets.{table-inside}
@@ -21,7 +21,7 @@ use Rattle.file_parts.specs.Problem.{constraintsOf}
 use Rattle.compact_tables.specs.Writers.{Writes, extendedTables, Extends}
 use Rattle.compact_tables.proofs.Fronts.{front}
 
-module _ (t : Tables) (lengths : List ℕ) (w : Writes t lengths) where
+module _ (t : BitTables) (lengths : List ℕ) (w : Writes t lengths) where
   abbrev p : Problem
   p = problemOf t
 
@@ -40,7 +40,7 @@ module _ (t : Tables) (lengths : List ℕ) (w : Writes t lengths) where
   fits : (i : ℕ) → i < 11 → getD bytes i 0 ≤ 65536
   fits i l = omega (arith, table-inside 80 bytes i l, compact-length t, w .short)
 
-  -- what the lengths are
+  -- the lengths are those that `sizes` gives
   given : (i : ℕ) → getD lengths i 0 ≡ getD (take 10 (sizes compact (problemOf t)) ++ (0 ∷ [])) i 0
   given i = ap (λ (l : List ℕ). getD l i 0) (w .sized)
 
@@ -68,7 +68,7 @@ module _ (t : Tables) (lengths : List ℕ) (w : Writes t lengths) where
   pub cones-is : getD lengths 8 0 ≡ length (augmented compact (problemOf t) .cones)
   cones-is = given 8
 
-  -- and that there is room for them
+  -- the buffers are long enough for these lengths
   pub room-columns : getD lengths 3 0 ≤ 8192
   room-columns = omega (arith, fits 3 (lit< tt), given 3)
 
@@ -81,7 +81,7 @@ module _ (t : Tables) (lengths : List ℕ) (w : Writes t lengths) where
   pub room-cones : getD lengths 8 0 ≤ 16384
   room-cones = omega (arith, fits 8 (lit< tt), given 8)
 
-  -- what the cut asks of its outputs
+  -- the preconditions of the cut
   pub cut-fits : (j : ℕ) {starts rows cones : List ℕ} {values b : List Float} → j ≡ getD lengths 3 0 - t .n
       → length starts ≡ 16384 → length rows ≡ 16384 → length values ≡ 8192 → length b ≡ 8192 → length cones ≡ 16384
       → ConstrainedFits compact (constraintsOf t) j (constrained starts rows values b cones)
@@ -95,42 +95,36 @@ module _ (t : Tables) (lengths : List ℕ) (w : Writes t lengths) where
     cones = omega (arith, cones-is, room-cones, lc);
   }
 
-  -- the tables that are written
-  module _ {starts rows cones : List ℕ} {values b : List Float} (es : starts ≡ augmented compact (problemOf t) .A .starts)
-      (er : rows ≡ augmented compact (problemOf t) .A .rows) (ev : values ≡ augmented compact (problemOf t) .A .values)
-      (eb : b ≡ augmented compact (problemOf t) .b) (ec : cones ≡ augmented compact (problemOf t) .cones) (j : ℕ) (ej : j ≡ getD lengths 3 0) where
-    pub cut-tables : extendedTables t j starts rows values b cones ≡ compactTables t
+  -- the tables that are written, from the outputs of the cut: those of the compact problem
+  module _ {before after : Constrained} (h : HoldsConstrained 0 (constrainedOf (augmented compact (constraintsOf t))) before after)
+      {columns entries rows records : ℕ} (e3 : columns ≡ getD lengths 3 0) (e5 : entries ≡ getD lengths 5 0) (e7 : rows ≡ getD lengths 7 0)
+      (e8 : records ≡ getD lengths 8 0) where
+    values-cut : take entries (after .A .values) ≡ augmented compact (problemOf t) .A .values
+    values-cut = front (a .A .values) (before .A .values) entries (h .a-values) (e5 ∙ values-is)
+
+    side-cut : take rows (after .b) ≡ augmented compact (problemOf t) .b
+    side-cut = front (a .b) (before .b) rows (h .b) (e7 ∙ side-is)
+
+    pub cut-tables : extendedTables t columns (take (columns + 1) (after .A .starts)) (take entries (after .A .rows))
+        (bits (take entries (after .A .values))) (bits (take rows (after .b))) (take records (after .cones)) ≡ compactTables t
     cut-tables =
-        let columns : j ≡ t .n + k = ej ∙ columns-is in
-        let added : j - t .n ≡ k = omega arith in
+        let wide : columns ≡ t .n + k = e3 ∙ columns-is in
+        let added : columns - t .n ≡ k = omega arith in
         let stored : length (t .pValues) ≡ length (floats (t .pValues)) = sym (length-map (t .pValues) (ofBits binary64)) in
-        let slacks : length b ≡ blockRowCount (layout p) = ap length eb ∙ sym side-is ∙ rows-is in
-        λ i. tables (columns i) (slacks i) (t .pStarts ++ replicate (added i) (stored i)) (t .pRows) (t .pValues) (t .q ++ replicate (added i) 0)
-        (es i) (er i) (bits (ev i)) (bits (eb i)) (ec i) (t .alphas) 0 []
+        let es = front (a .A .starts) (before .A .starts) (columns + 1) (h .a-starts) (omega (arith, e3, starts-is)) in
+        let er = front (a .A .rows) (before .A .rows) entries (h .a-rows) (e5 ∙ entries-is) in
+        let ec = front (a .cones) (before .cones) records (h .cones) (e8 ∙ cones-is) in
+        let slacks : length (bits (take rows (after .b))) ≡ blockRowCount (layout p) = length-map (take rows (after .b)) (toBits binary64) ∙ ap length side-cut ∙ sym side-is ∙ rows-is in
+        λ i. bitTables (wide i) (slacks i) (t .pStarts ++ replicate (added i) (stored i)) (t .pRows) (t .pValues) (t .q ++ replicate (added i) 0)
+        (es i) (er i) (bits (values-cut i)) (bits (side-cut i)) (ec i) (t .alphas) 0 []
 
-    pub cut-extends : Extends t j starts rows values b cones
+    pub cut-extends : Extends t columns (take (columns + 1) (after .A .starts)) (take entries (after .A .rows))
+        (bits (take entries (after .A .values))) (bits (take rows (after .b))) (take records (after .cones))
     cut-extends = record {
-      passes = ap (λ (u : Tables). problemRefusal (problemOf u)) cut-tables ∙ w .passes;
-      short = subst (λ (u : Tables). length (fileOf u) ≤ 65536) (sym cut-tables) (w .short);
-      wide = omega (arith, ej, columns-is);
-      fewColumns = omega (arith, ej, room-columns);
-      fewEntries = omega (arith, ap length ev, values-is, room-entries);
-      fewRows = omega (arith, ap length eb, side-is, room-rows);
+      passes = ap (λ (u : BitTables). problemRefusal (problemOf u)) cut-tables ∙ w .passes;
+      short = subst (λ (u : BitTables). length (fileOf u) ≤ 65536) (sym cut-tables) (w .short);
+      wide = omega (arith, e3, columns-is);
+      fewColumns = omega (arith, e3, room-columns);
+      fewEntries = omega (arith, length-map (take entries (after .A .values)) (toBits binary64), ap length values-cut, values-is, room-entries);
+      fewRows = omega (arith, length-map (take rows (after .b)) (toBits binary64), ap length side-cut, side-is, room-rows);
     }
-
-  -- the fronts of the cut's outputs
-  module _ {before after : Constrained} (h : HoldsConstrained 0 (constrainedOf (augmented compact (constraintsOf t))) before after) where
-    pub cut-starts : {j : ℕ} → j ≡ getD lengths 3 0 → take (j + 1) (after .A .starts) ≡ augmented compact (problemOf t) .A .starts
-    cut-starts {j} e = front (a .A .starts) (before .A .starts) (j + 1) (h .a-starts) (omega (arith, e, starts-is))
-
-    pub cut-rows : {j : ℕ} → j ≡ getD lengths 5 0 → take j (after .A .rows) ≡ augmented compact (problemOf t) .A .rows
-    cut-rows {j} e = front (a .A .rows) (before .A .rows) j (h .a-rows) (e ∙ entries-is)
-
-    pub cut-values : {j : ℕ} → j ≡ getD lengths 5 0 → take j (after .A .values) ≡ augmented compact (problemOf t) .A .values
-    cut-values {j} e = front (a .A .values) (before .A .values) j (h .a-values) (e ∙ values-is)
-
-    pub cut-side : {j : ℕ} → j ≡ getD lengths 7 0 → take j (after .b) ≡ augmented compact (problemOf t) .b
-    cut-side {j} e = front (a .b) (before .b) j (h .b) (e ∙ side-is)
-
-    pub cut-cones : {j : ℕ} → j ≡ getD lengths 8 0 → take j (after .cones) ≡ augmented compact (problemOf t) .cones
-    cut-cones {j} e = front (a .cones) (before .cones) j (h .cones) (e ∙ cones-is)

@@ -1,88 +1,89 @@
--- The tables of the compact problem by the parts that their writer takes.
+-- The tables of the compact problem, from the pieces that their writer is passed.
 use Prim.Native.Nat.{ℕ, suc, _+_, _-_, _*_, _/_, _≤_}
 use native.Mathlib.Omega.{arith}
-use mathlib.Core.Path.{_≡_, refl, sym, ap, ap₂, _∙_}
+use mathlib.Core.Path.{_≡_, refl, sym, ap, ap₂, subst, _∙_}
 use mathlib.Core.Bool.{Bool, cond}
 use mathlib.Core.List.{List, _++_}
 use borrow.Author.Tests.{le-leb}
-use lib.ListN.{length, getD, take, drop, replicate, length-append, length-drop, length-replicate}
-use lib.Seq.{length-take-le}
+use lib.ListN.{length, getD, take, replicate, length-append, length-replicate}
 use lib.Dec.{lit<}
-use lib.Ieee.{Float}
-use Rattle.layout.specs.Lists.{part, written}
+use Rattle.layout.specs.Lists.{written}
 use Rattle.layout.specs.Answers.{orElse, roomRefusal, output, problemRefusal}
-use Rattle.layout.specs.File.{tables, Tables, bits, problemOf, fileOf, writeRefusal}
+use Rattle.layout.specs.File.{bitTables, BitTables, problemOf, fileOf, writeRefusal}
 use Rattle.layout.specs.FileWords.{pairsOf, wordsAt, wordTables}
 use Rattle.layout.specs.Calls.WriteFile.{WriteFile}
 use Rattle.layout.proofs.Buffers.{take-none}
 use Rattle.layout.proofs.FileWalks.{length-words-at, length-pairs}
-use Rattle.file_shape.specs.Parts.{Stands}
-use Rattle.file_parts.proofs.Doubles.{word-table, pattern-table}
-use Rattle.compact_tables.specs.Writers.{extendedTables}
+use Rattle.file_shape.specs.Parts.{WellShaped}
+use Rattle.file_views.specs.Views.{tableWords}
+use Rattle.file_views.proofs.Doubles.{table-words, table-pairs}
+use Rattle.compact_tables.specs.Writers.{extendedTables, Extends}
 use Rattle.compact_tables.proofs.Fronts.{front, front-zeros}
 
-module _ (ws : List ℕ) (ok : Stands ws) where
+module _ (ws : List ℕ) (ok : WellShaped ws) where
   stored : length (wordTables ws .pValues) ≡ getD ws 2 0
   stored = length-pairs (getD ws 2 0) (wordsAt ws 2 (2 * getD ws 2 0)) (length-words-at ws (4 * length ws) ok 2 (2 * getD ws 2 0) (lit< tt) (omega arith))
 
-  -- P's starts with those of the empty columns
-  pub starts-extended : (columns : ℕ) {n sP : ℕ} (old : List ℕ) {out : List ℕ} → n ≡ getD ws 0 0 → sP ≡ getD ws 8 0 / 4 → n ≤ columns
-      → out ≡ written (part sP (sP + (n + 1)) ws ++ replicate (columns - n) (getD ws 2 0)) old
+  pub starts-count : {src : List ℕ} → src ≡ tableWords ws 0 → length src ≡ suc (getD ws 0 0)
+  starts-count e =
+      ap length (e ∙ table-words ws 0 (suc (getD ws 0 0)) refl) ∙ length-words-at ws (4 * length ws) ok 0 (suc (getD ws 0 0)) (lit< tt) refl
+
+  -- P's starts, followed by those of the empty columns
+  pub starts-extended : (columns : ℕ) {n : ℕ} {src : List ℕ} (old : List ℕ) {out : List ℕ} → n ≡ wordTables ws .n → src ≡ tableWords ws 0 → n ≤ columns
+      → out ≡ written (src ++ replicate (columns - n) (getD ws 2 0)) old
       → take (columns + 1) out ≡ wordTables ws .pStarts ++ replicate (columns - wordTables ws .n) (length (wordTables ws .pValues))
-  starts-extended columns {n} {sP} old n= sP= l h =
-      let src = part sP (sP + (n + 1)) ws in
-      let same : src ≡ wordsAt ws 0 (suc (getD ws 0 0)) = word-table ws ok 0 (n + 1) (suc (getD ws 0 0)) sP sP= (omega (arith, n=)) in
-      let size : length src ≡ suc (getD ws 0 0) = ap length same ∙ length-words-at ws (4 * length ws) ok 0 (suc (getD ws 0 0)) (lit< tt) refl in
+  starts-extended columns {n} {src} old n= src= l h =
+      let same : src ≡ wordTables ws .pStarts = src= ∙ table-words ws 0 (suc (getD ws 0 0)) refl in
       front (src ++ replicate (columns - n) (getD ws 2 0)) old (columns + 1) h
-      (omega (arith, length-append src (replicate (columns - n) (getD ws 2 0)), length-replicate {A = ℕ} (columns - n) (getD ws 2 0), n=))
+      (omega (arith, length-append src (replicate (columns - n) (getD ws 2 0)), length-replicate {A = ℕ} (columns - n) (getD ws 2 0), starts-count src=, n=))
       ∙ (λ i. same i ++ replicate (columns - n= i) (sym stored i))
 
-  -- q with zeros
-  pub costs-extended : (columns : ℕ) {n q room : ℕ} {out : List ℕ} → n ≡ getD ws 0 0 → q ≡ getD ws 11 0 / 4 → n ≤ columns → columns ≤ room
-      → out ≡ written (pairsOf (part q (q + 2 * n) ws)) (replicate room 0)
+  -- the words of q
+  cost-words : {src : List ℕ} → src ≡ tableWords ws 3 → length src ≡ 2 * getD ws 0 0
+  cost-words e =
+      ap length (e ∙ table-words ws 3 (2 * getD ws 0 0) (omega arith))
+      ∙ length-words-at ws (4 * length ws) ok 3 (2 * getD ws 0 0) (lit< tt) (omega arith)
+
+  -- they are a whole number of doubles, for which there is room
+  pub costs-fit : {src : List ℕ} (room : ℕ) → src ≡ tableWords ws 3 → getD ws 0 0 ≤ room → (length src ≡ 2 * (length src / 2)) × (length src / 2 ≤ room)
+  costs-fit room e l = (omega (arith, cost-words e), omega (arith, cost-words e))
+
+  -- q followed by zeros
+  pub costs-extended : (columns : ℕ) {n room : ℕ} {src out : List ℕ} → n ≡ wordTables ws .n → src ≡ tableWords ws 3 → n ≤ columns → columns ≤ room
+      → out ≡ written (pairsOf src) (replicate room 0)
       → take columns out ≡ wordTables ws .q ++ replicate (columns - wordTables ws .n) 0
-  costs-extended columns {n} {q} {room} {out} n= q= l few h =
-      let twice : 2 * n ≡ 2 * getD ws 0 0 = omega (arith, n=) in
-      let src = pairsOf (part q (q + 2 * n) ws) in
-      let same : src ≡ wordTables ws .q = ap pairsOf (word-table ws ok 3 (2 * n) (2 * getD ws 0 0) q q= twice) in
-      let size : length src ≡ getD ws 0 0 =
-      ap length same
-      ∙ length-pairs (getD ws 0 0) (wordsAt ws 3 (2 * getD ws 0 0)) (length-words-at ws (4 * length ws) ok 3 (2 * getD ws 0 0) (lit< tt) (omega arith)) in
-      let split : columns ≡ length src + (columns - n) = omega (arith, n=) in
-      ap (λ (j : ℕ). take j out) split ∙ front-zeros src (columns - n) room (omega arith) h ∙ (λ i. same i ++ replicate (columns - n= i) 0)
+  costs-extended columns {n} {room} {src} {out} n= src= l few h =
+      let same : pairsOf src ≡ wordTables ws .q = ap pairsOf src= ∙ table-pairs ws 3 (getD ws 0 0) refl in
+      let size : length (pairsOf src) ≡ getD ws 0 0 = length-pairs (getD ws 0 0) src (cost-words src=) in
+      let split : columns ≡ length (pairsOf src) + (columns - n) = omega (arith, n=) in
+      ap (λ (j : ℕ). take j out) split ∙ front-zeros (pairsOf src) (columns - n) room (omega arith) h ∙ (λ i. same i ++ replicate (columns - n= i) 0)
 
-  -- all of them
-  pub extended-given : (columns : ℕ) (aStarts aRows : List ℕ) (aValues b : List Float) (cones : List ℕ)
-      {p alphas rP vP exponents : ℕ} {pStarts q entries side vs : List ℕ}
-      → vs ≡ pairsOf ws → p ≡ getD ws 2 0 → alphas ≡ getD ws 5 0 → rP ≡ getD ws 9 0 / 4 → vP ≡ getD ws 10 0 / 4 → exponents ≡ getD ws 17 0 / 4
+  -- all tables together
+  pub extended-given : (columns : ℕ) (aStarts aRows aValues b cones : List ℕ) {pStarts pRows pValues q alphas : List ℕ}
       → pStarts ≡ wordTables ws .pStarts ++ replicate (columns - wordTables ws .n) (length (wordTables ws .pValues))
-      → q ≡ wordTables ws .q ++ replicate (columns - wordTables ws .n) 0 → entries ≡ bits aValues → side ≡ bits b
-      → tables columns (length b) pStarts (part rP (rP + p) ws) (part (vP / 2) (vP / 2 + p) vs) q aStarts aRows entries side cones
-      (part (exponents / 2) (exponents / 2 + alphas) vs) 0 (take 0 ws)
+      → pRows ≡ tableWords ws 1 → pValues ≡ pairsOf (tableWords ws 2) → q ≡ wordTables ws .q ++ replicate (columns - wordTables ws .n) 0
+      → alphas ≡ pairsOf (tableWords ws 9)
+      → bitTables columns (length b) pStarts pRows pValues q aStarts aRows aValues b cones alphas 0 (take 0 ws)
       ≡ extendedTables (wordTables ws) columns aStarts aRows aValues b cones
-  extended-given columns aStarts aRows aValues b cones {p} {alphas} {rP} {vP} {exponents} v p= alphas= rP= vP= exponents= starts= q= entries= side= =
-      let e1 = word-table ws ok 1 p (getD ws 2 0) rP rP= p= in
-      let e2 = ap (part (vP / 2) (vP / 2 + p)) v ∙ pattern-table ws ok 2 p (getD ws 2 0) vP (lit< tt) vP= p= in
-      let e9 = ap (part (exponents / 2) (exponents / 2 + alphas)) v ∙ pattern-table ws ok 9 alphas (getD ws 5 0) exponents (lit< tt) exponents= alphas= in
-      λ i. tables columns (length b) (starts= i) (e1 i) (e2 i) (q= i) aStarts aRows (entries= i) (side= i) cones (e9 i) 0 (take-none ws i)
+  extended-given columns aStarts aRows aValues b cones starts= rows= values= q= alphas= =
+      let e1 = rows= ∙ table-words ws 1 (getD ws 2 0) refl in
+      let e2 = values= ∙ table-pairs ws 2 (getD ws 2 0) refl in
+      let e9 = alphas= ∙ table-pairs ws 9 (getD ws 5 0) refl in
+      λ i. bitTables columns (length b) (starts= i) (e1 i) (e2 i) (q= i) aStarts aRows aValues b cones (e9 i) 0 (take-none ws i)
 
--- ---- the writer, of tables that are not refused
+pub extends-as : {t : BitTables} {columns : ℕ} {aStarts aRows values values′ b b′ cones : List ℕ} → values ≡ values′ → b ≡ b′
+    → Extends t columns aStarts aRows values′ b′ cones → Extends t columns aStarts aRows values b cones
+extends-as {t} {columns} {aStarts} {aRows} {values} {values′} {b} {b′} {cones} e f h =
+    subst (λ (y : List ℕ). Extends t columns aStarts aRows values y cones) (sym f)
+    (subst (λ (x : List ℕ). Extends t columns aStarts aRows x b′ cones) (sym e) h)
 
-pub file-written : (t : Tables) {u : Tables} (before : List ℕ) {after : List ℕ} {r : ℕ} → u ≡ t → WriteFile u before after r
+-- ---- writing the file of tables that are not refused
+
+pub file-written : (t : BitTables) {u : BitTables} (before : List ℕ) {after : List ℕ} {r : ℕ} → u ≡ t → WriteFile u before after r
     → problemRefusal (problemOf t) ≡ 0 → length (fileOf t) ≤ length before → after ≡ written (fileOf t) before
 file-written t before e h passes room =
     let none : writeRefusal t (length before) ≡ 0 =
     ap (λ (k : ℕ). orElse k (roomRefusal (length (fileOf t)) (length before))) passes
     ∙ ap (λ (b : Bool). cond b 0 11) (le-leb (length (fileOf t)) (length before) room) in
-    let zero = h .number ∙ ap (λ (v : Tables). writeRefusal v (length before)) e ∙ none in
-    h .out ∙ ap₂ (λ (k : ℕ) (v : Tables). output k (fileOf v) before) zero e
-
--- ---- the doubles of a part of a file, from its words two and two
-
-pub pairs-fit : (ws : List ℕ) (at n room : ℕ) → at + 2 * n ≤ length ws → n ≤ room
-    → (length (part at (at + 2 * n) ws) ≡ 2 * (length (part at (at + 2 * n) ws) / 2)) × (length (part at (at + 2 * n) ws) / 2 ≤ room)
-pairs-fit ws at n room inside few =
-    let near : at + 2 * n - at ≡ 2 * n = omega arith in
-    let size : length (part at (at + 2 * n) ws) ≡ 2 * n =
-    ap (λ (j : ℕ). length (take j (drop at ws))) near ∙ length-take-le (2 * n) (drop at ws) (omega (arith, length-drop at ws)) in
-    (omega arith, omega arith)
+    let zero = h .number ∙ ap (λ (v : BitTables). writeRefusal v (length before)) e ∙ none in
+    h .out ∙ ap₂ (λ (k : ℕ) (v : BitTables). output k (fileOf v) before) zero e

@@ -1,4 +1,4 @@
--- Fronts of buffers: what was written to them last.
+-- Prefixes of buffers are what was written to them last.
 use Prim.Native.Nat.{ℕ, _+_, _-_, _≤_}
 use native.Mathlib.Omega.{arith}
 use mathlib.Core.Path.{_≡_, sym, ap, ap₂, _∙_}
@@ -14,15 +14,15 @@ module _ {A : Type 0} where
   pub front : (xs old : List A) (k : ℕ) {out : List A} → out ≡ written xs old → k ≡ length xs → take k out ≡ xs
   front xs old k {out} h e = ap (λ (j : ℕ). take j out) e ∙ front-read xs old h
 
--- patterns read as floats
+-- bit patterns written as floats
 pub front-floats : (xs : List ℕ) (old : List Float) (k : ℕ) {out : List Float} → out ≡ written (floats xs) old → k ≡ length xs → take k out ≡ floats xs
 front-floats xs old k h e = front (floats xs) old k h (e ∙ sym (length-map xs (ofBits binary64)))
 
--- and floats as patterns
+-- floats written as bit patterns
 pub front-bits : (vs : List Float) (old : List ℕ) {out : List ℕ} → out ≡ written (bits vs) old → take (length vs) out ≡ bits vs
 front-bits vs old h = front (bits vs) old (length vs) h (sym (length-map vs (toBits binary64)))
 
--- patterns written to a buffer of zeros, with k of the zeros
+-- bit patterns written to a buffer of zeros, followed by k of the zeros
 pub front-zeros : (xs : List ℕ) (k room : ℕ) {out : List ℕ} → length xs + k ≤ room → out ≡ written xs (replicate room 0)
     → take (length xs + k) out ≡ xs ++ replicate k 0
 front-zeros xs k room {out} l h =

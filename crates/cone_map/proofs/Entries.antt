@@ -1,4 +1,4 @@
--- Entries as structs and as words: read back from a map's words, and compared by them.
+-- Entries as structs and as words: reading them back from words, and comparing them by words.
 use Prim.Native.Nat.{ℕ, zero, suc, _+_, _*_, _<_}
 use native.Mathlib.Omega.{arith}
 use mathlib.Core.Path.{_≡_, refl, sym, ap, _∙_}
@@ -15,23 +15,23 @@ use Rattle.cone_map.specs.declared.ConeMapEntry.{ConeMapEntry}
 use Rattle.cone_map.specs.declared.TreeAndClique.{TreeAndClique}
 use Rattle.cone_map.specs.declared.TreeAndClique.the-variants.{None, In}
 use Rattle.layout.specs.Calls.JoinEntries.{sameEntry, sameMap}
-use Rattle.cone_map.specs.Entries.{placed, meant, structOf, patternWord, cliqueWord, structWords, allWords, treeOf, structAt}
+use Rattle.cone_map.specs.Entries.{entryOf, meant, structOf, patternWord, cliqueWord, structWords, allWords, treeOf, structAt}
 
 pub struct-meant : (e : ConeMapEntry) → structOf (meant e) ≡ e
 struct-meant e = go (e .«tree_and_clique»)
   where
-    go : (t : TreeAndClique) → structOf (placed (e .«orig_index») t (e .«first_row») (e .«row_count»))
+    go : (t : TreeAndClique) → structOf (entryOf (e .«orig_index») t (e .«first_row») (e .«row_count»))
         ≡ record { «orig_index» = e .«orig_index»; «tree_and_clique» = t; «first_row» = e .«first_row»; «row_count» = e .«row_count» }
     go None = refl
     go (In k c) = refl
 
--- ---- read back
+-- ---- reading back
 
 -- a struct from five words
 abbrev fromWords : List ℕ → ConeMapEntry
 fromWords ws = record { «orig_index» = getD ws 0 0; «tree_and_clique» = treeOf (getD ws 1 0) (getD ws 2 0); «first_row» = getD ws 3 0; «row_count» = getD ws 4 0 }
 
--- the pattern's number of entry k is below the mark
+-- the pattern number of entry k is below the no-pattern mark
 told-at : (es : List MapEntry) (k : ℕ) (d : MapEntry) → k < length es → Told es → Told (getD es k d ∷ [])
 told-at [] k d l h = absurd (omega arith)
 told-at (wholeCone i a n ∷ es) zero d l h = tt
@@ -55,7 +55,7 @@ read-back es k d l h =
     let e : k * 5 ≡ 5 * k = omega arith in
     at-drop (mapWords es) k ∙ ap (λ (j : ℕ). fromWords (drop j (mapWords es))) e ∙ ap fromWords (words-at es k d l) ∙ from-entry (getD es k d) (mapWords (drop (suc k) es)) (told-at es k d l h)
 
--- ---- compared by words
+-- ---- comparing by words
 
 two : (a b r : Bool) → (a && (b && r)) ≡ ((a && b) && r)
 two a b r = sym (and-assoc a b r)
@@ -89,7 +89,7 @@ same-entry y e us vs h = go (y .«tree_and_clique») e h
     S = sameNumbers us vs
 
     go : (t : TreeAndClique) (e : MapEntry) → Told (e ∷ [])
-        → sameNumbers ((i ∷ patternWord t ∷ cliqueWord t ∷ a ∷ n ∷ []) ++ us) (entryWords e ++ vs) ≡ (sameEntry (placed i t a n) e && S)
+        → sameNumbers ((i ∷ patternWord t ∷ cliqueWord t ∷ a ∷ n ∷ []) ++ us) (entryWords e ++ vs) ≡ (sameEntry (entryOf i t a n) e && S)
     go None (wholeCone j b o) h = three (eqb i j) (eqb a b) (eqb n o) S
     go None (blockOf j l d b o) h = rw (ne-eqb noPatternNumber l (λ q. omega (arith, h .0))) (and-false (eqb i j))
     go (In k c) (wholeCone j b o) h = mark (eqb k noPatternNumber)
@@ -106,7 +106,7 @@ same-entry y e us vs h = go (y .«tree_and_clique») e h
             rw differ (and-false (eqb i j) ∙ sym (ap (λ (b : Bool). b && S) (and-false (eqb i j))))
         mark false q = five (eqb i j) (eqb k l) (eqb c d) (eqb a b) (eqb n o) S
 
--- a map of structs and one of layout's are the same where their words are
+-- a map of structs and a map of layout's entries are equal where their words are equal
 pub words-same : (ys : List ConeMapEntry) (es : List MapEntry) → Told es → sameNumbers (allWords ys) (mapWords es) ≡ sameMap (map meant ys) es
 words-same [] [] h = refl
 words-same [] (wholeCone j b o ∷ es) h = refl

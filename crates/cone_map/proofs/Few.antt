@@ -1,24 +1,24 @@
--- A sound problem's map has at most 16,384 entries: a cone with v vertices has at least 8 v - 64 rows.
+-- The cone map of a sound problem has at most 16,384 entries, because a PSD cone with v vertices has at least 8 v - 64 rows.
 use Prim.Native.Nat.{ℕ, zero, suc, _+_, _*_, _≤_}
 use native.Mathlib.Omega.{arith}
-use mathlib.Core.Path.{_≡_, refl, ap}
+use mathlib.Core.Path.{_≡_}
 use mathlib.Core.Logic.{inl, inr}
 use mathlib.Core.List.{List, [], _∷_, map}
 use lib.ListN.{length}
 use Rattle.layout.specs.Lists.{sum}
 use Rattle.layout.specs.Triangle.{triangle}
-use Rattle.layout.specs.Cones.{Cone, records, rowCount}
-use Rattle.layout.specs.Patterns.{Pattern, patterns}
-use Rattle.layout.specs.Blocks.{Part, whole, cut, partsFrom, coneRows, coneCount}
+use Rattle.layout.specs.Cones.{records, rowCount}
+use Rattle.layout.specs.Patterns.{patterns}
+use Rattle.layout.specs.Blocks.{Part, whole, cut, coneRows, coneCount}
 use Rattle.layout.specs.Checks.{Sound, Laid}
 use Rattle.layout.specs.Compact.{coneMap}
 use Rattle.layout.specs.Answers.{joinedParts}
 use Rattle.layout.proofs.Tests.{lt-or-le}
 use Rattle.layout.proofs.Accepted.{sound-cone-count}
 use Rattle.layout.proofs.Triangles.{triangle-suc}
-use Rattle.layout.proofs.Laid.{sound-laid, sound-total}
+use Rattle.layout.proofs.Laid.{sound-laid, sound-total, parts-count}
 use Rattle.layout.proofs.Sizes.{map-count}
-use Rattle.blocks.proofs.Patterns.{cliques-few}
+use Rattle.layout.proofs.WordCounts.{cliques-few}
 
 side-few : (v : ℕ) → 8 * v ≤ triangle v + 64
 side-few zero = omega arith
@@ -32,10 +32,6 @@ parts-few row [] h = omega arith
 parts-few row (whole i c r ∷ ps) h = omega (arith, parts-few (row + rowCount c) ps (h .1))
 parts-few row (cut i r k p ∷ ps) h =
     omega (arith, parts-few (row + triangle (p .vertexCount)) ps (h .2), cliques-few p (h .1), side-few (p .vertexCount))
-
-parts-count : (i row k : ℕ) (cs : List Cone) (ps : List Pattern) → length (partsFrom i row k cs ps) ≡ length cs
-parts-count i row k [] ps = refl
-parts-count i row k (c ∷ cs) ps = ap suc (parts-count (suc i) (row + rowCount c) _ cs _)
 
 module _ {m : ℕ} {cones : List ℕ} {count : ℕ} {words : List ℕ} (h : Sound m cones count words) where
   pub map-few : length (coneMap (joinedParts cones count words)) ≤ 16384

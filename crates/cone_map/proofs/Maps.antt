@@ -1,4 +1,4 @@
--- What layout's `sameMap` says: the same map is an equal one.
+-- layout's `sameMap` holds exactly for equal maps.
 use mathlib.Core.Path.{_≡_, refl, sym, ap₂}
 use mathlib.Core.List.{List, [], _∷_}
 use mathlib.Core.Logic.{_↔_}

@@ -1,4 +1,4 @@
--- The cone map's entries: what a struct stands for among layout's, and its words.
+-- The cone map's entries as structs: the entry of layout that a struct represents, and its words.
 use Prim.Native.Nat.{ℕ, _+_, _*_}
 use mathlib.Core.Bool.{cond}
 use mathlib.Core.List.{List, [], _∷_}
@@ -10,14 +10,14 @@ use Rattle.cone_map.specs.declared.ConeMapEntry.{ConeMapEntry}
 use Rattle.cone_map.specs.declared.TreeAndClique.{TreeAndClique}
 use Rattle.cone_map.specs.declared.TreeAndClique.the-variants.{None, In}
 
--- ---- a struct and the entry that it stands for
+-- ---- structs and the entries that they represent
 
-abbrev pub placed : ℕ → TreeAndClique → ℕ → ℕ → MapEntry
-placed i None first rows = wholeCone i first rows
-placed i (In k c) first rows = blockOf i k c first rows
+abbrev pub entryOf : ℕ → TreeAndClique → ℕ → ℕ → MapEntry
+entryOf i None first rows = wholeCone i first rows
+entryOf i (In k c) first rows = blockOf i k c first rows
 
 abbrev pub meant : ConeMapEntry → MapEntry
-meant e = placed (e .«orig_index») (e .«tree_and_clique») (e .«first_row») (e .«row_count»)
+meant e = entryOf (e .«orig_index») (e .«tree_and_clique») (e .«first_row») (e .«row_count»)
 
 abbrev pub structOf : MapEntry → ConeMapEntry
 structOf (wholeCone i first rows) = record { «orig_index» = i; «tree_and_clique» = None; «first_row» = first; «row_count» = rows }
@@ -29,7 +29,7 @@ abbrev pub patternWord : TreeAndClique → ℕ
 patternWord None = noPatternNumber
 patternWord (In k c) = k
 
--- a pattern with the mark's number is told from none by a clique that none has
+-- the clique's word; for a pattern number equal to the no-pattern mark it is 1, which no entry without a pattern has
 abbrev pub cliqueWord : TreeAndClique → ℕ
 cliqueWord None = 0
 cliqueWord (In k c) = cond (eqb k noPatternNumber) 1 c
@@ -37,11 +37,11 @@ cliqueWord (In k c) = cond (eqb k noPatternNumber) 1 c
 abbrev pub structWords : ConeMapEntry → List ℕ
 structWords e = e .«orig_index» ∷ patternWord (e .«tree_and_clique») ∷ cliqueWord (e .«tree_and_clique») ∷ e .«first_row» ∷ e .«row_count» ∷ []
 
--- of a whole map
+-- the words of all entries of a map
 abbrev pub allWords : List ConeMapEntry → List ℕ
 allWords ys = join structWords ys
 
--- and back
+-- pattern and clique from their words
 abbrev pub treeOf : ℕ → ℕ → TreeAndClique
 treeOf k c = cond (eqb k noPatternNumber) None (In k c)
 

@@ -1,17 +1,17 @@
-// An entry of the cone map as a struct, and its five words.
+// An entry of the cone map as a struct, and its conversion from and to five words.
 ghost use mathlib.Core.Path.{_≡_};
 ghost use Prim.Native.Nat.{_+_, _*_, _≤_, _<_};
 ghost use lib.ListN.{length, getD};
 ghost use Rattle.cone_map.specs.Entries.{patternWord, cliqueWord, structWords, treeOf, structAt};
 use constants::entry;
 
-// The pattern and the clique of a block; a whole cone has none.
+// The pattern number and clique number of a block; `None` for an undecomposed cone.
 pub enum TreeAndClique {
     None,
     In(u32, u32),
 }
 
-// Where a new cone comes from, its first augmented row and its row count.
+// An entry of the cone map: the original cone that a new cone comes from, the block it is (if any), its first augmented row and its row count.
 pub struct ConeMapEntry {
     pub orig_index: u32,
     pub tree_and_clique: TreeAndClique,
@@ -29,7 +29,8 @@ impl TreeAndClique {
         }
     }
 
-    // 0 for none. Beside the mark no map has another clique, so a pattern with the mark's number gets one: it is not taken for none.
+    // Returns the clique's word, 0 for `None`. A pattern number equal to the no-pattern mark gets clique word 1, which no cone map has beside
+    // the mark, so that such an entry differs from `None`.
     fn clique(self) -> u32
         ensures { λ r. ⌜ r ≡ cliqueWord self ⌝ }
     {
@@ -44,7 +45,7 @@ impl TreeAndClique {
         }
     }
 
-    // Of a pattern's number, or the mark, and a clique's.
+    // Builds the value from a pattern's word, which may be the no-pattern mark, and a clique's word.
     fn of(pattern: u32, clique: u32) -> TreeAndClique
         ensures { λ r. ⌜ r ≡ treeOf pattern clique ⌝ }
     {
@@ -56,7 +57,7 @@ impl TreeAndClique {
 }
 
 impl ConeMapEntry {
-    // Word j.
+    // Returns word `j` of the entry: orig_index, pattern, clique, first row or row count.
     pub fn word(self, j: usize) -> u32
         requires { ⌜ j < 5 ⌝ }
         ensures { λ r. ⌜ r ≡ getD (structWords self) j 0 ⌝ }
@@ -77,7 +78,7 @@ impl ConeMapEntry {
         self.row_count
     }
 
-    // Entry k of a map's words.
+    // Reads entry `k` of a cone map's `words`.
     pub fn read(words: &[u32], k: usize) -> ConeMapEntry
         requires { ⌜ k * 5 + 5 ≤ length (now words) ⌝ }
         ensures { λ r. ⌜ r ≡ structAt (now (words .entry)) k ⌝ }

@@ -1,4 +1,4 @@
--- Entries and words written one after the other.
+-- Entries and words written one by one.
 use Prim.Native.Nat.{ℕ, suc, _+_, _-_, _*_, _/_, _%_, _<_, _≤_}
 use native.Mathlib.Omega.{arith}
 use mathlib.Core.Path.{_≡_, sym, ap, ap₂, _∙_}
@@ -16,7 +16,7 @@ use Rattle.cone_map.specs.declared.ConeMapEntry.{ConeMapEntry}
 use Rattle.cone_map.specs.Entries.{structAt, structWords, allWords}
 use Rattle.cone_map.proofs.Entries.{all-words-length}
 
--- ---- k entries of ws are written
+-- ---- the first k entries of ws written
 
 module _ (ws : List ℕ) (ys : List ConeMapEntry) where
   abbrev pub filled : ℕ → List ConeMapEntry
@@ -37,7 +37,7 @@ module _ (ws : List ℕ) (ys : List ConeMapEntry) where
 
 -- ---- words of entries
 
--- word w is a word of entry w / 5
+-- word w is word w % 5 of entry w / 5
 pub word-of : (ys : List ConeMapEntry) (w : ℕ) (d : ConeMapEntry) → w < length ys * 5 → getD (allWords ys) w 0 ≡ getD (structWords (getD ys (w / 5) d)) (w % 5) 0
 word-of [] w d l = absurd (omega arith)
 word-of (y ∷ ys) w d l = elim (lt-or-le w 5) [
@@ -52,7 +52,7 @@ word-of (y ∷ ys) w d l = elim (lt-or-le w 5) [
       getD-right (structWords y) (allWords ys) w 0 h ∙ word-of ys v d (omega arith) ∙ sym (ap₂ (λ (k j : ℕ). getD (structWords (getD (y ∷ ys) k d)) j 0) later same)
 ]
 
--- w words are written
+-- the first w words written
 module _ (ys : List ConeMapEntry) (old : List ℕ) where
   abbrev pub told : ℕ → List ℕ
   told w = written (take w (allWords ys)) old

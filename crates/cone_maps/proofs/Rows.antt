@@ -1,5 +1,6 @@
--- What walks by hand over entries share: entries as data and as an array's elements, where element k of a slice lies, entries taken out of a row, and k += 1.
-use mathlib.Core.Path.{_≡_, refl, sym, ap}
+-- Shared by the hand proofs over entries: entries as data and as array elements, the address of element k of a slice,
+-- taking one element out of a slice's memory, and k += 1.
+use mathlib.Core.Path.{_≡_, sym, ap}
 use Prim.Native.Nat.{ℕ, suc, _+_, _*_, _<_, _^_}
 use mathlib.Core.List.{List, [], _∷_}
 use lib.Dec.{T as Holds}
@@ -39,7 +40,7 @@ module _ {M : Type 1} {𝓤 : URA M} {H : Heap 𝓤} {A : Atoms 𝓤} {K : Type 
   element-at t s n k b o at e = equals t (ap (vptr b) (sym (place-is s o k))) (bin t {a = vptr b o} {b = vint w64 (k * s)} at (value t n e) tt)
 
 module _ {M : Type 1} {𝓤 : URA M} {H : Heap 𝓤} {A : Atoms 𝓤} {K : Type 0} {W : Given 𝓤 H A} {Γ : List (Item 𝓤)} where
-  -- the place of element k, of s bytes, of a slice at (b, o), by way of local i, in local j
+  -- the address of element k, of s bytes each, of a slice at (b, o): computed through local i, stored in local j
   pub indexes : K → (s k b o : ℕ) {E : Env 𝓤 H} {C : Calls 𝓤 H} {Λ : Loops 𝓤 H} {q : Post 𝓤 H} {rest : Body} {i j : ℕ} {x y : Operand} → Holds (lib.Dec.ltb s 18446744073709551616) → k * s < 2 ^ 64 → (n : ℕ)
       → Opd K W Γ E x (vint w64 k) → nth 𝓤 H A n Γ ≡ empty H E i → Holds (hasTy (spotOf 𝓤 H E i .0) (vint w64 (k * s)))
       → Opd K W (put 𝓤 H A n (full H E i (vint w64 (k * s))) Γ) E y (vptr b o) → nth 𝓤 H A n (put 𝓤 H A n (full H E i (vint w64 (k * s))) Γ) ≡ full H E i (vint w64 (k * s))

@@ -1,4 +1,4 @@
-// The cone map as a slice of entry structs, and as words. Both functions are proved by hand; what they do for one entry is in the functions that they call.
+// Converts the cone map between words and a slice of entry structs. Both functions are proved by hand; the work on one entry is in crate cone_map.
 ghost use mathlib.Core.Path.{_≡_};
 ghost use mathlib.Core.List.{map};
 ghost use Prim.Native.Nat.{_*_, _≤_};
@@ -8,7 +8,7 @@ ghost use Rattle.cone_map.specs.Entries.{allWords, structAt};
 use cone_map::ConeMapEntry;
 use constants::entry;
 
-// Writes the first `count` entries of a map's words.
+// Reads the first `count` entries of the cone map in `words` and writes them to the front of `entries`.
 pub fn write_entries(words: &[u32], count: usize, entries: &mut [ConeMapEntry])
     requires { ⌜ (count * 5 ≤ length (now words)) × (count ≤ length (now entries)) ⌝ }
     ensures { λ _. ⌜ now (entries .exit) ≡ written (map (structAt (now (words .entry))) (below count)) (now (entries .entry)) ⌝ }
@@ -20,7 +20,7 @@ pub fn write_entries(words: &[u32], count: usize, entries: &mut [ConeMapEntry])
     }
 }
 
-// Writes the first `count` words of entries.
+// Writes the first `count` words of `entries` (five words for each entry) to the front of `out`.
 pub fn write_words(entries: &[ConeMapEntry], count: usize, out: &mut [u32])
     requires { ⌜ (count ≤ length (now entries) * 5) × (count ≤ length (now out)) ⌝ }
     ensures { λ _. ⌜ now (out .exit) ≡ written (take count (allWords (now (entries .entry)))) (now (out .entry)) ⌝ }

@@ -1,4 +1,4 @@
-// An entry of the cone map, word by word.
+// The words of a cone map entry, by index.
 pub const ORIG_INDEX: usize = 0;
 
 pub const PATTERN: usize = 1;
@@ -11,5 +11,5 @@ pub const ROW_COUNT: usize = 4;
 
 pub const WORDS: usize = 5;
 
-// The pattern of an entry that is no block.
+// The pattern word of an entry whose cone is not decomposed.
 pub const NO_PATTERN: u32 = crate::NONE;

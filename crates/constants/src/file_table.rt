@@ -1,4 +1,4 @@
-// The tables of a problem file (docs/FILE.md), in their order.
+// The tables of a problem file (docs/FILE.md), in their order in the file.
 pub const P_STARTS: usize = 0;
 
 pub const P_ROWS: usize = 1;
@@ -23,7 +23,7 @@ pub const PATTERN_WORDS: usize = 10;
 
 pub const COUNT: usize = 11;
 
-// The bytes of a number and of a double.
+// The number of bytes of a u32 and of a double.
 pub const WORD_BYTES: usize = 4;
 
 pub const DOUBLE_BYTES: usize = 8;

@@ -1,4 +1,4 @@
-// The header of a problem file (docs/FILE.md), word by word: the counts, where each table begins, and the file's length.
+// The words of a problem file's header (docs/FILE.md), by index: the counts, the offset of each table, and the file's length.
 use crate::file_table;
 
 pub const N: usize = 0;

@@ -1,4 +1,4 @@
-// The numbers of document 01 that code tests, answers and counts by, each under one name. No function is declared here.
+// The numbers of document 01 that the code compares with, returns and counts by, each under one name. No function is declared here.
 pub mod entry;
 pub mod file_table;
 pub mod header;
@@ -8,8 +8,8 @@ pub mod refusal;
 pub mod route;
 pub mod scratch;
 
-// Stands for a parent or a pattern where there is none: CHORDAL_NONE of include/chordal.h.
+// Marks a clique without a parent, or a map entry without a pattern: CHORDAL_NONE of include/chordal.h.
 pub const NONE: u32 = 4294967295;
 
-// The outputs of the cut.
+// The number of outputs of the cut.
 pub const OUTPUTS: usize = 11;

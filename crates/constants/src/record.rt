@@ -1,2 +1,2 @@
-// A cone record: its kind and two sizes.
+// The number of words of a cone record: its kind and two sizes.
 pub const WORDS: usize = 3;

@@ -1,4 +1,4 @@
-// The refusal numbers, each that of the check that fails, by the names of include/chordal.h, where their meanings stand. 8 is not used.
+// The refusal numbers, each that of the check that fails, under the names of include/chordal.h, which explains them. 8 is not used.
 
 // No check fails.
 pub const DONE: u32 = 0;

@@ -1,14 +1,14 @@
-// The lengths of tables that hold whatever the limits let through.
+// The lengths of scratch buffers that are large enough for every problem within the limits.
 use crate::entry;
 use crate::limit;
 
-// By vertex, or by clique, of a pattern.
+// One element per vertex, or per clique, of a pattern.
 pub const VERTICES: usize = limit::PSD_SIZE as usize;
 
-// By original row.
+// One element per original row.
 pub const ROWS: usize = limit::ROWS as usize;
 
-// By augmented row.
+// One element per augmented row.
 pub const AUGMENTED_ROWS: usize = limit::AUGMENTED_ROWS as usize;
 
 // The words of a cone map.

@@ -1,4 +1,4 @@
-// A, b, the cones and the cone map of a whole problem that a route accepts, and the counts that its writers take.
+// Writes A, b, the cones and the cone map of a whole problem that a route accepts, and counts what the writers need.
 ghost use mathlib.Core.Path.{_≡_};
 ghost use Prim.Native.Nat.{_≤_};
 ghost use lib.ListN.{length};
@@ -13,12 +13,13 @@ ghost use Rattle.augment.specs.Fits.{ConstrainedFits};
 use constants::route;
 use tables::Table;
 
-// How many rows the blocks of a cut have, and how many columns the route adds.
+// The number of block rows of a cut, and the number of columns that the route adds.
 pub struct Added {
     pub rows: usize,
     pub columns: usize,
 }
 
+// Counts the block rows of accepted `cones` and patterns, and the columns that the route adds: one per block row, or one per overlap if compact.
 pub fn count_added(route: u32, m: u32, cones: &[u32], count: u32, words: &[u32]) -> Added
     requires { ⌜ Sound m (now cones) count (now words) ⌝ }
     ensures { λ r. ⌜ (r .rows ≡ blockRowCount (joinedParts (now (cones .entry)) count (now (words .entry)))) × (r .columns ≡ addedCount (routeOf route) (joinedParts (now (cones .entry)) count (now (words .entry)))) ⌝ }
@@ -36,7 +37,7 @@ pub fn count_added(route: u32, m: u32, cones: &[u32], count: u32, words: &[u32])
     }
 }
 
-// Writes A, b and the cones of the compact cut: of constraints that the route accepts, with `rows` augmented rows and k overlaps.
+// Writes A, b and the cones of the compact cut of accepted constraints, with `rows` augmented rows and `k` overlaps.
 pub fn decomp_augment_compact(
     n: u32,
     m: u32,
@@ -84,7 +85,7 @@ pub fn decomp_augment_compact(
     tables::write_table(Table::CompactCones, m, cones, count, words, cones_out);
 }
 
-// Writes A, b, the cones and the cone map on a route that adds k columns, where the blocks have `rows` rows. The standard route has no map.
+// Writes A, b, the cones and the cone map on a route that adds `k` columns, where the blocks have `rows` rows. The standard route has no map.
 pub fn write_constraints(
     route: u32,
     n: u32,

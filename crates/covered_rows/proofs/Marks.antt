@@ -1,4 +1,4 @@
--- A table by original row with rows marked: as a loop marks them, and what it says of each row.
+-- A table indexed by original row: marking rows step by step, and which rows are marked then.
 use Prim.Native.Nat.{ℕ, zero, suc, _+_, _-_, _≤_, _<_}
 use native.Mathlib.Omega.{arith}
 use mathlib.Core.Path.{_≡_, refl, sym, ap, _∙_}
@@ -18,12 +18,7 @@ use Rattle.layout.proofs.Tests.{passes, differ}
 use Rattle.blocks.specs.Vertices.{marked}
 use Rattle.covered_rows.specs.Covered.{rowsMarked, valuesMarked}
 
-pub length-marked : (os : List ℕ) (marks : List Bool) → length (marked true os marks) ≡ length marks
-unfolding marked
-length-marked [] marks = refl
-length-marked (o ∷ os) marks = length-marked os (set marks o true) ∙ length-set marks o true
-
--- ---- the rows left to mark
+-- ---- rows left to mark
 
 pub range-start : (first count : ℕ) (marks : List Bool) → marked true (upFrom (first + 0) (count - 0)) marks ≡ marked true (upFrom first count) marks
 range-start first count marks =
@@ -43,7 +38,7 @@ pub range-done : (first count i : ℕ) (marks : List Bool) → count ≤ i → m
 unfolding marked
 range-done first count i marks h = let e : count - i ≡ 0 = omega arith in rw e
 
--- ---- a row is marked if it was or is among the rows
+-- ---- a row is marked if it was marked before or is among the rows
 
 mark-one : (marks : List Bool) (o r : ℕ) → r < length marks → getD (set marks o true) r false ≡ (getD marks r false || eqb r o)
 mark-one marks o r h = go (eqb r o) refl
@@ -65,7 +60,7 @@ marked-at (o ∷ os) marks r h =
     marked-at os (set marks o true) r (omega (arith, length-set marks o true))
     ∙ rw (mark-one marks o r h) (or-assoc (getD marks r false) (eqb r o) (has r os))
 
--- in a cleared table the marked rows are those among the rows
+-- in a table that was all false, the marked rows are exactly the given rows
 pub cleared-at : (n : ℕ) (os : List ℕ) (r : ℕ) → r < n → getD (marked true os (replicate n false)) r false ≡ has r os
 cleared-at n os r h =
     marked-at os (replicate n false) r (omega (arith, length-replicate {A = Bool} n false))

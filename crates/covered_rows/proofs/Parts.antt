@@ -1,4 +1,4 @@
--- The original rows of the augmented rows, part by part.
+-- The covered rows, part by part.
 use Prim.Native.Nat.{ℕ, _+_}
 use mathlib.Core.Path.{_≡_, refl, sym, ap, ap₂, _∙_}
 use mathlib.Core.Bool.{Bool, true}
@@ -13,22 +13,19 @@ use Rattle.layout.proofs.Laid.{sound-laid}
 use Rattle.blocks.specs.Vertices.{marked}
 use Rattle.blocks.proofs.Laws.{marked-append}
 use Rattle.blocks.proofs.Patterns.{original-rows}
+use Rattle.layout.proofs.Orders.{kept-original}
 
 -- the original rows of a part's augmented rows
 abbrev pub partOriginals : Part → List ℕ
 partOriginals (whole i c row) = upFrom row (rowCount c)
 partOriginals (cut i row k p) = map originalRow (patternRows p row 0)
 
-kept-originals : (xs : List ℕ) → map originalRow (map kept xs) ≡ xs
-kept-originals [] = refl
-kept-originals (x ∷ xs) = ap (λ (r : List ℕ). x ∷ r) (kept-originals xs)
-
--- wherever the augmented rows start
+-- the covered rows do not depend on where the augmented rows start
 originals-from : (first row : ℕ) (ps : List Part) → Laid row ps → map originalRow (rowsFrom first ps) ≡ join partOriginals ps
 originals-from first row [] h = refl
 originals-from first row (whole i c r ∷ ps) h =
     map-append originalRow (map kept (upFrom r (rowCount c))) (rowsFrom (first + rowCount c) ps)
-    ∙ ap₂ {C = List ℕ} (λ xs ys. xs ++ ys) (kept-originals (upFrom r (rowCount c)))
+    ∙ ap₂ {C = List ℕ} (λ xs ys. xs ++ ys) (kept-original (upFrom r (rowCount c)))
     (originals-from (first + rowCount c) (row + rowCount c) ps (h .1))
 originals-from first row (cut i r k p ∷ ps) h =
     map-append originalRow (patternRows p r first) (rowsFrom (first + blockRows p) ps)
@@ -39,7 +36,7 @@ pub covered-parts : {m : ℕ} {cones : List ℕ} {count : ℕ} {words : List ℕ
     → let ps = parts (records cones) (patterns count words) in coveredRows ps ≡ join partOriginals ps
 covered-parts {m} {cones} {count} {words} h = originals-from 0 0 (parts (records cones) (patterns count words)) (sound-laid h .0)
 
--- the rows left to mark are those of the parts ahead
+-- after marking a part, the rows of the following parts are left
 pub part-step : (x : Part) (ps qs : List Part) (os : List ℕ) (marks : List Bool) → ps ≡ x ∷ qs → os ≡ partOriginals x
     → marked true (join partOriginals qs) (marked true os marks) ≡ marked true (join partOriginals ps) marks
 part-step x ps qs os marks e f =

@@ -1,4 +1,4 @@
--- The rows of a pattern are marked from the last clique to the first.
+-- The rows of a pattern, marked from the last clique to the first.
 use Prim.Native.Nat.{ℕ, suc, _-_, _≤_, _<_}
 use native.Mathlib.Omega.{arith}
 use mathlib.Core.Path.{_≡_, ap, _∙_}
@@ -16,7 +16,7 @@ down os c h l =
     ap (λ (k : ℕ). reverse (take k os)) e ∙ ap reverse (take-suc os (c - 1) 0 (omega arith))
     ∙ reverse-append (take (c - 1) os) (getD os (c - 1) 0 ∷ [])
 
--- the cliques left to mark are those before the c-th
+-- after marking the clique before index c, the cliques before that one are left
 pub down-step : (f : ℕ → List ℕ) (os : List ℕ) (c : ℕ) (marks : List Bool) → 0 < c → c ≤ length os
     → marked true (join f (reverse (take c os))) marks ≡ marked true (join f (reverse (take (c - 1) os))) (marked true (f (getD os (c - 1) 0)) marks)
 down-step f os c marks h l =

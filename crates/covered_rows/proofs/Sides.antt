@@ -1,4 +1,4 @@
--- The sides of a list, one after another, as a loop meets them, and their values on the covered rows.
+-- The right sides in a list, tested one by one, and their values in covered rows.
 use Prim.Native.Nat.{ℕ, suc, _+_, _-_, _*_, _≤_, _<_}
 use native.Mathlib.Nat.{mul-le-mul-right}
 use native.Mathlib.Omega.{arith}
@@ -15,7 +15,7 @@ use Rattle.blocks.specs.Vertices.{marked}
 use Rattle.covered_rows.specs.Covered.{valuesMarked, sidesMarked, sidesOn}
 use Rattle.covered_rows.proofs.Marks.{all-same, cleared-values}
 
--- ---- a test of the numbers from k to before last
+-- ---- a test of the numbers from k up to, not including, last
 
 module _ (test : ℕ → Bool) (k last : ℕ) where
   ahead : k < last → upFrom k (last - k) ≡ upFrom k (suc (last - (k + 1)))
@@ -42,7 +42,7 @@ side-length m k sides h =
     let e : k * m + m - k * m ≡ m = omega arith in
     length-take-le (k * m + m - k * m) (drop (k * m) sides) (omega (arith, length-drop (k * m) sides)) ∙ e
 
--- in a cleared table with the rows marked, the values of the sides stand on these rows
+-- in a table that was all false before marking the covered rows, the test by marks is the test by covered rows
 pub cleared-sides : (n : ℕ) (os : List ℕ) (m first last : ℕ) (sides : List Float) → m ≤ n → last * m ≤ length sides
     → sidesMarked (marked true os (replicate n false)) m first last sides ≡ sidesOn os m first last sides
 cleared-sides n os m first last sides room h =

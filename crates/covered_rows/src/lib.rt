@@ -1,4 +1,5 @@
-// Check 9: on the compact route, the stored entries of A and the values of b unequal to zero stand on rows that a clique covers.
+// Check 9: on the compact route, the stored entries of A and the nonzero values of b must be in covered rows. Covered are the rows of
+// undecomposed cones and those rows of decomposed cones that are in some clique's block.
 ghost use mathlib.Core.Path.{_≡_};
 ghost use Prim.Native.Nat.{suc, _+_, _*_, _≤_, _<_};
 ghost use mathlib.Core.Bool.{true, false, _&&_};
@@ -13,7 +14,7 @@ ghost use Rattle.layout.specs.Checks.{Sound, RightPattern, coveredRows};
 ghost use Rattle.supernode_tree.specs.Reads.{patternAt};
 ghost use Rattle.blocks.specs.Vertices.{marked};
 ghost use Rattle.blocks.specs.Columns.{columnPairs, ColumnsFit};
-ghost use Rattle.blocks.specs.Cliques.{Stands as CliqueStands, Standing, rowsHere};
+ghost use Rattle.blocks.specs.Cliques.{SortableClique as CliqueStands, SortableCliques, rowsHere};
 ghost use Rattle.covered_rows.specs.Covered.{BlockFits, MarksPattern, rowsMarked, valuesMarked, sidesMarked, entriesRight, sidesOn};
 use blocks::clique_vertices;
 use constants::scratch;
@@ -22,9 +23,9 @@ use parts::Place;
 use supernode_tree::Pattern;
 use supernode_tree::clique_offsets;
 
-// ---- the rows that stand on an augmented row are marked, in a table by original row
+// ---- marking the covered rows, in a table indexed by original row
 
-// Marks the rows of a cone that no pattern cuts.
+// Marks the `count` rows from `first` on, those of an undecomposed cone.
 fn mark_range(first: u32, count: u32, covered: &mut [bool])
     requires { ⌜ (first + count ≤ length (now covered)) × (first + count < 4294967296) ⌝ }
     ensures { λ _. ⌜ now (covered .exit) ≡ marked true (upFrom first count) (now (covered .entry)) ⌝ }
@@ -36,7 +37,7 @@ fn mark_range(first: u32, count: u32, covered: &mut [bool])
     }
 }
 
-// Marks the rows of a block's column j.
+// Marks the rows of column `j` of a block with these vertices, in a cone whose first row is `base`.
 fn mark_column(vertices: &[u32], j: usize, base: u32, covered: &mut [bool])
     requires { ⌜ (j < length (now vertices)) × T (rises (now vertices)) ⌝ }
     requires { ⌜ BlockFits base (suc (getD (now vertices) j 0)) (length (now covered)) ⌝ }
@@ -51,7 +52,7 @@ fn mark_column(vertices: &[u32], j: usize, base: u32, covered: &mut [bool])
     }
 }
 
-// Marks the rows of a block, column by column.
+// Marks the rows of a block with these vertices, column by column, in a cone whose first row is `base`.
 fn mark_block(vertices: &[u32], base: u32, covered: &mut [bool])
     requires { ⌜ T (rises (now vertices)) × ColumnsFit base (now vertices) 65536 × ColumnsFit base (now vertices) (length (now covered)) ⌝ }
     ensures { λ _. ⌜ now (covered .exit) ≡ marked true (map (pairRow base) (pairs (now (vertices .entry)))) (now (covered .entry)) ⌝ }
@@ -63,7 +64,7 @@ fn mark_block(vertices: &[u32], base: u32, covered: &mut [bool])
     }
 }
 
-// Marks the rows of the block of the clique at an offset.
+// Marks the rows of the block of the clique at offset `at`.
 fn mark_clique(words: &[u32], ordering: &[u32], at: usize, base: u32, covered: &mut [bool])
     requires { ⌜ CliqueStands (now words) (now ordering) at ⌝ }
     requires { ⌜ BlockFits base (length (now ordering)) (length (now covered)) ⌝ }
@@ -74,9 +75,9 @@ fn mark_clique(words: &[u32], ordering: &[u32], at: usize, base: u32, covered: &
     mark_block(&vertices[..k], base, covered);
 }
 
-// The same of the cliques at some offsets, from last to first.
+// Marks the rows of the blocks of the cliques at `offsets`, from last to first.
 fn mark_cliques(words: &[u32], ordering: &[u32], offsets: &[usize], base: u32, covered: &mut [bool])
-    requires { ⌜ Standing (now words) (now ordering) (now offsets) ⌝ }
+    requires { ⌜ SortableCliques (now words) (now ordering) (now offsets) ⌝ }
     requires { ⌜ BlockFits base (length (now ordering)) (length (now covered)) ⌝ }
     ensures { λ _. ⌜ now (covered .exit) ≡ marked true (join (rowsHere base (now (words .entry)) (now (ordering .entry))) (reverse (now (offsets .entry)))) (now (covered .entry)) ⌝ }
 {
@@ -87,7 +88,7 @@ fn mark_cliques(words: &[u32], ordering: &[u32], offsets: &[usize], base: u32, c
     }
 }
 
-// Marks the rows of the blocks of the pattern at an offset.
+// Marks the rows of all blocks of the pattern at offset `at`; `base` is its cone's first row.
 fn mark_pattern(words: &[u32], at: usize, base: u32, covered: &mut [bool])
     requires { ⌜ RightPattern (patternAt (now words) at) × (patternAt (now words) at .vertexCount ≤ 256) ⌝ }
     requires { ⌜ BlockFits base (patternAt (now words) at .vertexCount) (length (now covered)) ⌝ }
@@ -102,7 +103,7 @@ fn mark_pattern(words: &[u32], at: usize, base: u32, covered: &mut [bool])
     mark_cliques(words, &words[a..e], &offsets[..k], base, covered);
 }
 
-// Marks every row that stands on an augmented row.
+// Marks every covered row.
 fn mark_covered(m: u32, cones: &[u32], count: u32, words: &[u32], covered: &mut [bool])
     requires { ⌜ Sound m (now cones) count (now words) ⌝ }
     requires { ⌜ m ≤ length (now covered) ⌝ }
@@ -127,7 +128,7 @@ fn mark_covered(m: u32, cones: &[u32], count: u32, words: &[u32], covered: &mut 
     }
 }
 
-// The stored entries stand on marked rows.
+// Checks that the stored entries of A, with row indices `rows`, are in marked rows.
 fn entries_covered(covered: &[bool], rows: &[u32]) -> bool
     requires { ⌜ Below (length (now covered)) (now rows) ⌝ }
     ensures { λ r. ⌜ r ≡ rowsMarked (now (covered .entry)) (now (rows .entry)) ⌝ }
@@ -142,7 +143,7 @@ fn entries_covered(covered: &[bool], rows: &[u32]) -> bool
     true
 }
 
-// The values unequal to zero stand on marked rows; a NaN is unequal to zero.
+// Checks that the nonzero values of `b` are in marked rows; a NaN is nonzero.
 fn values_covered(covered: &[bool], b: &[f64]) -> bool
     requires { ⌜ length (now b) ≤ length (now covered) ⌝ }
     ensures { λ r. ⌜ r ≡ valuesMarked (now (covered .entry)) (now (b .entry)) ⌝ }
@@ -161,7 +162,8 @@ fn values_covered(covered: &[bool], b: &[f64]) -> bool
     true
 }
 
-// The same of the sides of m values, one after another, from side `first` to before side `last`.
+// Checks that the nonzero values are in marked rows for each right side from number `first` up to, not including, number `last`.
+// `sides` holds right sides of `m` values one after another.
 fn sides_covered(covered: &[bool], m: u32, sides: &[f64], first: u32, last: u32) -> bool
     requires { ⌜ (m ≤ length (now covered)) × (last * m ≤ length (now sides)) ⌝ }
     ensures { λ r. ⌜ r ≡ sidesMarked (now (covered .entry)) m first last (now (sides .entry)) ⌝ }
@@ -178,7 +180,7 @@ fn sides_covered(covered: &[bool], m: u32, sides: &[f64], first: u32, last: u32)
     true
 }
 
-// What check 9 asks of the entries of A and of b.
+// Makes check 9 on the entries of A and on `b`, over the table of marked rows.
 fn first_covered(covered: &[bool], a_rows: &[u32], b: &[f64]) -> bool
     requires { ⌜ Below (length (now covered)) (now «a_rows») × (length (now b) ≤ length (now covered)) ⌝ }
     ensures { λ r. ⌜ r ≡ (rowsMarked (now (covered .entry)) (now («a_rows» .entry)) && valuesMarked (now (covered .entry)) (now (b .entry))) ⌝ }
@@ -189,13 +191,13 @@ fn first_covered(covered: &[bool], a_rows: &[u32], b: &[f64]) -> bool
     values_covered(covered, b)
 }
 
-// Check 9 of A and b, and of the values of further sides.
+// The results of check 9: `first` on A and b, `further` on the values of further right sides.
 pub struct Covered {
     pub first: bool,
     pub further: bool,
 }
 
-// Makes check 9 on the compact route over a cleared table.
+// Makes check 9 on the compact route over the table `covered`, which must be all false.
 fn sides_right_by(
     m: u32,
     cones: &[u32],
@@ -223,8 +225,8 @@ fn sides_right_by(
     }
 }
 
-// Check 9 on the compact route, and its test of b's values on the further sides from `first` to before `last`: the covered rows are found
-// once. A small problem has a small table.
+// Makes check 9 on the compact route for A and `b`, and for the values of the right sides from `first` up to, not including, `last`.
+// Covered rows are marked once for all sides. A problem with at most 4,096 rows uses a smaller table.
 pub fn sides_right(
     m: u32,
     cones: &[u32],
@@ -271,7 +273,7 @@ pub fn sides_right(
     )
 }
 
-// Check 9 of a single right side.
+// Makes check 9 on the compact route for a single right side. Returns whether it passes.
 pub fn entries_right(
     m: u32,
     cones: &[u32],

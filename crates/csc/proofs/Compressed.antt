@@ -1,4 +1,4 @@
--- Compressed columns put one after the other, and the columns of a matrix with right starts before others.
+-- Concatenated lists of columns in compressed form, and a matrix followed by further columns.
 use Prim.Native.Nat.{ℕ, suc}
 use native.Mathlib.Nat.{le-refl, le-of-eq}
 use native.Mathlib.Omega.{arith}
@@ -16,17 +16,17 @@ use Rattle.layout.proofs.Columns.{RightStarts, starts-right, columns-sum}
 use Rattle.layout.proofs.Compressed.{totals, starts-append, own-rows, own-values, own-starts}
 use Rattle.csc.specs.Matrix.{ColumnsInside}
 
--- ---- columns put one after the other
+-- ---- concatenated columns
 
--- one field of the entries of columns put one after the other
+-- one field of the entries of concatenated columns
 pub fields-append : {X : Type 0} (field : Entry → X) (cs ds : List (List Entry))
     → map field (join (λ c. c) (cs ++ ds)) ≡ map field (join (λ c. c) cs) ++ map field (join (λ c. c) ds)
 fields-append field cs ds =
     ap (map field) (join-append (λ (c : List Entry). c) cs ds) ∙ map-append field (join (λ c. c) cs) (join (λ c. c) ds)
 
--- ---- a matrix's own columns
+-- ---- the columns of a matrix
 
--- right starts lie within the rows
+-- starts that pass check 2 lie within the rows
 pub columns-inside : (n : ℕ) (M : Csc) → T (startsRight n M) → ColumnsInside n (M .starts) (M .rows)
 columns-inside n M h =
     let right = starts-right n M h in
@@ -36,7 +36,7 @@ module _ (n : ℕ) (M : Csc) (right : RightStarts n M) where
   pub own-count : sum (map length (map (column M) (below n))) ≡ length (M .values)
   own-count = ap sum (map-map length (column M) (below n)) ∙ columns-sum n M right n (le-refl n) ∙ right .last ∙ right .even
 
-  -- and with columns ds after them
+  -- the starts of the matrix with columns ds after its own
   pub starts-beside : (ds : List (List Entry))
       → csc (map (column M) (below n) ++ ds) .starts ≡ M .starts ++ totals (length (M .values)) (map length ds)
   starts-beside ds =

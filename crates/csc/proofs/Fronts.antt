@@ -1,4 +1,4 @@
--- Tests of each element of a list with the one after it, as a loop from the front meets them.
+-- Tests of each element of a list against the next one, step by step from the front.
 use Prim.Native.Nat.{ℕ, zero, suc, _+_, _≤_, _<_}
 use native.Mathlib.Numerals.{add-one}
 use native.Mathlib.Omega.{arith}
@@ -14,7 +14,7 @@ use Rattle.layout.proofs.Members.{length-below}
 use Rattle.layout.proofs.Walks.{all-done}
 use Rattle.layout.proofs.Keeps.{drop-below}
 
--- each number and the one after it are so
+-- whether p holds of each number and the next one
 abbrev pub chained : (ℕ → ℕ → Bool) → List ℕ → Bool
 chained p [] = true
 chained p (x ∷ []) = true

@@ -1,4 +1,4 @@
--- The runs of a column, as loops meet them, and the columns of a matrix with its repeats added.
+-- The runs of a column, counted and searched step by step, and the columns of a matrix whose repeated entries are added.
 use Prim.Native.Nat.{ℕ, zero, suc, _+_, _-_, _≤_, _<_}
 use native.Mathlib.Nat.{le-of-eq}
 use native.Mathlib.Numerals.{add-one}
@@ -21,13 +21,13 @@ use Rattle.layout.proofs.Keeps.{below-more}
 use Rattle.layout.proofs.Starts.{sum-append, sum-take, length-starts, starts-at}
 use Rattle.layout.proofs.Compressed.{starts-append}
 use Rattle.layout.proofs.Columns.{RightStarts, column-rows, entry-count}
-use Rattle.layout.proofs.Repeats.{run-more, runs-few, summed-count, summed-column, right-summed}
+use Rattle.layout.proofs.Repeats.{run-more, runs-few, summed-count, summed-column}
 use Rattle.csc.specs.Matrix.{table, ColumnsInside}
 
--- ---- the run that holds a place
+-- ---- the run that contains an index
 
 module _ (rows : List ℕ) where
-  -- one place further to the front
+  -- one step towards the front
   pub first-step : (t k : ℕ) → t ≡ suc k → getD rows k 0 ≡ getD rows t 0 → runFirst rows t ≡ runFirst rows k
   first-step t k e same = ap (runFirst rows) e ∙ rw (eq-eqb (getD rows k 0) (getD rows (suc k) 0) (same ∙ ap (λ (i : ℕ). getD rows i 0) e))
 
@@ -35,7 +35,7 @@ module _ (rows : List ℕ) where
   first-done t k e n =
       ap (runFirst rows) e ∙ rw (ne-eqb (getD rows k 0) (getD rows (suc k) 0) (λ q. n (q ∙ ap (λ (i : ℕ). getD rows i 0) (sym e)))) (sym e)
 
-  -- one place further to the end
+  -- one step towards the end
   pub last-step : (t : ℕ) → t + 1 < length rows → getD rows (t + 1) 0 ≡ getD rows t 0 → runLast rows t ≡ runLast rows (t + 1)
   last-step t h e =
       let same : getD rows t 0 ≡ getD rows (suc t) 0 = sym e ∙ ap (λ (k : ℕ). getD rows k 0) (add-one t) in
@@ -51,7 +51,7 @@ module _ (rows : List ℕ) where
   last-end t h =
       ap (λ (rs : List ℕ). t + alike (getD rows t 0) rs) (drop-of-length-le rows {i = suc t} (omega arith)) ∙ omega arith
 
-  -- ---- how many runs there are from place i on
+  -- ---- the number of runs from index i on
 
   runs-at : (i : ℕ) → i + 1 < length rows
       → length (runs (drop i rows)) ≡ cond (eqb (getD rows i 0) (getD rows (suc i) 0)) 0 1 + length (runs (drop (i + 1) rows))
@@ -75,7 +75,7 @@ module _ (rows : List ℕ) where
   runs-last i h l =
       ap (λ (rs : List ℕ). length (runs rs)) (drop-cons rows i 0 h ∙ ap (λ (rs : List ℕ). getD rows i 0 ∷ rs) (drop-of-length-le rows {i = suc i} (omega arith)))
 
--- ---- columns one after the other
+-- ---- columns in order
 
 module _ (M : Csc) (c : ℕ) where
   counts-more : runCounts (c + 1) M ≡ runCounts c M ++ (length (runs (columnRows M c)) ∷ [])
@@ -103,7 +103,7 @@ count-le M c n h =
         let e : c + suc k ≡ c + k + 1 = omega arith in
         omega (arith, go k, ap (λ (i : ℕ). runCount i M) e, count-more M (c + k))
 
--- no more than there are entries before a column
+-- the columns before c have no more runs than entries
 pub count-few : {n : ℕ} (starts rows : List ℕ) → ColumnsInside n starts rows → (c : ℕ) → c ≤ n
     → (runCount c (table starts rows) ≤ getD starts c 0) × (runCount c (table starts rows) ≤ length rows)
 count-few starts rows h zero l = (omega arith, omega arith)
@@ -119,7 +119,7 @@ count-few starts rows h (suc c) l =
 pub length-run-starts : (n : ℕ) (M : Csc) → length (runStarts n M) ≡ suc n
 length-run-starts n M = length-starts 0 (runCounts n M) ∙ ap suc (length-map (below n) (λ c. length (runs (columnRows M c))) ∙ length-below n)
 
--- a list that is written from the first place on covers what was stored there
+-- writing a nonempty list hides a value stored at index 0 before
 pub first-over : {A : Type 0} (xs old : List A) (y : A) → 0 < length xs → written xs (set old 0 y) ≡ written xs old
 first-over [] old y h = absurd (omega arith)
 first-over (x ∷ xs) [] y h = refl
@@ -129,18 +129,15 @@ pub first-written : {A : Type 0} (old : List A) (y : A) → 0 < length old → s
 first-written [] y h = absurd (omega arith)
 first-written (z ∷ old) y h = refl
 
--- ---- the matrix with its repeats added
+-- ---- the matrix with repeated entries added
 
 module _ (n : ℕ) (M : Csc) where
-  -- a problem with this A: what is known of its sums does not ask for more
+  -- a problem with M as its A; the laws on sums use nothing else of it
   abbrev with-A : Problem
   with-A = problem n 0 [] [] [] [] (M .starts) (M .rows) (M .values) [] [] [] 0 []
 
   pub sums-column : (c : ℕ) → c < n → column (sums n M) c ≡ summed (column M c)
   sums-column c l = summed-column with-A c l
-
-  pub sums-right : RightStarts n (sums n M)
-  sums-right = right-summed with-A
 
   module _ (right : RightStarts n M) where
     widths : map length (map (λ c. summed (column M c)) (below n)) ≡ runCounts n M
@@ -155,7 +152,7 @@ module _ (n : ℕ) (M : Csc) where
     pub sums-count : length (sums n M .values) ≡ runCount n M
     sums-count = entry-count (map (λ c. summed (column M c)) (below n)) ∙ ap sum widths
 
--- where the runs of column c start
+-- the start of column c in run starts is the number of runs before it
 pub run-start : (n : ℕ) (M : Csc) (c : ℕ) → c ≤ n → getD (runStarts n M) c 0 ≡ runCount c M
 run-start n M zero l = starts-at 0 (runCounts n M) 0 0 (omega arith) ∙ omega arith
 run-start n M (suc c) l =

@@ -1,5 +1,5 @@
-// clarabel's algebra/csc/core.rs: checks 2 and 3 of one matrix of compressed columns, the runs of repeated rows in its columns, and
-// the writers that copy and extend its tables.
+// Matrices in compressed columns, as in clarabel's algebra/csc/core.rs: checks 2 and 3 of one matrix, runs of repeated rows in its columns,
+// and writers that copy and extend its tables.
 ghost use mathlib.Core.Path.{_≡_};
 ghost use mathlib.Core.List.{_++_};
 ghost use Prim.Native.Nat.{_+_, _≤_, _<_};
@@ -12,7 +12,7 @@ ghost use Rattle.layout.specs.Compact.{extendedP};
 ghost use Rattle.layout.specs.FileWords.{unvalued};
 ghost use Rattle.csc.specs.Matrix.{matrix, table, ColumnsInside};
 
-// Whether no number is below the one before it.
+// Checks that no number in `xs` is less than the one before it.
 fn never_falls(xs: &[u32]) -> bool
     ensures { λ r. ⌜ r ≡ neverFalls (now (xs .entry)) ⌝ }
 {
@@ -26,7 +26,7 @@ fn never_falls(xs: &[u32]) -> bool
     true
 }
 
-// Whether each number is above the one before it.
+// Checks that `rows` is strictly increasing.
 pub fn rise_strictly(rows: &[u32]) -> bool
     ensures { λ r. ⌜ r ≡ rises (now (rows .entry)) ⌝ }
 {
@@ -40,8 +40,8 @@ pub fn rise_strictly(rows: &[u32]) -> bool
     true
 }
 
-// Check 2 of a matrix with n columns and as many values as `entries`; clarabel's check_dimensions, which lets the first start be any
-// number. The values themselves are not looked at, and so are not asked for.
+// Makes check 2 on a matrix with `n` columns and `entries` values, as clarabel's check_dimensions does (which does not require the first
+// start to be 0). The check depends only on how many values there are, so the values are not passed.
 pub fn starts_right(n: u32, starts: &[u32], rows: &[u32], entries: usize) -> bool
     ensures { λ r. ⌜ r ≡ startsRight n (matrix (now (starts .entry)) (now (rows .entry)) (unvalued entries)) ⌝ }
 {
@@ -61,7 +61,7 @@ pub fn starts_right(n: u32, starts: &[u32], rows: &[u32], entries: usize) -> boo
     rows.len() == entries
 }
 
-// Whether the rows of each of the n columns rise.
+// Checks that the rows of each of the `n` columns are strictly increasing.
 fn columns_rise(n: u32, starts: &[u32], rows: &[u32]) -> bool
     requires { ⌜ ColumnsInside n (now starts) (now rows) ⌝ }
     ensures { λ r. ⌜ r ≡ all (λ c. rises (columnRows (table (now (starts .entry)) (now (rows .entry))) c)) (below n) ⌝ }
@@ -79,7 +79,7 @@ fn columns_rise(n: u32, starts: &[u32], rows: &[u32]) -> bool
     true
 }
 
-// Whether the rows of each of the n columns never fall.
+// Checks that the rows of each of the `n` columns never decrease; a row may repeat.
 fn columns_never_fall(n: u32, starts: &[u32], rows: &[u32]) -> bool
     requires { ⌜ ColumnsInside n (now starts) (now rows) ⌝ }
     ensures { λ r. ⌜ r ≡ all (λ c. neverFalls (columnRows (table (now (starts .entry)) (now (rows .entry))) c)) (below n) ⌝ }
@@ -97,7 +97,8 @@ fn columns_never_fall(n: u32, starts: &[u32], rows: &[u32]) -> bool
     true
 }
 
-// Check 3 of P, an m by n matrix that passes check 2; the rest of clarabel's check_format.
+// Makes check 3 on P: rows are below `m` and strictly increasing in each column, the rest of clarabel's check_format.
+// The matrix has passed check 2.
 pub fn rows_right(m: u32, n: u32, starts: &[u32], rows: &[u32]) -> bool
     requires { ⌜ ColumnsInside n (now starts) (now rows) ⌝ }
     ensures { λ r. ⌜ r ≡ rowsRight m n (table (now (starts .entry)) (now (rows .entry))) ⌝ }
@@ -108,7 +109,7 @@ pub fn rows_right(m: u32, n: u32, starts: &[u32], rows: &[u32]) -> bool
     columns_rise(n, starts, rows)
 }
 
-// Check 3 of A, which may repeat a row in a column.
+// Makes check 3 on A: rows are below `m` and never decrease in a column, where a row may repeat.
 pub fn rows_in_order(m: u32, n: u32, starts: &[u32], rows: &[u32]) -> bool
     requires { ⌜ ColumnsInside n (now starts) (now rows) ⌝ }
     ensures { λ r. ⌜ r ≡ rowsInOrder m n (table (now (starts .entry)) (now (rows .entry))) ⌝ }
@@ -120,15 +121,15 @@ pub fn rows_in_order(m: u32, n: u32, starts: &[u32], rows: &[u32]) -> bool
     columns_never_fall(n, starts, rows)
 }
 
-// ---- runs: places one after the other that hold the same row
+// ---- runs: maximal stretches of consecutive entries with the same row
 
-// The first and last place of a run.
+// The indices of the first and last entry of a run.
 pub struct Run {
     pub first: usize,
     pub last: usize,
 }
 
-// Finds the first place of the run that holds place `t`.
+// Finds the index of the first entry of the run that contains index `t`.
 fn first_place(rows: &[u32], t: usize) -> usize
     requires { ⌜ t < length (now rows) ⌝ }
     ensures { λ r. ⌜ r ≡ runFirst (now (rows .entry)) t ⌝ }
@@ -143,7 +144,7 @@ fn first_place(rows: &[u32], t: usize) -> usize
     first
 }
 
-// Finds the last place of the run that holds place `t`.
+// Finds the index of the last entry of the run that contains index `t`.
 fn last_place(rows: &[u32], t: usize) -> usize
     requires { ⌜ t < length (now rows) ⌝ }
     ensures { λ r. ⌜ r ≡ runLast (now (rows .entry)) t ⌝ }
@@ -158,7 +159,7 @@ fn last_place(rows: &[u32], t: usize) -> usize
     last
 }
 
-// Finds the run of one column that holds place `t`. clarabel's get_row_index answers its first place alone.
+// Finds the run, in the rows of one column, that contains index `t`. clarabel's get_row_index returns only its first entry.
 pub fn get_row_run(rows: &[u32], t: usize) -> Run
     requires { ⌜ t < length (now rows) ⌝ }
     ensures { λ r. ⌜ (r .first ≡ runFirst (now (rows .entry)) t) × (r .last ≡ runLast (now (rows .entry)) t) ⌝ }
@@ -187,7 +188,7 @@ pub fn count_runs(rows: &[u32]) -> usize
     count
 }
 
-// Counts the runs of `n` columns.
+// Counts the runs of all `n` columns.
 pub fn count_all_runs(n: u32, starts: &[u32], rows: &[u32]) -> usize
     requires { ⌜ ColumnsInside n (now starts) (now rows) × (length (now rows) ≤ 262144) ⌝ }
     ensures { λ r. ⌜ r ≡ runCount n (table (now (starts .entry)) (now (rows .entry))) ⌝ }
@@ -204,7 +205,8 @@ pub fn count_all_runs(n: u32, starts: &[u32], rows: &[u32]) -> usize
     count
 }
 
-// Writes the starts of `n` columns whose runs are one entry each, and answers how many entries these are.
+// Writes to `out` the column starts of the matrix in which each run of the `n` columns is merged into one entry.
+// Returns the number of entries of that matrix.
 pub fn write_run_starts(out: &mut [u32], n: u32, starts: &[u32], rows: &[u32]) -> u32
     requires { ⌜ ColumnsInside n (now starts) (now rows) × (length (now rows) ≤ 262144) × (n < length (now out)) ⌝ }
     ensures { λ r. ⌜ r ≡ runCount n (table (now (starts .entry)) (now (rows .entry))) ⌝ }
@@ -224,7 +226,7 @@ pub fn write_run_starts(out: &mut [u32], n: u32, starts: &[u32], rows: &[u32]) -
     count
 }
 
-// How many entries a matrix that passes check 2 has: its last start.
+// Returns the number of entries of a matrix that passes check 2, which is its last start.
 fn nnz(n: u32, starts: &[u32], rows: &[u32], values: &[f64]) -> u32
     requires { ⌜ T (startsRight n (matrix (now starts) (now rows) (now values))) ⌝ }
     ensures { λ r. ⌜ r ≡ length (now (values .entry)) ⌝ }
@@ -232,7 +234,7 @@ fn nnz(n: u32, starts: &[u32], rows: &[u32], values: &[f64]) -> u32
     starts[n as usize]
 }
 
-// Copies src to the front of out.
+// Copies `src` to the front of `out`.
 pub fn copy_numbers(out: &mut [u32], src: &[u32])
     requires { ⌜ length (now src) ≤ length (now out) ⌝ }
     ensures { λ _. ⌜ now (out .exit) ≡ written (now (src .entry)) (now (out .entry)) ⌝ }
@@ -244,7 +246,7 @@ pub fn copy_numbers(out: &mut [u32], src: &[u32])
     }
 }
 
-// Copies src to the front of out.
+// Copies `src` to the front of `out`.
 pub fn copy_values(out: &mut [f64], src: &[f64])
     requires { ⌜ length (now src) ≤ length (now out) ⌝ }
     ensures { λ _. ⌜ now (out .exit) ≡ written (now (src .entry)) (now (out .entry)) ⌝ }
@@ -256,7 +258,7 @@ pub fn copy_values(out: &mut [f64], src: &[f64])
     }
 }
 
-// Sets the first k numbers of out to v.
+// Sets the first `k` numbers of `out` to `v`.
 pub fn fill_numbers(out: &mut [u32], k: usize, v: u32)
     requires { ⌜ k ≤ length (now out) ⌝ }
     ensures { λ _. ⌜ now (out .exit) ≡ written (replicate k v) (now (out .entry)) ⌝ }
@@ -268,7 +270,7 @@ pub fn fill_numbers(out: &mut [u32], k: usize, v: u32)
     }
 }
 
-// Sets the first k values of out to v.
+// Sets the first `k` values of `out` to `v`.
 pub fn fill_values(out: &mut [f64], k: usize, v: f64)
     requires { ⌜ k ≤ length (now out) ⌝ }
     ensures { λ _. ⌜ now (out .exit) ≡ written (replicate k v) (now (out .entry)) ⌝ }
@@ -280,7 +282,7 @@ pub fn fill_values(out: &mut [f64], k: usize, v: f64)
     }
 }
 
-// Writes src and then v, k times.
+// Writes `src`, followed by `k` copies of `v`, to the front of `out`.
 pub fn extend_values(out: &mut [f64], src: &[f64], k: usize, v: f64)
     requires { ⌜ length (now src) + k ≤ length (now out) ⌝ }
     ensures { λ _. ⌜ now (out .exit) ≡ written (now (src .entry) ++ replicate k v) (now (out .entry)) ⌝ }
@@ -289,7 +291,7 @@ pub fn extend_values(out: &mut [f64], src: &[f64], k: usize, v: f64)
     fill_values(&mut out[src.len()..], k, v);
 }
 
-// Writes the starts of a matrix that passes check 2, with k empty columns more: each ends where the last one does.
+// Writes the starts of a matrix that passes check 2, extended by `k` empty columns; each of these ends where the last column ends.
 pub fn extend_starts(
     out: &mut [u32],
     n: u32,

@@ -1,5 +1,5 @@
 // Cuts a problem file (docs/FILE.md): reads it from standard input, and writes the compact problem as a file, or "refused " and a number, to
-// standard output. One byte more than a file may have is read, to see that it is too long.
+// standard output. One byte more than the longest file is read, so that a file that is too long is noticed.
 use libc::STDIN_FILENO;
 use libc::STDOUT_FILENO;
 

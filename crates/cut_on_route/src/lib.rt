@@ -1,7 +1,8 @@
-// The cut of an accepted problem at the front of the outputs; clarabel's `decomp_augment`.
+// The cut of a problem on either route; clarabel's `decomp_augment`.
 ghost use Rattle.layout.specs.Problem.{problem};
 ghost use Rattle.layout.specs.Calls.Cut.{outputs, Cut};
 
+// Cuts a problem on a route and writes the augmented one to the front of the outputs. Returns the refusal number, or 0.
 pub fn cut(
     route: u32,
     n: u32,

@@ -1,8 +1,8 @@
-// Cuts each sample file of data/ and holds what comes out to the file that is stored beside it (docs/FILE.md): a line for each.
+// Cuts each sample file of data/ and compares the result with the file stored beside it (docs/FILE.md): prints a line for each.
 ghost use Rattle.io.specs.Counts.{Counts};
 use libc::STDOUT_FILENO;
 
-// Reads the file `name` into `out`. Returns how many bytes it has, or as many as there is room for.
+// Reads the file `name` into `out`. Returns the number of bytes read: all, or as many as `out` has room for.
 fn load(name: &[u8], out: &mut [u8]) -> usize
     ensures { λ r. ⌜ Counts r (now (out .exit)) ⌝ }
 {
@@ -12,7 +12,7 @@ fn load(name: &[u8], out: &mut [u8]) -> usize
     length
 }
 
-// Cuts the file `name`, and tells whether that gives the bytes of the file `stored`.
+// Cuts the file `name`, and prints whether the result has the bytes of the file `stored`.
 fn cut_sample(name: &[u8], stored: &[u8]) {
     let mut file = [0u8; 8193];
     let length = load(name, &mut file);

@@ -1,9 +1,11 @@
-// The compact cut with a low and a high value for each b, both carried to the same places.
+// The compact cut of a problem whose b is known only within limits (Q-8).
 ghost use Rattle.layout.specs.Problem.{problem};
 ghost use Rattle.layout.specs.Calls.Cut.{outputs};
 ghost use Rattle.layout.specs.Calls.CutBetween.{limits, CutBetween};
 use constants::route;
 
+// Cuts a problem on the compact route with the right sides `low` and `high`, and writes both augmented b, value by value to the same rows. Returns
+// the refusal number, or 0.
 pub fn cut_between(
     n: u32,
     m: u32,
@@ -116,7 +118,7 @@ pub fn cut_between(
         pattern_count,
         pattern_words,
         d.rows,
-        high, // over the rows of low
+        high, // over the same augmented rows as low
         1,
         b_high_out,
     );

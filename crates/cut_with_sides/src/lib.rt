@@ -1,9 +1,11 @@
-// The compact cut of one problem with many right sides: everything but b once, and each augmented b in turn.
+// The compact cut of one problem with several right sides (Q-1).
 ghost use Rattle.layout.specs.Problem.{problem};
 ghost use Rattle.layout.specs.Calls.Cut.{outputs};
 ghost use Rattle.layout.specs.Calls.CutMany.{CutMany};
 use constants::route;
 
+// Cuts a problem with `count` right sides, one after another in `b`, on the compact route: writes everything but b once, and the augmented b of each
+// side in turn. Returns the refusal number, or 0.
 pub fn cut_many(
     count: u32,
     n: u32,

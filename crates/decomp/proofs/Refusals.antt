@@ -1,4 +1,4 @@
--- The number of the sizes, as checks 1 to 7, those of the route and the room give it, and what an accepted problem's counts say.
+-- The refusal number of `sizes` from checks 1 to 7, the route's checks and the output length, and bounds on the counts of an accepted problem.
 use Prim.Native.Nat.{ℕ, _≤_}
 use mathlib.Core.Path.{_≡_, sym, ap, _∙_}
 use mathlib.Core.Bool.{Bool}
@@ -17,7 +17,7 @@ use Rattle.chordal_info.proofs.Sizes.{route-sizes}
 use Rattle.chordal_info.proofs.Counts.{accepted-fitting}
 use Rattle.decomp.proofs.Answers.{on-route}
 
--- what checks 9 and 10 answer
+-- the first failing one of checks 9 and 10, or 0
 abbrev pub later : Route → Problem → ℕ
 later route p = firstFailing (routeTests route (p .m) (p .A .rows) (p .b) (layout p))
 
@@ -43,14 +43,14 @@ module _ (k : ℕ) (p : Problem) (room : ℕ) (l : k ≤ 1) where
   pub stopped-late : (x : ℕ) → problemRefusal p ≡ 0 → x ≡ later (routeOf k) p → (x ≡ 0 → ⊥) → x ≡ onRoute k (λ rt. sizesRefusal rt p room)
   stopped-late x z e h = stopped x (refused-late (routeOf k) p z ∙ sym e) h
 
-  -- none does
+  -- none of them fails
   pub by-room : refusal (routeOf k) p ≡ 0 → onRoute k (λ rt. sizesRefusal rt p room) ≡ roomRefusal 11 room
   by-room e = on-route k (λ rt. sizesRefusal rt p room) l ∙ ap (λ (r : ℕ). orElse r (roomRefusal 11 room)) e
 
 pub accepted : (route : Route) (p : Problem) (x : ℕ) → problemRefusal p ≡ 0 → x ≡ later route p → x ≡ 0 → refusal route p ≡ 0
 accepted route p x z e h = refused-late route p z ∙ sym e ∙ h
 
--- counts of the blocks' rows, their overlaps and the new cones
+-- bounds on the counts of block rows, overlaps and new cones
 module _ (route : Route) (p : Problem) (ok : refusal route p ≡ 0) (rows overlaps cones : ℕ)
     (e : rows ≡ blockRowCount (layout p)) (f : overlaps ≡ overlapCount (layout p)) (g : cones ≡ coneCount (layout p)) where
   pub counts-fit : Fitting route (p .n) (p .m) (entriesKept route (p .n) (p .A .starts) (p .A .rows)) rows overlaps cones

@@ -9,7 +9,7 @@ use Rattle.layout.specs.Problem.{Problem, standard, compact}
 use Rattle.layout.specs.Checks.{refusal}
 use Rattle.layout.specs.Answers.{orElse, output, onRoute, routeOf, roomy, sizes, sizesRefusal, cutRefusal}
 
--- a problem that the sizes refuse is refused by the same number
+-- a problem that `sizes` refuses is refused by the cut under the same number
 after-sizes : (a : ℕ) (t : Bool) → (orElse a 0 ≡ 0 → ⊥) → orElse a (cond t 0 11) ≡ orElse a 0
 after-sizes zero t h = absurd (h refl)
 after-sizes (suc a) t h = refl
@@ -33,7 +33,7 @@ module _ (p : Problem) (rooms : List ℕ) where
   next (suc zero) h = passed-first (refusal compact p) (roomy (sizes compact p) rooms) h
   next (suc (suc k)) h = absurd (omega arith)
 
-  -- the sizes were written over the needs
+  -- `needs` has the sizes
   pub rooms-next : (k x : ℕ) (needs : List ℕ) → x ≡ onRoute k (λ rt. sizesRefusal rt p 11) → x ≡ 0 → needs ≡ output x (sizes (routeOf k) p) (replicate 11 0)
       → cond (roomy needs rooms) 0 11 ≡ onRoute k (λ rt. cutRefusal rt p rooms)
   rooms-next k x needs e z w =

@@ -1,4 +1,4 @@
-// The sizes on either route, and the refusals of the cut: 0 standard, 1 compact.
+// The sizes of the cut's outputs on either route, and the refusals of the cut. Route 0 is the standard one, 1 the compact one.
 ghost use mathlib.Core.Path.{_≡_};
 ghost use Rattle.layout.specs.Problem.{problem};
 ghost use Rattle.layout.specs.Answers.{onRoute, cutRefusal};
@@ -7,7 +7,8 @@ use constants::OUTPUTS;
 use constants::refusal;
 use constants::route;
 
-// The length of each output of the cut, after checks 1 to 11. The blocks are counted once for check 10 and the lengths.
+// Writes the length of each output of the cut to `out`, after checks 1 to 11. The blocks are counted once, for check 10 and the lengths. Returns
+// the refusal number, or 0.
 pub fn sizes(
     route: u32,
     n: u32,
@@ -78,7 +79,7 @@ pub fn sizes(
     refusal::DONE
 }
 
-// Checks 1 to 11 of the cut in order: the number of the first that fails, or 0.
+// Makes checks 1 to 11 of the cut in order, for outputs of the lengths `rooms`. Returns the number of the first that fails, or 0.
 pub fn refuse_cut(
     route: u32,
     n: u32,

@@ -1,5 +1,4 @@
--- Both routes mean one problem, on what is written: the equations read off the outputs of a standard cut and those read off the
--- outputs of a compact one.
+-- Q-13, that both routes mean one problem, on the written outputs: the equations of the outputs of a standard cut and of a compact cut.
 use Prim.Native.Nat.{ℕ, _+_}
 use native.Mathlib.Omega.{arith}
 use mathlib.Core.Path.{_≡_, sym, ap, subst₂, _∙_}
@@ -24,14 +23,14 @@ use Rattle.decomp_augment.specs.Equations.{writtenA, writtenB}
 use Rattle.decomp_augment.specs.BothRoutes.{OneProblemAs}
 use Rattle.decomp_augment.proofs.Demand3.{written-A, written-b, cut-accepted}
 
--- a choice for equations that say the same
+-- exactly one choice for P means exactly one for an equivalent Q
 one-as : (k : ℕ) (P Q : List ℤ → Type 0) → ((y : List ℤ) → P y ↔ Q y) → ExactlyOne k P ↔ ExactlyOne k Q
 one-as k P Q h = (
   λ (y, e, m, alone). (y, e, h y .0 m, λ z f n. alone z f (h z .1 n)),
   λ (y, e, m, alone). (y, e, h y .1 m, λ z f n. alone z f (h z .0 n)),
 )
 
--- over the definitions: the cuts' own A and b
+-- the statement for the A and b that the definitions of the cuts give
 defined : (p : Problem) → refusal standard p ≡ 0 → refusal compact p ≡ 0 → T (withoutRepeats p) → StoredFinite p
     → OneProblemAs p (standardA p) (standardB p) (compactA p) (compactB p)
 defined p standard-ok compact-ok once stored d z x t e g =
@@ -42,7 +41,7 @@ defined p standard-ok compact-ok once stored d z x t e g =
     (Iff·trans (both-routes p standard-ok compact-ok once stored d z x t e (g ∙ rows₁))
     (one-as _ _ _ (λ y. (λ m r l. m r (omega (arith, l, rows₁)), λ m r l. m r (omega (arith, l, rows₁))))))
 
--- Both routes mean one problem, of what a standard and a compact cut of it that answer 0 leave in their outputs.
+-- Both routes mean one problem, for the outputs of a standard cut and of a compact cut that both return 0.
 pub both-routes-written : (p : Problem) (before₀ after₀ before₁ after₁ : Augmented) → Cut 0 p before₀ after₀ 0 → Cut 1 p before₁ after₁ 0
     → T (withoutRepeats p) → StoredFinite p
     → OneProblemAs p (writtenA standard p after₀) (writtenB standard p after₀) (writtenA compact p after₁) (writtenB compact p after₁)

@@ -1,4 +1,4 @@
--- Demand 3 on what is written: the equations read off the outputs of a compact cut have exactly the original's solutions.
+-- Demand 3 on the written outputs: the equations of a compact cut's outputs have exactly the original problem's solutions.
 use Prim.Native.Nat.{ℕ}
 use native.Mathlib.Omega.{arith}
 use mathlib.Core.Path.{_≡_, sym, ap, subst₂, _∙_}
@@ -21,7 +21,7 @@ use Rattle.decomp_augment.specs.Equations.{writtenA, writtenB, SameSolut
 pub matrix-same : (M N : Csc) → M .starts ≡ N .starts → M .rows ≡ N .rows → M .values ≡ N .values → M ≡ N
 matrix-same M N e f g = λ i. record { starts = e i; rows = f i; values = g i }
 
--- over the definitions: the cut's own A and b
+-- the statement for the A and b that the definition of the cut gives
 defined : (p : Problem) → refusal compact p ≡ 0 → AllFinite p → SameSolutionsAs p (compactA p) (compactB p)
 defined p ok finite =
     let h = demand3 p ok finite in
@@ -33,7 +33,7 @@ defined p ok finite =
       reached = λ d z x s e g m. let some = h .reached d z x s e g m in (some .0, some .1 ∙ sym rows, some .2);
     }
 
--- A and b at the fronts of the outputs of a cut that answers 0 are the cut's own
+-- the outputs of a cut that returns 0 begin with the A and b of its definition
 module _ (k : ℕ) (p : Problem) (before after : Augmented) (cut : Cut k p before after 0) where
   pub written-A : writtenA (routeOf k) p after ≡ augmented (routeOf k) p .A
   written-A =
@@ -48,7 +48,7 @@ module _ (k : ℕ) (p : Problem) (before after : Augmented) (cut : Cut k p befor
   pub cut-accepted : refusal (routeOf k) p ≡ 0
   cut-accepted = taken k p (lengths before) (sym (cut .number)) .1 .0
 
--- Demand 3 of what a compact cut that answers 0 leaves in its outputs.
+-- Demand 3 for the outputs of a compact cut that returns 0.
 pub demand3-written : (p : Problem) (before after : Augmented) → Cut 1 p before after 0 → AllFinite p
     → SameSolutionsAs p (writtenA compact p after) (writtenB compact p after)
 demand3-written p before after cut finite =

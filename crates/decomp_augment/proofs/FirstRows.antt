@@ -1,5 +1,5 @@
--- The cone map on what is written: an entry's first row is the number of rows before it, the row counts add up to the rows of b, and b has an entry's rows
--- from its first row on.
+-- The cone map on the written outputs: an entry's first row is the number of rows before it, the row counts sum to the rows of b, and
+-- the rows of an entry's block are in b from its first row on.
 use Prim.Native.Nat.{ℕ, zero, suc, _+_, _*_, _<_, _≤_}
 use native.Mathlib.Omega.{arith}
 use mathlib.Core.Path.{_≡_, refl, sym, ap, ap₂, _∙_}
@@ -16,7 +16,7 @@ use Rattle.layout.specs.Answers.{Augmented, lengths}
 use Rattle.layout.specs.Calls.Cut.{Cut}
 use Rattle.layout.proofs.Buffers.{front-read}
 use Rattle.layout.proofs.Members.{has-below}
-use Rattle.layout.proofs.Joins.{map-same}
+use Rattle.layout.proofs.Joins.{map-same, take-map}
 use Rattle.layout.proofs.Starts.{part-at, written-front}
 use Rattle.layout.proofs.Sizes.{map-count, entries-length, compact-sizes}
 use Rattle.layout.proofs.Laid.{sound-laid}
@@ -25,12 +25,6 @@ use Rattle.layout.proofs.Accepted.{accepted-sound}
 use Rattle.layout.proofs.ConeMap.{entryFirst, entryRows, blocksFrom, first-word, rows-word, first-at, rows-sum, block-at}
 use Rattle.decomp_augment.specs.Equations.{writtenB}
 
--- a part of a mapped list
-take-map : {A B : Type 0} (f : A → B) (n : ℕ) (xs : List A) → take n (map f xs) ≡ map f (take n xs)
-take-map f zero xs = refl
-take-map f (suc n) [] = refl
-take-map {B = B} f (suc n) (x ∷ xs) = ap (λ (ys : List B). f x ∷ ys) (take-map f n xs)
-
 part-map : {A B : Type 0} (f : A → B) (n a : ℕ) (xs : List A) → take n (drop a (map f xs)) ≡ map f (take n (drop a xs))
 part-map f n zero xs = take-map f n xs
 part-map f zero (suc a) [] = refl
@@ -38,7 +32,7 @@ part-map f (suc n) (suc a) [] = refl
 part-map f n (suc a) (x ∷ xs) = part-map f n a xs
 
 module _ (p : Problem) (before after : Augmented) (cut : Cut 1 p before after 0) where
-  -- words 5 k + 3 and 5 k + 4 of the written map
+  -- first row and row count of entry k: words 5 k + 3 and 5 k + 4 of the written map
   abbrev pub firstRow : ℕ → ℕ
   firstRow k = getD (after .map) (5 * k + 3) 0
 
@@ -77,18 +71,18 @@ module _ (p : Problem) (before after : Augmented) (cut : Cut 1 p before after 0)
       (λ j h. rows-is j (omega (arith, has-below j k .0 h)) ∙ sym (List·getD-map entryRows entries j (wholeCone 0 0 0)))
       ∙ part-at 0 (map entryRows entries) 0 k (omega (arith, length-map entries entryRows, map-count 0 (layout p)))
 
-  -- an entry's first row is the sum of the row counts before it
+  -- the first row of an entry is the sum of the row counts before it
   pub first-written : (k : ℕ) → k < coneCount (layout p) → firstRow k ≡ sum (map rowCount (below k))
   first-written k l = first-is k l ∙ first-at (layout p) k (wholeCone 0 0 0) (inside k l) ∙ ap sum (sym (counts-are k (omega arith)))
 
-  -- all of them are the rows of b
+  -- the row counts of all entries sum to the length of b
   pub rows-written : sum (map rowCount (below (coneCount (layout p)))) ≡ length (writtenB compact p after)
   rows-written =
       let n = coneCount (layout p) in
       ap sum (counts-are n (omega arith) ∙ take-all n (map entryRows entries) (omega (arith, length-map entries entryRows, map-count 0 (layout p))))
       ∙ rows-sum (layout p) ∙ sym (ap (λ (ks : List ℕ). getD ks 7 0) (compact-sizes p accepted)) ∙ sym (ap length b-is)
 
-  -- b has the rows of an entry's block from its first row on
+  -- b holds the values of an entry's block from its first row on
   pub block-written : (k : ℕ) → k < coneCount (layout p)
       → take (rowCount k) (drop (firstRow k) (writtenB compact p after)) ≡ map (rowValue (p .b)) (getD (blocksFrom 0 (layout p)) k [])
   block-written k l =

@@ -1,4 +1,4 @@
--- Demand 3 on what is written, where the original has no columns: x is empty, and only slacks and added unknowns take part.
+-- Demand 3 on the written outputs where the original problem has no columns: x is empty, only slacks and added unknowns take part.
 use Prim.Native.Nat.{ℕ, _<_}
 use mathlib.Core.Path.{_≡_, sym}
 use mathlib.Core.List.{List, []}
@@ -14,7 +14,7 @@ use Rattle.decomp_augment.specs.Equations.{writtenA, writtenB, Meets}
 use Rattle.decomp_augment.proofs.Demand3.{demand3-written}
 
 module _ (p : Problem) (before after : Augmented) (cut : Cut 1 p before after 0) (finite : AllFinite p) (none : p .n ≡ 0) (d : ℕ) (z : 0 < d) where
-  -- slacks whose sums meet the original equations have exactly one choice of the added unknowns, others have none
+  -- slacks whose sums meet the original equations have exactly one choice of the added unknowns; other slacks have none
   pub empty-solved : (s : List ℤ) → length s ≡ length (writtenB compact p after) → MeetsOriginal p d [] (slackSums p s)
       → ExactlyOne (overlapCount (layout p)) (λ y. Meets (writtenA compact p after) (writtenB compact p after) p d [] y s)
   empty-solved s l m = demand3-written p before after cut finite .solved d z [] s (sym none) l m
@@ -23,7 +23,7 @@ module _ (p : Problem) (before after : Augmented) (cut : Cut 1 p before after 0)
       → (y : List ℤ) → length y ≡ overlapCount (layout p) → Meets (writtenA compact p after) (writtenB compact p after) p d [] y s → ⊥
   empty-unsolved s l n y k m = demand3-written p before after cut finite .unsolved d z [] s (sym none) l n y k m
 
-  -- slacks that meet the original equations are sums of some
+  -- slacks that meet the original equations are sums of some augmented slacks
   pub empty-reached : (s : List ℤ) → length s ≡ p .m → MeetsOriginal p d [] s
       → (t : List ℤ) × (length t ≡ length (writtenB compact p after)) × (slackSums p t ≡ s)
   empty-reached s l m = demand3-written p before after cut finite .reached d z [] s (sym none) l m

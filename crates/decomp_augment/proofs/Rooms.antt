@@ -1,4 +1,4 @@
--- What a cut that is not refused has: an accepted problem, and the room that the writers ask; and what the writers write of it.
+-- What holds for a cut that is not refused: the problem is accepted, and the outputs are as long as the writers require; and what they write.
 use Prim.Native.Nat.{ℕ, zero, suc, _+_, _*_, _≤_, _<_}
 use native.Mathlib.Omega.{arith}
 use mathlib.Core.Path.{_≡_, refl, sym, ap, subst, _∙_}
@@ -20,7 +20,7 @@ use Rattle.augment_standard.specs.Constraints.{constraints, Accepted}
 use Rattle.augment.specs.Fits.{extended, ObjectiveFits, ConstrainedFits}
 use Rattle.augment.proofs.Laws.{rooms-P}
 
--- ---- what a cut writes, from the columns that it adds and from A, b, cones and patterns alone
+-- ---- what a cut writes depends only on the added columns and on A, b, cones and patterns
 
 module _ (p : Problem) where
   abbrev pub only : Problem
@@ -47,7 +47,7 @@ module _ (p : Problem) where
   map-cut standard before h = h
   map-cut compact before h = h
 
--- ---- the room of the eleven outputs
+-- ---- the lengths of the eleven outputs
 
 fits : (ks rs : List ℕ) (i : ℕ) → T (roomy ks rs) → i < length ks → getD ks i 0 ≤ getD rs i 0
 fits [] rs i h l = absurd (omega (arith, l))
@@ -59,7 +59,7 @@ module _ (p : Problem) (rooms : List ℕ) where
   abbrev pub room : ℕ → ℕ
   room i = getD rooms i 0
 
-  -- what the outputs need, by the counts
+  -- the required lengths of the outputs, computed from the counts
   abbrev counts : Route → List ℕ
   counts route =
       routeSizes route (p .n) (p .m) (length (p .P .values)) (entriesKept route (p .n) (p .A .starts) (p .A .rows)) (length (p .alphas)) (blockRowCount (layout p))
@@ -68,7 +68,7 @@ module _ (p : Problem) (rooms : List ℕ) where
   counted : (route : Route) → Taken route p rooms → T (roomy (counts route) rooms)
   counted route ok = subst (λ (ks : List ℕ). T (roomy ks rooms)) (route-sizes route p (ok .0)) (ok .1)
 
-  -- for P, q and the exponents, and for A, b, the cones and the map, where k columns are added
+  -- the outputs are long enough for k added columns: for P, q and the exponents; and for A, b, the cones and the map
   abbrev pub Rooms : Route → ℕ → Type 0
   Rooms route k =
       ((suc (p .n + k) ≤ room 0) × (length (p .P .values) ≤ room 1) × (length (p .P .values) ≤ room 2) × (p .n + k ≤ room 3) × (length (p .alphas) ≤ room 9))
@@ -96,7 +96,7 @@ module _ (p : Problem) (rooms : List ℕ) where
         × ((length (p .P .starts) + k ≤ room 0) × (length (p .P .rows) ≤ room 1) × (length (p .P .values) ≤ room 2) × (length (p .q) + k ≤ room 3) × (length (p .alphas) ≤ room 9))
     objective-asked = (accepted-checked route p (ok .0) .startsP, rooms-P route p (ok .0) k (room 0) (room 1) (room 2) (room 3) (room 9) (on-route .0))
 
--- what the writers ask of the outputs
+-- the preconditions of the writers on the outputs
 module _ (p : Problem) (out : Augmented) (route : Route) (ok : Taken route p (lengths out)) (k : ℕ) (e : k ≡ addedCount route (layout p)) where
   pub objective-fits : ObjectiveFits (p .n) k (uncut p) (objectiveOf out)
   objective-fits =

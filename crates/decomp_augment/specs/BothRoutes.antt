@@ -1,4 +1,4 @@
--- Both routes mean one problem, in terms of what a standard cut and a compact cut leave at the front of their outputs.
+-- Q-13, that both routes mean one problem, stated on what a standard cut and a compact cut write to the fronts of their outputs.
 use Prim.Native.Nat.{ℕ, _<_}
 use mathlib.Core.Path.{_≡_}
 use mathlib.Core.Logic.{_↔_}
@@ -13,8 +13,8 @@ use Rattle.layout.specs.Equations.{ExactlyOne}
 use Rattle.layout.specs.BothRoutes.{standardSlacks}
 use Rattle.decomp_augment.specs.Equations.{Meets}
 
--- a standard A and b and a compact A and b: x and slacks t, one for each compact row, meet the standard equations, the first m slacks
--- being zero, for exactly one choice of the added unknowns if and only if they meet the compact ones for exactly one choice
+-- for the written standard A₀, b₀ and compact A₁, b₁: x and slacks t, one for each compact row, meet the standard equations with the
+-- first m slacks zero for exactly one choice of added unknowns if and only if they meet the compact ones for exactly one choice
 abbrev pub OneProblemAs : Problem → Csc → List Float → Csc → List Float → Type 0
 OneProblemAs p A₀ b₀ A₁ b₁ =
     (d : ℕ) → 0 < d → (x t : List ℤ) → length x ≡ p .n → length t ≡ length b₁

@@ -1,4 +1,4 @@
--- What a cut leaves at the front of its outputs, as equations, and demand 3 in terms of it.
+-- What a cut writes to the fronts of its outputs, read as equations, and demand 3 stated on it.
 use Prim.Native.Nat.{ℕ, _<_}
 use mathlib.Core.Path.{_≡_}
 use mathlib.Core.List.{List}
@@ -23,13 +23,13 @@ writtenA route p out = record {
 abbrev pub writtenB : Route → Problem → Augmented → List Float
 writtenB route p out = frontOn route p 7 (out .b)
 
--- the equations of a matrix and a right side: the columns before n times x, those from n on times y, and the slack
+-- whether x, added unknowns y and slacks s, over denominator d, meet the equations of A and b: columns before n times x, the others times y
 abbrev pub Meets : Csc → List Float → Problem → ℕ → List ℤ → List ℤ → List ℤ → Type 0
 Meets A b p d x y s =
     (r : ℕ) → r < length b
     → (columnsTerm count r A 0 x +ℤ columnsTerm unit r A (p .n) y) +ℤ at s r ≡ pos d *ℤ count (getD b r nan)
 
--- demand 3 for the written A and b: there is a slack for each row of b, and an added unknown for each overlap
+-- demand 3 for the written A and b, with one slack for each row of b and one added unknown for each overlap
 pub record SameSolutionsAs (p : Problem) (A : Csc) (b : List Float) : Type 0 where
   pub solved : (d : ℕ) → 0 < d → (x s : List ℤ) → length x ≡ p .n → length s ≡ length b
       → MeetsOriginal p d x (slackSums p s)

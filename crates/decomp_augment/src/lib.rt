@@ -1,2 +1,2 @@
-// The cut of a whole problem: what its writers ask and what the outputs then hold, and demand 3 on what is written. No function is
-// declared here; the cut itself is door's `chordal_cut`.
+// The cut of a whole problem: preconditions of its writers, contents of its outputs, and demand 3 stated on the written outputs.
+// There are no functions in this crate; the cut itself is `chordal_cut` in crate door.

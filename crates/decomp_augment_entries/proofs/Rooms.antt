@@ -1,4 +1,4 @@
--- The room of a slice of entries, in words: it is counted no further than any map goes.
+-- Counting the room of a slice of entries in words: the cap on the count changes no refusal.
 use Prim.Native.Nat.{ℕ, zero, suc, _+_, _*_, _≤_, _<_}
 use native.Mathlib.Omega.{arith}
 use mathlib.Core.Path.{_≡_, refl, sym, ap, subst, _∙_}
@@ -29,9 +29,9 @@ use Rattle.chordal_info.proofs.Counts.{accepted-fitting}
 use Rattle.augment.specs.Fits.{extended, ObjectiveFits, ConstrainedFits}
 use Rattle.layout.proofs.Promises.{Taken, taken}
 use Rattle.decomp_augment.proofs.Rooms.{only, uncut, objective-cut, objective-asked, Rooms, on-route, accepted-constraints}
-use Rattle.decomp_augment_entries.specs.Rooms.{wordsOf, unlessRefused}
+use Rattle.decomp_augment_entries.specs.Rooms.{roomWords, unlessRefused}
 
-enough : (k entries : ℕ) → k ≤ 81920 → leb k (wordsOf entries) ≡ leb k (entries * 5)
+enough : (k entries : ℕ) → k ≤ 81920 → leb k (roomWords entries) ≡ leb k (entries * 5)
 enough k entries few = elim (tested (ltb 16384 entries)) [
   | inl h ↦
       ap (leb k) (cond-passed (ltb 16384 entries) 81920 (entries * 5) h)
@@ -51,36 +51,36 @@ map-few p ok =
     omega (arith, ap (λ (ks : List ℕ). getD ks 10 0) (compact-sizes p ok), map-count 0 (layout p), entries-few (accepted-sound compact p ok))
 
 same-refusal : (p : Problem) (rs : List ℕ) (entries : ℕ) → length rs ≡ 10
-    → cutRefusal compact p (rs ++ (wordsOf entries ∷ [])) ≡ cutRefusal compact p (rs ++ (entries * 5 ∷ []))
-same-refusal p rs entries ten = go (refusal compact p) (λ ok. last-room (sizes compact p) rs (wordsOf entries) (entries * 5)
+    → cutRefusal compact p (rs ++ (roomWords entries ∷ [])) ≡ cutRefusal compact p (rs ++ (entries * 5 ∷ []))
+same-refusal p rs entries ten = go (refusal compact p) (λ ok. last-room (sizes compact p) rs (roomWords entries) (entries * 5)
     (enough (getD (sizes compact p) (length rs) 0) entries (subst (λ (i : ℕ). getD (sizes compact p) i 0 ≤ 81920) (sym ten) (map-few p ok))))
   where
-    go : (a : ℕ) → (a ≡ 0 → roomy (sizes compact p) (rs ++ (wordsOf entries ∷ [])) ≡ roomy (sizes compact p) (rs ++ (entries * 5 ∷ [])))
-        → orElse a (cond (roomy (sizes compact p) (rs ++ (wordsOf entries ∷ []))) 0 11) ≡ orElse a (cond (roomy (sizes compact p) (rs ++ (entries * 5 ∷ []))) 0 11)
+    go : (a : ℕ) → (a ≡ 0 → roomy (sizes compact p) (rs ++ (roomWords entries ∷ [])) ≡ roomy (sizes compact p) (rs ++ (entries * 5 ∷ [])))
+        → orElse a (cond (roomy (sizes compact p) (rs ++ (roomWords entries ∷ []))) 0 11) ≡ orElse a (cond (roomy (sizes compact p) (rs ++ (entries * 5 ∷ []))) 0 11)
     go zero e = ap (λ (t : Bool). cond t 0 11) (e refl)
     go (suc a) e = refl
 
--- the refusal with the room of ten outputs, and of the map
-pub refused-entries : (p : Problem) (rs : List ℕ) (entries : ℕ) {r k : ℕ} → length rs ≡ 10 → r ≡ cutRefusal compact p (rs ++ (k ∷ [])) → k ≡ wordsOf entries
+-- the capped word count of the map's room gives the same refusal as the full one
+pub refused-entries : (p : Problem) (rs : List ℕ) (entries : ℕ) {r k : ℕ} → length rs ≡ 10 → r ≡ cutRefusal compact p (rs ++ (k ∷ [])) → k ≡ roomWords entries
     → r ≡ cutRefusal compact p (rs ++ (entries * 5 ∷ []))
 refused-entries p rs entries ten e words = e ∙ ap (λ (k : ℕ). cutRefusal compact p (rs ++ (k ∷ []))) words ∙ same-refusal p rs entries ten
 
--- ---- what the writers ask and write
+-- ---- preconditions and postconditions of the writers
 
--- what was written of a problem that is not refused
+-- what is written for number 0 is written for any number r that equals 0
 pub objective-put : {r : ℕ} {new before after : Objective} → r ≡ 0 → HoldsObjective 0 new before after → HoldsObjective r new before after
 objective-put {r} {new} {before} {after} e h = subst (λ (k : ℕ). HoldsObjective k new before after) (sym e) h
 
 pub constrained-put : {r : ℕ} {new before after : Constrained} → r ≡ 0 → HoldsConstrained 0 new before after → HoldsConstrained r new before after
 constrained-put {r} {new} {before} {after} e h = subst (λ (k : ℕ). HoldsConstrained k new before after) (sym e) h
 
--- the columns are those that the route adds, where nothing is refused
+-- the objective of the cut, where k is the number of columns that the route adds unless the problem is refused
 pub objective-cut-by : (p : Problem) (r k : ℕ) → (r ≡ 0 → k ≡ overlapCount (layout p)) → {before after : Objective}
     → HoldsObjective r (extended k (uncut p)) before after → HoldsObjective r (objectiveOf (augmented compact p)) before after
 objective-cut-by p zero k e h = objective-cut p compact k (e refl) h
 objective-cut-by p (suc r) k e h = record { p-starts = h .p-starts; p-rows = h .p-rows; p-values = h .p-values; q = h .q; alphas = h .alphas }
 
--- with the columns that were counted
+-- the outputs also have room for the number of columns that was counted
 pub fit-counted : {p : Problem} {k : ℕ} {out : Constrained} → k ≡ overlapCount (layout p) → ConstrainedFits compact p (overlapCount (layout p)) out → ConstrainedFits compact p k out
 fit-counted {p} {k} {out} e h = subst (λ (j : ℕ). ConstrainedFits compact p j out) (sym e) h
 
@@ -140,11 +140,11 @@ module _ {m : ℕ} {cones : List ℕ} {count : ℕ} {words : List ℕ} (refused 
       go zero h = entries-few (h refl)
       go (suc r) h = omega arith
 
-  -- their words are in the table
+  -- the table has room for their words
   pub table-fits : (k : ℕ) (ws : List ℕ) → k ≡ length (unlessRefused refused (coneMap (joinedParts cones count words))) → length ws ≡ 81920 → k * 5 ≤ length ws
   table-fits k ws n e = omega (arith, n, e, entries-in)
 
-  -- read back from a table where their words stand first
+  -- entries read from a table whose front holds their words are the entries of the cone map
   pub entries-read : (k : ℕ) (ws old : List ℕ) (ys : List ConeMapEntry) → k ≡ length (unlessRefused refused (coneMap (joinedParts cones count words)))
       → ws ≡ written (mapWords (unlessRefused refused (coneMap (joinedParts cones count words)))) old
       → written (map (structAt ws) (below k)) ys ≡ output refused (map structOf (coneMap (joinedParts cones count words))) ys
@@ -159,7 +159,7 @@ pub none-refused : {A : Type 0} (r : ℕ) (xs : List A) → (r ≡ 0 → ⊥) �
 none-refused zero xs h = absurd (h refl)
 none-refused (suc r) xs h = refl
 
--- there is room for as many
+-- the entries fit where they fit for an accepted problem
 pub room-for : (r : ℕ) (es : List MapEntry) (n : ℕ) → (r ≡ 0 → length es ≤ n) → (k : ℕ) → k ≡ length (unlessRefused r es) → k ≤ n
 room-for zero es n h k e = omega (arith, e, h refl)
 room-for (suc r) es n h k e = omega (arith, e)

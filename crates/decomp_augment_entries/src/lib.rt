@@ -1,4 +1,4 @@
-// The cut on the compact route where the cone map is a slice of entries.
+// The cut on the compact route with the cone map written as a slice of entry structs.
 ghost use mathlib.Core.Path.{_≡_};
 ghost use mathlib.Core.List.{[], _∷_};
 ghost use Prim.Native.Nat.{_*_, _≤_};
@@ -14,7 +14,7 @@ ghost use Rattle.layout.specs.Calls.CutEntries.{entryOutputs, CutEntries};
 ghost use Rattle.cone_map.specs.Entries.{structOf};
 ghost use Rattle.augment_standard.specs.Constraints.{constraints};
 ghost use Rattle.augment.specs.Fits.{extended, ObjectiveFits, ConstrainedFits};
-ghost use Rattle.decomp_augment_entries.specs.Rooms.{wordsOf, unlessRefused};
+ghost use Rattle.decomp_augment_entries.specs.Rooms.{roomWords, unlessRefused};
 use cone_map::ConeMapEntry;
 use constants::entry;
 use constants::limit;
@@ -23,9 +23,9 @@ use constants::route;
 use constants::scratch;
 use tables::Table;
 
-// The words of so many entries, or of the most that a problem has, 16,384.
+// Returns the words that `entries` entries take, capped at the words of 16,384 entries, the most that an accepted problem has.
 fn words_of(entries: usize) -> usize
-    ensures { λ r. ⌜ r ≡ wordsOf entries ⌝ }
+    ensures { λ r. ⌜ r ≡ roomWords entries ⌝ }
 {
     if limit::MAP_ENTRIES < entries {
         return scratch::MAP_WORDS;
@@ -33,7 +33,8 @@ fn words_of(entries: usize) -> usize
     entries * entry::WORDS
 }
 
-// Checks 1 to 11 in order, with room for so much in each output: the number of the first that fails, or 0.
+// Makes checks 1 to 11 in order, for outputs of the given lengths (`*_room`, that of the map in entries). Returns the number of the
+// first check that fails, or 0.
 fn refuse_cut_compact(
     n: u32,
     m: u32,
@@ -98,7 +99,7 @@ fn refuse_cut_compact(
     )
 }
 
-// Writes A, b and the cones of a problem's cut, of a refused one nothing. The columns that are added.
+// Writes A, b and the cones of the cut, or nothing where `refused` is not 0. Returns the number of columns added, 0 where refused.
 fn cut_constraints(
     refused: u32,
     n: u32,
@@ -150,7 +151,7 @@ fn cut_constraints(
     d.columns
 }
 
-// Writes P, q and the exponents of a problem's cut, of a refused one nothing.
+// Writes P, q and the exponents of the cut, with `columns` added columns, or nothing where `refused` is not 0.
 fn cut_objective(
     refused: u32,
     columns: usize,
@@ -194,7 +195,7 @@ fn cut_objective(
     );
 }
 
-// Writes the words of a problem's cone map to a table, of a refused one nothing. How many entries it has.
+// Writes the words of the cone map to `table`, or nothing where `refused` is not 0. Returns the number of entries, 0 where refused.
 fn map_table(
     refused: u32,
     m: u32,
@@ -214,7 +215,8 @@ fn map_table(
     tables::write_table(Table::ConeMap, m, cones, count, words, table) / entry::WORDS
 }
 
-// An accepted problem's cut at the front of the outputs.
+// Cuts a problem on the compact route: writes each output of the cut to the front of its slice. Returns 0, or the refusal number,
+// and then all outputs are unchanged.
 pub fn cut_compact_entries(
     n: u32,
     m: u32,

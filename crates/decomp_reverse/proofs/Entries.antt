@@ -1,4 +1,4 @@
--- A list of words compared part by part: with the entries of a pattern's cliques, and with those of the parts ahead.
+-- Words compared part by part: with the map entries of a pattern's cliques, and with those of the parts ahead.
 use Prim.Native.Nat.{ℕ, suc, _+_, _-_, _≤_, _<_}
 use native.Mathlib.Numerals.{add-one}
 use native.Mathlib.Omega.{arith}
@@ -17,25 +17,25 @@ use Rattle.layout.proofs.Tests.{lt-or-le, and-true, and-false, and-right, diffe
 use Rattle.layout.proofs.ConeMap.{words-part}
 use Rattle.decomp_reverse.specs.Begins.{begins}
 
--- ---- a list that begins with another
+-- ---- prefixes
 
 begins-short : (xs ys : List ℕ) → length xs < length ys → begins xs ys ≡ false
 begins-short xs [] h = absurd (omega arith)
 begins-short [] (y ∷ ys) h = refl
 begins-short (x ∷ xs) (y ∷ ys) h = and-right (eqb x y) (begins xs ys) (begins-short xs ys (omega arith))
 
--- the words from t on are too few for ys
+-- if the words from index t on are fewer than ys, they do not start with ys
 pub too-few : (ws : List ℕ) (t : ℕ) (ys : List ℕ) → length ws - t < length ys → begins (drop t ws) ys ≡ false
 too-few ws t ys h = begins-short (drop t ws) ys (omega (arith, length-drop t ws))
 
--- they hold ys
+-- if the words from index t on start with ys, ys ends inside them
 pub inside : (ws : List ℕ) (t : ℕ) (ys : List ℕ) → t ≤ length ws → begins (drop t ws) ys ≡ true → t + length ys ≤ length ws
 inside ws t ys l e = elim (lt-or-le (length (drop t ws)) (length ys)) [
   | inl h ↦ absurd (differ (begins (drop t ws) ys) e (begins-short (drop t ws) ys h))
   | inr h ↦ omega (arith, length-drop t ws)
 ]
 
--- word by word
+-- the comparison goes on after a word that is equal
 pub word-hit : (ws : List ℕ) (t y : ℕ) (ys : List ℕ) → t < length ws → getD ws t 0 ≡ y
     → begins (drop t ws) (y ∷ ys) ≡ begins (drop (t + 1) ws) ys
 word-hit ws t y ys h e = rw (add-one, drop-cons ws t 0 h, eq-eqb (getD ws t 0) y e)
@@ -50,7 +50,7 @@ word-miss ws t y ys h n = rw (drop-cons ws t 0 h, ne-eqb (getD ws t 0) y n)
 pub last-word : (ws : List ℕ) (t y : ℕ) → t < length ws → begins (drop t ws) (y ∷ []) ≡ eqb (getD ws t 0) y
 last-word ws t y h = rw (drop-cons ws t 0 h) (all-of (eqb (getD ws t 0) y))
 
--- part by part: a test f that goes on word by word, as `begins` and `sameNumbers` do
+-- a comparison that goes word by word, as `begins` and `sameNumbers` do, goes part by part
 module _ (f : List ℕ → List ℕ → Bool) (short : (y : ℕ) (ys : List ℕ) → f [] (y ∷ ys) ≡ false)
     (word : (x y : ℕ) (xs ys : List ℕ) → f (x ∷ xs) (y ∷ ys) ≡ (eqb x y && f xs ys)) where
   part : (xs ys zs : List ℕ) → f xs (ys ++ zs) ≡ (begins xs ys && f (drop (length ys) xs) zs)
@@ -68,9 +68,9 @@ module _ (f : List ℕ → List ℕ → Bool) (short : (y : ℕ) (ys : List ℕ)
   part-miss : (ws : List ℕ) (t : ℕ) (ys zs : List ℕ) → begins (drop t ws) ys ≡ false → f (drop t ws) (ys ++ zs) ≡ false
   part-miss ws t ys zs e = part (drop t ws) ys zs ∙ and-false (begins (drop t ws) ys) (f (drop (length ys) (drop t ws)) zs) e
 
--- ---- the cliques of a pattern, from the last to the first
+-- ---- the cliques of a pattern, from last to first
 
--- the entry of one more stands after those of the others
+-- the entry of one more clique, zs, comes after the entries ys of the cliques after it
 module _ (ws : List ℕ) (t j : ℕ) (ys zs : List ℕ) (e : length ys ≡ j) where
   after : begins (drop t ws) (ys ++ zs) ≡ (begins (drop t ws) ys && begins (drop (t + j) ws) zs)
   after =

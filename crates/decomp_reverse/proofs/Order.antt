@@ -1,4 +1,4 @@
--- A joining's refusals in order, and what one that is refused nothing is given.
+-- A joining's refusals in order, and what holds if nothing is refused.
 use Prim.Native.Nat.{ℕ, zero, suc, _≤_}
 use native.Mathlib.Omega.{arith}
 use mathlib.Core.Path.{_≡_, refl, sym, ap, subst, _∙_}
@@ -26,11 +26,11 @@ use Rattle.chordal_info.proofs.Routes.{counted-rows}
 use Rattle.layout.specs.Compact.{coneMap, mapWords}
 use Rattle.layout.proofs.Walks.{numbers-equal}
 use Rattle.reverse_standard.specs.Routes.{Starts}
-use Rattle.reverse.specs.Joined.{Joinable, joinedOf, firstOf, blockSizes, routeOf as routeIs}
+use Rattle.reverse.specs.Joined.{Joinable, joinedOf, firstOf, blockSizes, routeIf}
 use Rattle.reverse.proofs.Sizes.{map-tells}
 use Rattle.decomp_reverse.specs.Fits.{lengthsFit, fitsBy, countedRefusal, refusalBy}
 
--- the answer at each place
+-- the refusal number, decided by checks 1 to 10, then 11, then 12
 pub join-order : (a : ℕ) (room fit : Bool) →
     let x = orElse a (orElse (cond room 0 11) (cond fit 0 12)) in
     ((a ≡ 0 → ⊥) → x ≡ a) × (a ≡ 0 → room ≡ false → x ≡ 11) × (a ≡ 0 → room ≡ true → fit ≡ false → x ≡ 12)
@@ -42,7 +42,7 @@ join-order a room fit = (
   λ e f g. rw (e, f, g),
 )
 
--- what checks 1 to 10 say
+-- what passed checks 1 to 10 establish
 pub checks-passed : (route : Route) (n m : ℕ) (cones : List ℕ) (count : ℕ) (words : List ℕ) → joinChecks route n m cones count words ≡ 0
     → Sound m cones count words × (blockRowCount (joinedParts cones count words) ≤ 262144)
 checks-passed route n m cones count words e =
@@ -52,7 +52,7 @@ checks-passed route n m cones count words e =
       rows-few route m (blockRowCount ps) (overlapCount ps) (subst T (sym (rows-fit route m ps)) (passed 10 (joinTests route n m cones count words) tt e)),
     )
 
--- checks 1 to 7, where they refuse; and check 10, where they do not
+-- if checks 1 to 7 refuse, theirs is the number; otherwise check 10 decides
 module _ (route : Route) (n m : ℕ) (cones : List ℕ) (count : ℕ) (words : List ℕ) where
   abbrev later : ℕ
   later = cond (check10 route m (joinedParts cones count words)) 0 10
@@ -76,11 +76,11 @@ module _ (route : Route) (n m rows overlaps : ℕ) (ps : List Part) (h : Counted
   pub counted-few : overlaps ≤ rows
   counted-few = rw (h .0, h .1) (overlaps-few ps)
 
--- the answer before the map is compared
+-- the refusal number without the comparison of the map
 before-map : (a : ℕ) (room fits : Bool) → ℕ
 before-map a room fits = orElse a (orElse (cond room 0 11) (cond fits 0 12))
 
--- the map is compared last: it changes nothing where something is refused, and decides where nothing is
+-- the map is compared last: it changes nothing if there is a refusal before it, and decides otherwise
 map-last : (a : ℕ) (room fits right : Bool) →
     let x = before-map a room fits in
     let y = before-map a room (fits && right) in
@@ -91,7 +91,7 @@ map-last zero false fits right = (λ h. refl, λ e. absurd (omega arith))
 map-last zero true false right = (λ h. refl, λ e. absurd (omega arith))
 map-last zero true true right = (λ h. absurd (h refl), λ e. refl)
 
--- the joining's number, by the lengths
+-- the refusal number of the joining, from the lengths
 module _ (route : Route) (n m : ℕ) (cones : List ℕ) (count : ℕ) (words : List ℕ) (x s z : ℕ) (entries rooms : List ℕ) where
   abbrev ps : List Part
   ps = joinedParts cones count words
@@ -102,7 +102,7 @@ module _ (route : Route) (n m : ℕ) (cones : List ℕ) (count : ℕ) (words : L
   abbrev room : Bool
   room = roomy (n ∷ m ∷ m ∷ 2 ∷ []) rooms
 
-  -- one of checks 1 to 7 fails
+  -- if one of checks 1 to 7 fails, it gives the number
   pub refused-early : (r : ℕ) → r ≡ joinedRefusal n m cones count words → (r ≡ 0 → ⊥) → r ≡ refusalBy route n m cones count words x s z entries rooms
   unfolding refusalBy
   refused-early r e h =
@@ -117,20 +117,20 @@ module _ (route : Route) (n m : ℕ) (cones : List ℕ) (count : ℕ) (words : L
         (counted-rows route m ps rows overlaps c ∙ seven-passed route n m cones count words e)
         ∙ ap (λ (t : Bool). orElse ten (orElse (cond room 0 11) (cond t 0 12))) (counted-fits route n m rows overlaps ps c x s z)
 
-    -- none does: the blocks' rows are few
+    -- if no check fails, the blocks have at most 262144 rows
     pub counted-rows-few : (r : ℕ) → r ≡ countedRefusal route n m rows overlaps x s z rooms → r ≡ 0 → blockRowCount ps ≤ 262144
     unfolding countedRefusal
     counted-rows-few r f y =
         let ten = both-zero (cond (rowsFit route m rows overlaps) 0 10) (orElse (cond room 0 11) (cond (lengthsFit route n m rows overlaps x s z) 0 12)) (sym f ∙ y) .0 in
         subst (λ (k : ℕ). k ≤ 262144) (c .0) (rows-few route m rows overlaps (passed 10 (check 10 (rowsFit route m rows overlaps) ∷ []) tt ten))
 
-    -- one of checks 10 to 12 fails, the map aside
+    -- if one of checks 10 to 12 fails, apart from the map, it gives the number
     pub refused-counted : (r : ℕ) → r ≡ countedRefusal route n m rows overlaps x s z rooms → (r ≡ 0 → ⊥) → r ≡ refusalBy route n m cones count words x s z entries rooms
     unfolding refusalBy before-map
     refused-counted r f h =
         f ∙ same ∙ map-last ten room (fitsBy route n m ps x s z) (mapRight route ps entries) .0 (λ y. h (f ∙ same ∙ y))
 
-    -- none does
+    -- if none of them fails, the map decides
     pub by-map : (r : ℕ) → r ≡ countedRefusal route n m rows overlaps x s z rooms → r ≡ 0
         → refusalBy route n m cones count words x s z entries rooms ≡ cond (mapRight route ps entries) 0 12
     unfolding refusalBy before-map
@@ -144,7 +144,7 @@ as-layout route n m cones count words sol entries rooms = refl
 
 -- ---- nothing is refused
 
--- what is given where nothing is refused: a solution that can be joined, and room for it
+-- what holds if nothing is refused: the solution can be joined, and the outputs have room
 pub record Accepted (route : Route) (n m : ℕ) (cones : List ℕ) (count : ℕ) (words : List ℕ) (sol : Solution) (entries : List ℕ) (x s z k : ℕ) : Type 0 where
   pub joinable : Joinable route m cones count words (sol .s) (sol .z)
   pub columns : n ≤ length (sol .x)
@@ -184,7 +184,7 @@ module _ (n m : ℕ) (cones : List ℕ) (count : ℕ) (words : List ℕ) (x s z 
   abbrev whole : Route → Solution
   whole route = joined route n m (joinedParts cones count words) (solution x s z tau kappa)
 
-  -- x takes no part in s and z, nor do τ and κ
+  -- x, τ and κ do not affect s and z
   pub joined-parts : (route : Route)
       → (take n x ≡ whole route .x) × (joinedOf route m cones count words s z .s ≡ whole route .s)
       × (joinedOf route m cones count words s z .z ≡ whole route .z)
@@ -195,12 +195,12 @@ module _ (n m : ℕ) (cones : List ℕ) (count : ℕ) (words : List ℕ) (x s z 
   joined-scalars standard t k e f = rw (e, f)
   joined-scalars compact t k e f = rw (e, f)
 
--- the route by whether its number is 0
-pub by-number : (route : ℕ) → routeIs (eqb route 0) ≡ routeOf route
+-- the route is standard exactly if its number is 0
+pub by-number : (route : ℕ) → routeIf (eqb route 0) ≡ routeOf route
 by-number zero = refl
-by-number (suc k) = ap routeIs (ne-eqb (suc k) 0 (λ e. omega arith))
+by-number (suc k) = ap routeIf (ne-eqb (suc k) 0 (λ e. omega arith))
 
--- a map that passed check 12 tells where each block begins
+-- a map that passes check 12 has the first row of each block
 pub tells : (route m : ℕ) (cones : List ℕ) (count : ℕ) (words entries : List ℕ) → T (mapRight (routeOf route) (joinedParts cones count words) entries)
     → Starts (eqb route 0) entries 0 (firstOf (eqb route 0) m) (blockSizes (joinedParts cones count words))
 tells zero m cones count words entries h = tt

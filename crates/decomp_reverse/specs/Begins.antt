@@ -1,4 +1,4 @@
--- Whether a list begins with another.
+-- Whether the second list is a prefix of the first.
 use Prim.Native.Nat.{ℕ}
 use mathlib.Core.Bool.{Bool, true, false, _&&_}
 use mathlib.Core.List.{List, [], _∷_}

@@ -1,4 +1,4 @@
-// The joining on either route: 0 standard, 1 compact. Clarabel's `decomp_reverse`, with dual completion off.
+// The joining on either route (0 standard, 1 compact): clarabel's `decomp_reverse`, with dual completion off.
 ghost use mathlib.Core.Path.{_≡_};
 ghost use mathlib.Core.Bool.{true, _&&_};
 ghost use mathlib.Core.List.{[], _∷_, map as mapped};
@@ -13,7 +13,7 @@ ghost use Rattle.layout.specs.Compact.{coneMap, mapPart, mapWords};
 ghost use Rattle.layout.specs.Answers.{roomy, routeOf, joinedParts};
 ghost use Rattle.layout.specs.Calls.Join.{rejoined, Join};
 ghost use Rattle.supernode_tree.specs.Reads.{patternAt, Whole, cliquesFrom};
-ghost use Rattle.supernode_tree.specs.Sizes.{atMost, dimOf};
+ghost use Rattle.supernode_tree.specs.Sizes.{blockAtMost, dimOf};
 ghost use Rattle.tables.specs.Tables.{entriesDown};
 ghost use Rattle.decomp_reverse.specs.Begins.{begins};
 ghost use Rattle.decomp_reverse.specs.Fits.{lengthsFit, countedRefusal, refusalBy};
@@ -29,7 +29,7 @@ use supernode_tree::Pattern;
 
 // ---- the cone map
 
-// Whether the words from t on begin with an entry's.
+// Returns whether `entries` from index `t` on start with the words of this map entry.
 fn entry_right(
     entries: &[u32],
     t: usize,
@@ -60,8 +60,8 @@ fn entry_right(
     entries[t + entry::ROW_COUNT] == rows
 }
 
-// Whether they begin with the entries of count cliques of one pattern, whose rows end at `end`, from the last to the first: the last entry is compared
-// first, with the first clique, whose rows are the last.
+// Returns whether `entries` from index `t` on start with those of the `count` cliques of one pattern, from last to first, whose rows end before `end`.
+// The first clique is read first; its rows and its entry come last, so entries are compared from the last on.
 fn blocks_right(
     entries: &[u32],
     t: usize,
@@ -73,7 +73,7 @@ fn blocks_right(
     end: u32,
 ) -> bool
     requires { ⌜ Whole (now words) first count × (t ≤ length (now entries)) ⌝ }
-    requires { ⌜ all (atMost 256) (cliquesFrom (now words) first count) ≡ true ⌝ }
+    requires { ⌜ all (blockAtMost 256) (cliquesFrom (now words) first count) ≡ true ⌝ }
     requires { ⌜ sum (mapped dimOf (cliquesFrom (now words) first count)) ≤ end ⌝ }
     ensures { λ r. ⌜ r ≡ begins (drop t (now (entries .entry))) (mapWords (entriesDown cone pattern 0 (end - sum (mapped dimOf (cliquesFrom (now (words .entry)) first count))) (cliquesFrom (now (words .entry)) first count))) ⌝ }
 {
@@ -105,7 +105,7 @@ fn blocks_right(
     true
 }
 
-// Whether they begin with the entries of the pattern at an offset, whose rows end at `end`.
+// Returns whether `entries` from index `t` on start with those of the pattern at offset `at`, whose rows end before `end`.
 fn pattern_right(
     entries: &[u32],
     t: usize,
@@ -132,7 +132,7 @@ fn pattern_right(
     )
 }
 
-// Whether the entries are the cone map. It is compared as the cones are walked, so no table of it is held.
+// Returns whether `entries` are the words of the cone map. They are compared during the walk over the cones, so the map is not stored.
 fn map_right(m: u32, cones: &[u32], count: u32, words: &[u32], entries: &[u32]) -> bool
     requires { ⌜ Sound m (now cones) count (now words) × (blockRowCount (joinedParts (now cones) count (now words)) ≤ 262144) ⌝ }
     ensures { λ r. ⌜ r ≡ sameNumbers (now (entries .entry)) (mapWords (coneMap (joinedParts (now (cones .entry)) count (now (words .entry))))) ⌝ }
@@ -171,10 +171,10 @@ fn map_right(m: u32, cones: &[u32], count: u32, words: &[u32], entries: &[u32]) 
 
 // ---- the checks
 
-// The scalars of a solution, τ and κ.
+// The number of scalars of a solution: τ and κ.
 const SCALARS: usize = 2;
 
-// Check 11: whether the outputs have room for x, s, z and the two scalars.
+// Makes check 11: returns whether the outputs, of the given lengths, have room for x, s, z and the two scalars.
 pub fn room_enough(n: u32, m: u32, x: usize, s: usize, z: usize, scalars: usize) -> bool
     ensures { λ r. ⌜ r ≡ roomy (n ∷ m ∷ m ∷ 2 ∷ []) (x ∷ s ∷ z ∷ scalars ∷ []) ⌝ }
 {
@@ -190,7 +190,7 @@ pub fn room_enough(n: u32, m: u32, x: usize, s: usize, z: usize, scalars: usize)
     SCALARS <= scalars
 }
 
-// Whether x, s and z of a solution are so long.
+// Returns whether `x` is `columns`, and `s` and `z` are `rows`.
 fn lengths_are(x: usize, s: usize, z: usize, columns: usize, rows: usize) -> bool
     ensures { λ r. ⌜ r ≡ (eqb x columns && eqb s rows && eqb z rows) ⌝ }
 {
@@ -203,7 +203,8 @@ fn lengths_are(x: usize, s: usize, z: usize, columns: usize, rows: usize) -> boo
     z == rows
 }
 
-// The lengths of check 12: whether the solution's are the augmented problem's, whose blocks' rows and overlaps are counted.
+// Makes the part of check 12 about lengths: returns whether `x`, `s` and `z` are the lengths that an augmented problem with these block rows and
+// overlaps has on the route.
 pub fn lengths_fit(
     route: u32,
     n: u32,
@@ -224,7 +225,7 @@ pub fn lengths_fit(
     lengths_are(x, s, z, n as usize + overlaps as usize, k)
 }
 
-// Checks 10 to 12 in order but for the cone map, from counts and lengths.
+// Makes checks 10 to 12 in order, except for the cone map, from counts and lengths. Returns the number of the first that fails, or 0.
 fn refuse_counted(
     route: u32,
     n: u32,
@@ -255,8 +256,8 @@ fn refuse_counted(
     refusal::DONE
 }
 
-// Checks 1 to 12 in order, with the lengths of x, s and z and the room of each output: the number of the first that fails, or 0. Any number but 0
-// names the compact route. The blocks are counted once for all checks.
+// Makes the checks of a joining in order, with the lengths of x, s and z and the room of each output. Returns the number of the first that fails, or 0.
+// Any `route` but 0 is taken as compact. The rows of the blocks are counted once for all checks.
 fn refuse_join(
     route: u32,
     n: u32,
@@ -307,6 +308,7 @@ fn refuse_join(
 
 // ---- the joining
 
+// Writes τ and κ to the first two values of `out`.
 pub fn write_scalars(scalars: Scalars, out: &mut [f64])
     requires { ⌜ 2 ≤ length (now out) ⌝ }
     ensures { λ _. ⌜ now (out .exit) ≡ written (scalars .tau ∷ scalars .kappa ∷ []) (now (out .entry)) ⌝ }
@@ -315,7 +317,8 @@ pub fn write_scalars(scalars: Scalars, out: &mut [f64])
     out[1] = scalars.kappa;
 }
 
-// A solution of the augmented problem joined to one of the original: x, s, z, and τ and κ. The standard route does not look at the map.
+// Joins a solution of the augmented problem to one of the original, and writes x, s, z, and τ and κ to the outputs; the standard route ignores `map`.
+// Returns 0, or the refusal number, with the outputs unchanged.
 pub fn join(
     route: u32,
     n: u32,

@@ -1,4 +1,4 @@
-// The joining on the compact route where the cone map is a slice of entries: the map's words are written out, and joined by as any other's.
+// The joining on the compact route with the cone map as a slice of entries: the map is written as words, and the joining by words does the rest.
 ghost use mathlib.Core.Path.{_≡_};
 ghost use mathlib.Core.List.{map as mapped};
 ghost use Prim.Native.Nat.{_≤_};
@@ -7,16 +7,17 @@ ghost use Rattle.layout.specs.Problem.{solution};
 ghost use Rattle.layout.specs.Calls.Join.{rejoined, Join};
 ghost use Rattle.layout.specs.Calls.JoinEntries.{JoinEntries};
 ghost use Rattle.cone_map.specs.Entries.{meant};
-ghost use Rattle.decomp_reverse_entries.specs.Refusals.{wordsOf};
+ghost use Rattle.decomp_reverse_entries.specs.Refusals.{givenWords};
 use cone_map::ConeMapEntry;
 use constants::entry;
 use constants::limit;
 use constants::route;
 use constants::scratch;
 
-// How many words of a map are compared: all, or one, which is no map, where it has more entries than any problem's.
+// Returns the number of words to compare for a map of `entries` entries: all of them, or 1 where there are more entries than any problem has. One word
+// is no map, so such a map fails check 12.
 fn words_of(entries: usize) -> usize
-    ensures { λ r. ⌜ r ≡ wordsOf entries ⌝ }
+    ensures { λ r. ⌜ r ≡ givenWords entries ⌝ }
 {
     if limit::MAP_ENTRIES < entries {
         return 1;
@@ -24,7 +25,7 @@ fn words_of(entries: usize) -> usize
     entries * entry::WORDS
 }
 
-// The joining by a map whose words are the first of a table's.
+// Joins a compact solution, with the first `taken` words of `table` as the cone map. Returns the refusal number, or 0.
 fn join_words(
     n: u32,
     m: u32,
@@ -70,7 +71,7 @@ fn join_words(
     )
 }
 
-// A solution of the compact route's augmented problem joined to one of the original: x, s, z, and τ and κ.
+// Joins a solution of the compact route's augmented problem to one of the original: writes x, s, z, and τ and κ. Returns the refusal number, or 0.
 pub fn join_compact_entries(
     n: u32,
     m: u32,

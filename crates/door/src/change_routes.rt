@@ -1,4 +1,4 @@
-// A standard solution as a compact one of the same problem.
+// Writes a standard solution as a compact solution of the same problem.
 ghost use Rattle.layout.specs.Problem.{solution};
 ghost use Rattle.layout.specs.Calls.Join.{rejoined};
 ghost use Rattle.layout.specs.Calls.ChangeRoute.{ChangeRoute};

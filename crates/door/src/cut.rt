@@ -1,4 +1,4 @@
-// The cut of an accepted problem at the front of the outputs; clarabel's `decomp_augment`.
+// Cuts a problem on a route and writes the augmented one to the front of the outputs; clarabel's `decomp_augment`.
 ghost use Rattle.layout.specs.Problem.{problem};
 ghost use Rattle.layout.specs.Calls.Cut.{outputs, Cut};
 

@@ -1,4 +1,4 @@
-// The compact cut of one problem with many right sides: everything but b once, and each augmented b in turn.
+// Cuts a problem with several right sides on the compact route: writes everything but b once, and the augmented b of each side in turn.
 ghost use Rattle.layout.specs.Problem.{problem};
 ghost use Rattle.layout.specs.Calls.Cut.{outputs};
 ghost use Rattle.layout.specs.Calls.CutMany.{CutMany};

@@ -1,4 +1,4 @@
-// The whole words of a file's bytes.
+// Reads the bytes of a file as u32 words; bytes after the last complete word are left out.
 ghost use Rattle.layout.specs.Calls.FileWords.{FileWords};
 
 #[no_mangle]

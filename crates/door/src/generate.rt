@@ -1,4 +1,4 @@
-// A problem that any site can make again, from a seed, a vertex count, a band and a column count.
+// Writes a test problem that any site can make again, from a seed, a vertex count, a band width and a number of columns (Q-5).
 ghost use Rattle.layout.specs.Calls.Tables.{tables};
 ghost use Rattle.layout.specs.Calls.Generate.{Generate};
 

@@ -1,4 +1,4 @@
-// The length of each table of a generated problem.
+// Writes the length of each table of a generated problem.
 ghost use Rattle.layout.specs.Calls.GenerateSizes.{GenerateSizes};
 
 #[no_mangle]

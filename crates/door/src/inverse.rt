@@ -1,4 +1,4 @@
-// The inverse of a permutation.
+// Writes the inverse of a permutation.
 ghost use Rattle.layout.specs.Calls.Inverse.{Inverse};
 
 #[no_mangle]

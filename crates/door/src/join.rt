@@ -1,4 +1,4 @@
-// The solution of a cut joined to one of the original problem; clarabel's `decomp_reverse`.
+// Joins a solution of the augmented problem to one of the original problem; clarabel's `decomp_reverse`.
 ghost use Rattle.layout.specs.Problem.{solution};
 ghost use Rattle.layout.specs.Calls.Join.{rejoined, Join};
 

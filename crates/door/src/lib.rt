@@ -1,5 +1,5 @@
-// The public calls for C and Rust, one module a call: each returns the refusal number, 0 for done. include/chordal.h says what the
-// numbers mean.
+// The public calls for C and Rust, one module per call. Each returns the refusal number, 0 for success; include/chordal.h explains the
+// numbers.
 mod change_routes;
 mod cut;
 mod cut_between;

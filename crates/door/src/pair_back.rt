@@ -1,4 +1,4 @@
-// The row and the column of a place in the packed upper triangle.
+// Writes the row and the column of an svec index, in the packed upper triangle.
 ghost use Rattle.layout.specs.Calls.PairBack.{PairBack};
 
 #[no_mangle]

@@ -1,4 +1,4 @@
-// The place of a pair of row and column in the packed upper triangle.
+// Writes the svec index of a pair of row and column, in the packed upper triangle.
 ghost use Rattle.layout.specs.Calls.PairIndex.{PairIndex};
 
 #[no_mangle]

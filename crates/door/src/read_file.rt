@@ -1,4 +1,4 @@
-// A problem from the words of its file.
+// Reads a problem from the words of its file.
 ghost use Rattle.layout.specs.Calls.ReadFile.{fileOutputs, ReadFile};
 
 #[no_mangle]

@@ -1,4 +1,4 @@
-// The renumbering of one pattern by its snodes.
+// Renumbers the vertices of one pattern so that each snode's are consecutive.
 ghost use Rattle.layout.specs.Calls.Renumber.{Renumber};
 
 #[no_mangle]

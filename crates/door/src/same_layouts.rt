@@ -1,4 +1,4 @@
-// Whether two problems agree in all but the values of P, q, A and b.
+// Writes whether two problems agree in everything but the values of P, q, A and b.
 ghost use Rattle.layout.specs.Problem.{problem};
 ghost use Rattle.layout.specs.Calls.SameLayout.{SameLayout};
 

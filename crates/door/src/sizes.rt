@@ -1,4 +1,4 @@
-// The length of each output of a problem's cut.
+// Writes the length of each output of a problem's cut.
 ghost use Rattle.layout.specs.Problem.{problem};
 ghost use Rattle.layout.specs.Calls.Sizes.{Sizes};
 

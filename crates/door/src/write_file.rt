@@ -1,5 +1,5 @@
-// The file of a problem.
-ghost use Rattle.layout.specs.File.{tables};
+// Writes a problem as a file.
+ghost use Rattle.layout.specs.File.{bitTables};
 ghost use Rattle.layout.specs.Calls.WriteFile.{WriteFile};
 
 #[no_mangle]
@@ -21,10 +21,10 @@ pub extern "C" fn chordal_write_file(
     out: &mut [u8],
 ) -> u32
     ensures { λ r.
-        let t = tables n m (now («p_starts» .entry)) (now («p_rows» .entry)) (now («p_values» .entry)) (now (q .entry)) (now («a_starts» .entry)) (now («a_rows» .entry)) (now («a_values» .entry)) (now (b .entry)) (now (cones .entry)) (now (alphas .entry)) «pattern_count» (now («pattern_words» .entry)) in
+        let t = bitTables n m (now («p_starts» .entry)) (now («p_rows» .entry)) (now («p_values» .entry)) (now (q .entry)) (now («a_starts» .entry)) (now («a_rows» .entry)) (now («a_values» .entry)) (now (b .entry)) (now (cones .entry)) (now (alphas .entry)) «pattern_count» (now («pattern_words» .entry)) in
         ⌜ WriteFile t (now (out .entry)) (now (out .exit)) r ⌝ }
 {
-    problem_file::write_file(
+    file_writer::write_file(
         n,
         m,
         p_starts,

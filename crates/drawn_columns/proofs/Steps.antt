@@ -1,8 +1,7 @@
--- A column drawn draw by draw. At row i `due` is 1 where the next draw is the value of an entry, and 0 where it says whether the row
--- stores one.
+-- Drawing a column one draw at a time. At row i, `due` is 1 where the next draw is the value of an entry, and 0 where it decides whether the
+-- row stores an entry.
 use Prim.Native.Nat.{ℕ, zero, suc, _+_, _-_, _/_, _%_, _≤_, _<_}
 use native.Mathlib.Nat.{mod-lt, zero-lt-suc}
-use native.Mathlib.Numerals.{add-one}
 use native.Mathlib.Omega.{arith}
 use mathlib.Core.Path.{_≡_, refl, sym, ap, ap₂, _∙_}
 use mathlib.Core.Logic.{_⊎_, inl, inr, ⊎-elim}
@@ -15,19 +14,19 @@ use Rattle.layout.specs.Compact.{Entry}
 use Rattle.layout.specs.Generator.{draw, isOdd, drawnValue, afterEntry, drawnColumn, afterColumn}
 use Rattle.layout.proofs.Drawn.{column-append, after-append, column-few, column-hit, column-miss, after-next}
 
--- the state t behind the rows before i, and behind the first draw at row i where a value is due
+-- t is the state after the rows before i, and after the first draw at row i where a value is due
 abbrev pub Between : ℕ → List ℕ → ℕ → ℕ → ℕ → Type 0
 Between s rs i due t =
     ((due ≡ 0) × (t ≡ afterColumn s (take i rs)))
     ⊎ ((due ≡ 1) × (i < length rs) × (t ≡ draw (afterColumn s (take i rs))) × (isOdd t ≡ true))
 
--- the entries before row i + 1, where the draw u ends row i
+-- how the entries drawn before row i + 1 differ from those before row i, where the draw u is the last one of row i
 abbrev pub Ended : ℕ → List ℕ → ℕ → ℕ → ℕ → Type 0
 Ended s rs i due u =
     ((due ≡ 0) × (drawnColumn s (take (i + 1) rs) ≡ drawnColumn s (take i rs)))
     ⊎ ((due ≡ 1) × (drawnColumn s (take (i + 1) rs) ≡ drawnColumn s (take i rs) ++ (record { row = getD rs i 0; value = drawnValue u } ∷ [])))
 
--- the draw u stays at row i, where a value is due next, or ends the row
+-- after the draw u either the value of row i is due, or row i is finished
 abbrev pub Turn : ℕ → List ℕ → ℕ → ℕ → ℕ → ℕ → Type 0
 Turn s rs i due u next =
     ((next ≡ 1) × (due ≡ 0) × Between s rs i 1 u) ⊎ ((next ≡ 0) × Between s rs (i + 1) 0 u × Ended s rs i due u)
@@ -57,7 +56,7 @@ turn s rs i due t u l q (inr (o, m, here, e)) =
       inr (o, column-hit s rs i l first refl odd ∙ ap (λ (v : ℕ). drawnColumn s (take i rs) ++ (record { row = getD rs i 0; value = drawnValue v } ∷ [])) past),
     )
 
--- what a loop that draws the column has at its next turn, with count entries before row i
+-- what a loop that draws the column has after its next draw, with count entries before row i
 module _ (s : ℕ) (rs : List ℕ) (i count due u k : ℕ) (l : i < length rs) (few : count ≤ i) (t : Turn s rs i due u k) where
   next-small : (k ≤ 1) × (due ≤ 1)
   next-small =
@@ -80,7 +79,7 @@ module _ (s : ℕ) (rs : List ℕ) (i count due u k : ℕ) (l : i < length rs) (
   next-between : Between s rs (i + (1 - k)) k u
   next-between = ⊎-elim (λ w. rw (stayed (w .0), w .0) (w .2)) (λ w. rw (ended (w .0), w .0) (w .1)) t
 
-  -- where it stands, and that less is left
+  -- the bounds after that draw, that the loop's measure falls, and the state
   pub going : (k ≤ 1) × (i + (1 - k) ≤ length rs) × (count + due ≤ i + (1 - k))
       × (length rs - (i + (1 - k)) + (length rs - (i + (1 - k))) - k < length rs - i + (length rs - i) - due) × Between s rs (i + (1 - k)) k u
   going = (next-small .0, next-low .0, next-low .1, next-less, next-between)
@@ -96,7 +95,7 @@ module _ (s : ℕ) (rs : List ℕ) (i count due u k : ℕ) (l : i < length rs) (
       (λ v. omega (arith, n, v .0, ap length (v .1), length-append (drawnColumn s (take i rs)) (entry ∷ []))) (w .2)))
       t
 
-  -- x kept behind count others stays only where it is of an entry
+  -- x, stored at index count, counts only where it belongs to an entry
   module _ {A B : Type 0} (f : Entry → B) (g : List A → List B) (x : A) (one : (ys : List A) → g (ys ++ (x ∷ [])) ≡ g ys ++ (f entry ∷ []))
       (xs : List A) (room : count < length xs) (same : g (take count xs) ≡ map f (drawnColumn s (take i rs))) where
     none-more : due ≡ 0 → g (take (count + due) (set xs count x)) ≡ map f (drawnColumn s (take i rs))
@@ -116,7 +115,7 @@ module _ (s : ℕ) (rs : List ℕ) (i count due u k : ℕ) (l : i < length rs) (
         (⊎-elim (λ v. none-more (v .0) ∙ ap (map f) (sym (v .1))) (λ v. one-more (v .0) ∙ ap (map f) (sym (v .1))) (w .2)))
         t
 
--- a whole column drawn
+-- once all rows are finished, the state is the one after the column
 pub all-drawn : (s : ℕ) (rs : List ℕ) (i due t : ℕ) → length rs ≤ i → Between s rs i due t → t ≡ afterColumn s (take i rs)
 all-drawn s rs i due t h (inl w) = w .1
 all-drawn s rs i due t h (inr w) = absurd (omega (arith, w .1))

@@ -1,4 +1,4 @@
-// The generator's columns (Q-5): counted, and written, over given rows.
+// The columns of the generated problem (Q-5): counts and writes their entries, over given rows.
 ghost use mathlib.Core.Path.{_≡_};
 ghost use Prim.Native.Nat.{_+_, _-_, _/_, _%_, _≤_, _<_};
 ghost use mathlib.Core.List.{map};
@@ -10,14 +10,14 @@ ghost use Rattle.layout.proofs.Compressed.{valuesOf};
 use draws::draw;
 use draws::draw_value;
 
-// What is drawn in a column: how many entries, and the state after them.
+// The result of drawing a column: the number of its entries, and the state after its draws.
 pub struct ColumnDraw {
     pub count: usize,
     pub state: u64,
 }
 
-// Whether a value is due behind the draw `d`, 1 or 0: where none was due before and the draw is odd, so that both halves are there. A product would be compiled to
-// a branch.
+// Returns 1 where the draw after `d` is a value: where `d` is odd and was not a value itself (`due` is 0). Returns 0 otherwise. A product would be
+// compiled to a branch.
 fn due_after(d: u64, due: u64) -> u64
     requires { ⌜ due ≤ 1 ⌝ }
     ensures { λ r. ⌜ r ≡ (d % 2 + (1 - due)) / 2 ⌝ }
@@ -26,7 +26,7 @@ fn due_after(d: u64, due: u64) -> u64
 }
 
 // Draws a column over `rows` and counts its entries. It goes draw by draw: `due` is 1 where the next draw is the value of an entry at
-// row `i`, and 0 where it says whether that row stores one. No branch depends on a draw, since none could be foretold.
+// row `i`, and 0 where it decides whether that row stores one. No branch depends on a draw, since none could be predicted.
 pub fn count_column(s: u64, rows: &[u32]) -> ColumnDraw
     ensures { λ r. ⌜ (r .count ≡ length (drawnColumn s (now (rows .entry)))) × (r .state ≡ afterColumn s (now (rows .entry))) ⌝ }
 {
@@ -43,8 +43,8 @@ pub fn count_column(s: u64, rows: &[u32]) -> ColumnDraw
     ColumnDraw { count, state }
 }
 
-// The same, and keeps the row of each entry and the draw of its value. What the place behind them holds is written over by the next
-// entry.
+// Does what `count_column` does, and writes the row of each entry to `kept_rows` and the draw of its value to `kept`. What is written after the
+// last entry is overwritten by the next one.
 fn keep_column(s: u64, rows: &[u32], kept_rows: &mut [u32], kept: &mut [u64]) -> ColumnDraw
     requires { ⌜ (length (now rows) < length (now «kept_rows»)) × (length (now rows) < length (now kept)) ⌝ }
     ensures { λ r. ⌜ (r .count ≡ length (drawnColumn s (now (rows .entry)))) × (r .state ≡ afterColumn s (now (rows .entry))) ⌝ }
@@ -66,7 +66,7 @@ fn keep_column(s: u64, rows: &[u32], kept_rows: &mut [u32], kept: &mut [u64]) ->
     ColumnDraw { count, state }
 }
 
-// Writes kept entries to the front of the outputs.
+// Writes kept entries to the front of `rows_out` and `values_out`.
 fn write_kept(kept_rows: &[u32], kept: &[u64], rows_out: &mut [u32], values_out: &mut [f64])
     requires { ⌜ (length (now kept) ≡ length (now «kept_rows»)) × (length (now kept) ≤ length (now «rows_out»)) × (length (now kept) ≤ length (now «values_out»)) ⌝ }
     ensures { λ _. ⌜ now («rows_out» .exit) ≡ written (now («kept_rows» .entry)) (now («rows_out» .entry)) ⌝ }
@@ -80,7 +80,7 @@ fn write_kept(kept_rows: &[u32], kept: &[u64], rows_out: &mut [u32], values_out:
     }
 }
 
-// Draws a column over few `rows` and writes its entries to the front of the outputs.
+// Draws a column over at most 63 `rows` and writes its entries to the front of `rows_out` and `values_out`. Returns the count and the state.
 fn write_few(s: u64, rows: &[u32], rows_out: &mut [u32], values_out: &mut [f64]) -> ColumnDraw
     requires { ⌜ length (now rows) ≤ 63 ⌝ }
     requires { ⌜ (length (drawnColumn s (now rows)) ≤ length (now «rows_out»)) × (length (drawnColumn s (now rows)) ≤ length (now «values_out»)) ⌝ }
@@ -100,7 +100,7 @@ fn write_few(s: u64, rows: &[u32], rows_out: &mut [u32], values_out: &mut [f64])
     d
 }
 
-// How many rows of `left` are drawn at once.
+// Returns how many of the `left` rows are drawn in one call: at most 63.
 fn few_of(left: usize) -> usize
     ensures { λ r. ⌜ (r ≤ left) × (r ≤ 63) × (0 < left → 0 < r) ⌝ }
 {
@@ -110,7 +110,7 @@ fn few_of(left: usize) -> usize
     63
 }
 
-// Draws a column over `rows` and writes its entries to the front of the outputs.
+// Draws a column over `rows` and writes its entries to the front of `rows_out` and `values_out`. Returns their number and the state after it.
 pub fn write_column(
     s: u64,
     rows: &[u32],

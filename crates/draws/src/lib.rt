@@ -1,13 +1,13 @@
-// The generator's draws (Q-5): a draw, a drawn value, the ranges of its arguments, the ordering, and a right side over given rows. The
-// state is a u64, which each function takes and hands on.
+// The random draws of the test load generator (Q-5): a draw, a drawn value, the ranges of its arguments, the ordering, and a right side over given
+// rows. The state is a u64; each function takes it and returns the next one.
 ghost use mathlib.Core.Path.{_≡_};
 ghost use Prim.Native.Nat.{_-_, _≤_, _<_};
 ghost use lib.ListN.{length};
 ghost use Rattle.layout.specs.Lists.{below, Below};
 ghost use Rattle.layout.specs.Generator.{draw as drawOf, draws as drawsOf, drawnValue, exchange, exchanges, drawnOrdering, drawnSide, inRanges};
 
-// Changes the state: exclusive or with itself shifted left 13, then right 7, then left 17. A shift to the left loses the bits above
-// 64.
+// Returns the state after `s`, which is also the draw: exclusive or with itself shifted left 13, then right 7, then left 17. Bits above 64 are
+// lost.
 pub fn draw(s: u64) -> u64
     ensures { λ r. ⌜ r ≡ drawOf s ⌝ }
 {
@@ -16,14 +16,14 @@ pub fn draw(s: u64) -> u64
     b ^ (b << 17)
 }
 
-// The value of a draw: a whole number from -100 to 100.
+// Returns the value of the draw `d`: a whole number from -100 to 100.
 pub fn draw_value(d: u64) -> f64
     ensures { λ r. ⌜ r ≡ drawnValue d ⌝ }
 {
     ((d % 201) as i32 - 100) as f64
 }
 
-// Whether the arguments are in their ranges.
+// Returns whether the arguments are in their ranges.
 pub fn in_ranges(seed: u64, v: u32, w: u32, n: u32) -> bool
     ensures { λ r. ⌜ r ≡ inRanges seed v w n ⌝ }
 {
@@ -50,7 +50,7 @@ pub fn in_ranges(seed: u64, v: u32, w: u32, n: u32) -> bool
 
 // ---- the ordering
 
-// Writes the numbers below the length in order.
+// Writes 0, 1, 2, .. to `out`.
 fn count_up(out: &mut [u32])
     requires { ⌜ length (now out) ≤ 64 ⌝ }
     ensures { λ _. ⌜ now (out .exit) ≡ below (length (now (out .entry))) ⌝ }
@@ -62,7 +62,7 @@ fn count_up(out: &mut [u32])
     }
 }
 
-// Exchanges entries `i` and `k`.
+// Exchanges entries `i` and `k` of `out`.
 fn exchange_entries(i: usize, k: usize, out: &mut [u32])
     requires { ⌜ (i < length (now out)) × (k < length (now out)) ⌝ }
     ensures { λ _. ⌜ now (out .exit) ≡ exchange i k (now (out .entry)) ⌝ }
@@ -72,7 +72,8 @@ fn exchange_entries(i: usize, k: usize, out: &mut [u32])
     out[k] = x;
 }
 
-// Exchanges each entry from the last down to 1 with a drawn one that is not after it, and answers the state after these draws.
+// Exchanges each entry of `out`, from the last down to entry 1, with a drawn one at the same or a smaller index. Returns the state after these
+// draws.
 fn exchange_all(seed: u64, out: &mut [u32]) -> u64
     requires { ⌜ (0 < length (now out)) × (length (now out) ≤ 64) ⌝ }
     ensures { λ r. ⌜ r ≡ drawsOf (length (now (out .entry)) - 1) seed ⌝ }
@@ -91,7 +92,7 @@ fn exchange_all(seed: u64, out: &mut [u32]) -> u64
     s
 }
 
-// Draws an ordering of as many vertices as `out` is long, and answers the state after it.
+// Writes to `out` a drawn ordering of as many vertices as it is long. Returns the state after it.
 pub fn draw_ordering(seed: u64, out: &mut [u32]) -> u64
     requires { ⌜ (0 < length (now out)) × (length (now out) ≤ 64) ⌝ }
     ensures { λ r. ⌜ r ≡ drawsOf (length (now (out .entry)) - 1) seed ⌝ }
@@ -109,7 +110,7 @@ pub struct ValueDraw {
     pub state: u64,
 }
 
-// Draws a value without a first draw that would say whether it is stored.
+// Draws a value, without the draw before it that would decide whether it is stored. Returns it with the state after it.
 fn draw_alone(s: u64) -> ValueDraw
     ensures { λ r. ⌜ (r .state ≡ drawOf s) × (r .value ≡ drawnValue (r .state)) ⌝ }
 {
@@ -120,7 +121,7 @@ fn draw_alone(s: u64) -> ValueDraw
     }
 }
 
-// Draws a value to each of the `rows` of the right side.
+// Writes a drawn value to each of the `rows` of the right side `out`.
 pub fn draw_side(s: u64, rows: &[u32], out: &mut [f64])
     requires { ⌜ Below (length (now out)) (now rows) ⌝ }
     ensures { λ _. ⌜ now (out .exit) ≡ drawnSide s (now (rows .entry)) (now (out .entry)) ⌝ }

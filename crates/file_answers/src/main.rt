@@ -1,22 +1,22 @@
-// Runs stored problem files (Q-2), most of them damaged, through the three calls: each is read, and where it is accepted written again,
-// which must give the same bytes. The answers were worked out by the comparison's plain reading
+// Runs stored problem files (Q-2), most of them damaged, through the three file calls: each is read and, where it is accepted, written again,
+// which must give the same bytes. The stored results were computed by the comparison's plain reading
 // (compare/run --file-answers crates/file_answers/data/files --cases 120 --seed 11).
 //
-// A case is 1,024 bytes: the file, bytes that do not matter, and as its last two words the file's length and the number that the reader
-// answers.
+// A case is 1,024 bytes: the file, bytes without meaning, and as the last two words the file's length and the number that the reader
+// must return.
 use libc::STDOUT_FILENO;
 
 const CASES: u32 = 120;
 
-// No call answers this number: what was written is not what is stored.
+// The result where the file written differs from the one read: no call returns this number.
 const DIFFERS: u32 = 4294967295;
 
-// What each count holds before a call, so that one that is written shows.
+// The value of each count before a call, so that a written one is noticed.
 const BEFORE: u32 = 4026531840;
 
-// ---- the fronts of tables
+// ---- prefixes of tables
 
-// Takes the first `n` bytes of `table`, or all where it has fewer.
+// Returns the first `n` bytes of `table`, or all where it has fewer.
 fn front_bytes(table: &[u8], n: usize) -> &[u8] {
     if table.len() < n {
         return table;
@@ -24,7 +24,7 @@ fn front_bytes(table: &[u8], n: usize) -> &[u8] {
     &table[..n]
 }
 
-// Takes the first `n` numbers of `table`, or all where it has fewer.
+// Returns the first `n` numbers of `table`, or all where it has fewer.
 fn front(table: &[u32], n: usize) -> &[u32] {
     if table.len() < n {
         return table;
@@ -32,7 +32,7 @@ fn front(table: &[u32], n: usize) -> &[u32] {
     &table[..n]
 }
 
-// Takes the first `n` patterns of `table`, or all where it has fewer.
+// Returns the first `n` 64-bit patterns of `table`, or all where it has fewer.
 fn front_patterns(table: &[u64], n: usize) -> &[u64] {
     if table.len() < n {
         return table;
@@ -40,7 +40,7 @@ fn front_patterns(table: &[u64], n: usize) -> &[u64] {
     &table[..n]
 }
 
-// Says whether `out` begins with `file`.
+// Returns whether `file` is a prefix of `out`.
 fn begins_with(out: &[u8], file: &[u8]) -> bool {
     if out.len() < file.len() {
         return false;
@@ -57,8 +57,8 @@ fn begins_with(out: &[u8], file: &[u8]) -> bool {
 
 // ---- a case
 
-// Writes a problem that was read, with these counts, and compares. Returns the writer's number, or `DIFFERS` where it is not `file`
-// that was written.
+// Writes a problem that was read, with these `counts`, and compares. Returns the writer's number, or `DIFFERS` where the written bytes are not
+// `file`.
 fn write_again<'a>(
     file: &'a [u8],
     counts: &'a [u32],
@@ -82,7 +82,7 @@ fn write_again<'a>(
     let exponents = stored::item(counts, 5) as usize;
     let words = stored::item(counts, 7) as usize;
     let mut out = [0u8; 1024];
-    let number = problem_file::write_file(
+    let number = file_writer::write_file(
         n as u32,
         m as u32,
         front(p_starts, n + 1),
@@ -105,8 +105,8 @@ fn write_again<'a>(
     if begins_with(&out, file) { 0 } else { DIFFERS }
 }
 
-// Reads `file` and writes it again. Returns the reader's number, or `DIFFERS` where a refused reader has written, or another file than
-// `file` is written.
+// Reads `file` and writes it again. Returns the reader's number, or `DIFFERS` where a refusing reader has written counts, or where the file
+// written is not `file`.
 fn answer(file: &[u8]) -> u32 {
     let mut words = [0u32; 256];
     let number = file_bytes::file_words(file, &mut words);
@@ -165,7 +165,7 @@ fn answer(file: &[u8]) -> u32 {
     )
 }
 
-// Says whether the next case of a file is answered as stored.
+// Reads the next case and returns whether the number found is the stored one.
 fn next_agrees(fd: i32) -> bool {
     let mut case = [0u8; 1024];
     io::read_full(fd, &mut case);

@@ -1,5 +1,5 @@
-// The bytes of a problem file (Q-2), little-endian: words of four of them, 64-bit patterns of two words, and the doubles that patterns
-// stand for.
+// The bytes of a problem file (Q-2), little-endian: words of four bytes, 64-bit patterns of two words, and the doubles with these bit
+// patterns.
 ghost use mathlib.Core.Path.{_≡_};
 ghost use Prim.Native.Nat.{_≤_, _<_, _+_, _/_, _*_};
 ghost use lib.ListN.{length, getD, replicate};
@@ -21,7 +21,7 @@ fn wide(x: u8) -> u32
     x as u32
 }
 
-// Reads the word whose lowest byte stands at `a`.
+// Returns the word whose lowest byte is at index `a` of `file`.
 fn word_at(file: &[u8], a: usize) -> u32
     requires { ⌜ a + 4 ≤ length (now file) ⌝ }
     ensures { λ r. ⌜ r ≡ getD (now (file .entry)) a 0 + 256 * getD (now (file .entry)) (a + 1) 0 + 65536 * getD (now (file .entry)) (a + 2) 0 + 16777216 * getD (now (file .entry)) (a + 3) 0 ⌝ }
@@ -32,7 +32,7 @@ fn word_at(file: &[u8], a: usize) -> u32
         + 16777216 * wide(file[a + 3])
 }
 
-// Writes the whole words of `file`; 1 to 3 bytes after them are left out. Returns 0, or 11 where `out` is too short.
+// Writes the complete words of `file` to `out`; 1 to 3 bytes after them are left out. Returns 0, or 11 where `out` is too short.
 pub fn file_words(file: &[u8], out: &mut [u32]) -> u32
     ensures { λ r. ⌜ FileWords (now (file .entry)) (now (out .entry)) (now (out .exit)) r ⌝ }
 {
@@ -48,7 +48,7 @@ pub fn file_words(file: &[u8], out: &mut [u32]) -> u32
     refusal::DONE
 }
 
-// ---- patterns from words
+// ---- 64-bit patterns from words
 
 fn pattern(low: u32, high: u32) -> u64
     ensures { λ r. ⌜ r ≡ low + 4294967296 * high ⌝ }
@@ -56,7 +56,7 @@ fn pattern(low: u32, high: u32) -> u64
     low as u64 + 4294967296 * (high as u64)
 }
 
-// Writes the patterns of two words each, the low word first.
+// Writes the 64-bit patterns of `words`, two words each, the low word first, to `out`.
 pub fn write_patterns(words: &[u32], out: &mut [u64])
     requires { ⌜ (length (now words) ≡ 2 * (length (now words) / 2)) × (length (now words) / 2 ≤ length (now out)) ⌝ }
     ensures { λ _. ⌜ now (out .exit) ≡ written (pairsOf (now (words .entry))) (now (out .entry)) ⌝ }
@@ -69,9 +69,9 @@ pub fn write_patterns(words: &[u32], out: &mut [u64])
     }
 }
 
-// ---- bytes from words and patterns
+// ---- bytes from words and 64-bit patterns
 
-// Writes the four bytes of `v` from `a` on, the lowest first.
+// Writes the four bytes of `v` to `out` from index `a` on, the lowest first.
 fn put_word(out: &mut [u8], a: usize, v: u32)
     requires { ⌜ a + 4 ≤ length (now out) ⌝ }
     ensures { λ _. ⌜ now (out .exit) ≡ putWord (now (out .entry)) a v ⌝ }
@@ -82,7 +82,7 @@ fn put_word(out: &mut [u8], a: usize, v: u32)
     out[a + 3] = (v / 16777216 % 256) as u8;
 }
 
-// Writes the bytes of `words`.
+// Writes the bytes of `words` to `out`.
 pub fn write_words(words: &[u32], out: &mut [u8])
     requires { ⌜ 4 * length (now words) ≤ length (now out) ⌝ }
     ensures { λ _. ⌜ now (out .exit) ≡ written (tableBytes 4 (now (words .entry))) (now (out .entry)) ⌝ }
@@ -95,7 +95,7 @@ pub fn write_words(words: &[u32], out: &mut [u8])
     }
 }
 
-// Writes the bytes of `values`.
+// Writes the bytes of `values`, 64-bit patterns of doubles, to `out`.
 pub fn write_doubles(values: &[u64], out: &mut [u8])
     requires { ⌜ 8 * length (now values) ≤ length (now out) ⌝ }
     ensures { λ _. ⌜ now (out .exit) ≡ written (tableBytes 8 (now (values .entry))) (now (out .entry)) ⌝ }
@@ -113,7 +113,7 @@ pub fn write_doubles(values: &[u64], out: &mut [u8])
     }
 }
 
-// Writes `count` zero bytes.
+// Writes `count` zero bytes to `out`.
 pub fn write_zeros(count: usize, out: &mut [u8])
     requires { ⌜ count ≤ length (now out) ⌝ }
     ensures { λ _. ⌜ now (out .exit) ≡ written (replicate count 0) (now (out .entry)) ⌝ }
@@ -125,17 +125,17 @@ pub fn write_zeros(count: usize, out: &mut [u8])
     }
 }
 
-// ---- doubles and their patterns
+// ---- doubles and their bit patterns
 
-// The pattern of +infinity, above which a NaN's lies once the sign is taken off, and that of −0.0, which is the sign alone.
+// The bit pattern of +infinity, above which those of NaNs lie once the sign is removed, and that of −0.0, which is the sign bit alone.
 const INFINITY: u64 = 9218868437227405312;
 
 const SIGN: u64 = 9223372036854775808;
 
-// The pattern that is written for every NaN.
+// The bit pattern that is written for every NaN.
 const NAN: u64 = 9221120237041090560;
 
-// Reads the double of `pattern`; which NaN it is cannot be told.
+// Returns the double with the bit pattern `pattern`; NaNs are not told apart.
 fn float_of(pattern: u64) -> f64
     ensures { λ r. ⌜ r ≡ ofBits binary64 pattern ⌝ }
 {
@@ -145,7 +145,7 @@ fn float_of(pattern: u64) -> f64
     f64::from_bits(pattern)
 }
 
-// Makes the pattern of `x`.
+// Returns the bit pattern of `x`.
 fn bits_of(x: f64) -> u64
     ensures { λ r. ⌜ r ≡ toBits binary64 x ⌝ }
 {
@@ -155,7 +155,7 @@ fn bits_of(x: f64) -> u64
     f64::to_bits(x)
 }
 
-// Writes the doubles of `patterns`.
+// Writes the doubles with the bit patterns `patterns` to `out`.
 pub fn write_floats(patterns: &[u64], out: &mut [f64])
     requires { ⌜ length (now patterns) ≤ length (now out) ⌝ }
     ensures { λ _. ⌜ now (out .exit) ≡ written (floats (now (patterns .entry))) (now (out .entry)) ⌝ }
@@ -167,7 +167,7 @@ pub fn write_floats(patterns: &[u64], out: &mut [f64])
     }
 }
 
-// Writes the patterns of `values`.
+// Writes the bit patterns of `values` to `out`.
 pub fn write_bits(values: &[f64], out: &mut [u64])
     requires { ⌜ length (now values) ≤ length (now out) ⌝ }
     ensures { λ _. ⌜ now (out .exit) ≡ written (bits (now (values .entry))) (now (out .entry)) ⌝ }

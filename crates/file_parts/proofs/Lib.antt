@@ -1,2 +1,1 @@
-pub mod Doubles
 pub mod Given

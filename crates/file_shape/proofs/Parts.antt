@@ -1,4 +1,4 @@
--- Where the tables of words that 13 and 14 let pass stand.
+-- Where the tables lie in words that pass checks 13 and 14.
 use Prim.Native.Nat.{ℕ, _*_, _≤_, _<_}
 use native.Mathlib.Omega.{arith}
 use mathlib.Core.Path.{_≡_, sym, ap, subst, _∙_}
@@ -11,23 +11,23 @@ use Rattle.layout.proofs.Order.{orElse-zero}
 use Rattle.layout.proofs.Starts.{part-at}
 use Rattle.layout.proofs.FileWords.{words-whole}
 use Rattle.layout.proofs.FileWalks.{shape-long, table-stands, words-unvalued}
-use Rattle.file_shape.specs.Parts.{Stands, Inside}
+use Rattle.file_shape.specs.Parts.{WellShaped, Inside}
 
-pub stands : (ws : List ℕ) (n : ℕ) → wordShapeFailing ws n ≡ 0 → Stands ws
+pub stands : (ws : List ℕ) (n : ℕ) → wordShapeFailing ws n ≡ 0 → WellShaped ws
 stands ws n ok = subst (λ (k : ℕ). wordShapeFailing ws k ≡ 0) (words-whole ws n ok) ok
 
-module _ (ws : List ℕ) (ok : Stands ws) where
+module _ (ws : List ℕ) (ok : WellShaped ws) where
   pub stands-long : 20 ≤ length ws
   stands-long = shape-long ws (4 * length ws) ok .1
 
   pub stands-end : getD ws 19 0 ≡ 4 * length ws
   stands-end = shape-long ws (4 * length ws) ok .2
 
-  -- table i, of k words
+  -- table i, of k words, lies within the words
   pub stands-inside : (i k : ℕ) → i < 11 → 4 * k ≡ getD (tableSizes (countsIn ws)) i 0 → Inside ws i k
   stands-inside i k l z = (omega (arith, l, stands-long), table-stands ws (4 * length ws) ok i k l z .1)
 
-  -- the same by a count g that k equals; a pattern is two words
+  -- the same with a count g that k equals; a double is two words
   pub inside-words : (i k g : ℕ) → i < 11 → 4 * g ≡ getD (tableSizes (countsIn ws)) i 0 → k ≡ g → Inside ws i k
   inside-words i k g l z e = stands-inside i k l (ap (λ (j : ℕ). 4 * j) e ∙ z)
 
@@ -38,7 +38,7 @@ module _ (ws : List ℕ) (ok : Stands ws) where
   pub counts-front : take 8 ws ≡ countWords (countsIn ws)
   counts-front = sym (part-at 0 ws 0 8 (omega (arith, stands-long)))
 
--- so do words that pass all checks
-pub accepted-stands : (ws : List ℕ) (n : ℕ) → wordsFailing ws n ≡ 0 → Stands ws
+-- words that pass all checks of the reader also pass 13 and 14
+pub accepted-stands : (ws : List ℕ) (n : ℕ) → wordsFailing ws n ≡ 0 → WellShaped ws
 accepted-stands ws n e =
     stands ws n (orElse-zero (wordShapeFailing ws n) (problemRefusal (unvaluedProblem ws)) .0 (sym (words-unvalued ws n) ∙ e) .0)

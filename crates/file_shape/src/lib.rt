@@ -1,4 +1,4 @@
-// The shape of a problem file (Q-2): its counts, where its tables stand in its words, and whether they stand right (13 and 14).
+// The shape of a problem file (Q-2): its counts, where its tables start in its words, and whether they are where they must be (checks 13 and 14).
 ghost use mathlib.Core.Path.{_≡_};
 ghost use Prim.Native.Nat.{_≤_, _<_, _+_, _/_, _*_};
 ghost use lib.ListN.{length, getD};
@@ -11,7 +11,7 @@ use constants::header;
 use constants::record;
 use constants::refusal;
 
-// Reads word `i`.
+// Returns word `i`, as a count.
 pub fn count_at(words: &[u32], i: usize) -> usize
     requires { ⌜ i < length (now words) ⌝ }
     ensures { λ r. ⌜ (r ≡ getD (now (words .entry)) i 0) × (r < 4294967296) ⌝ }
@@ -19,7 +19,7 @@ pub fn count_at(words: &[u32], i: usize) -> usize
     words[i] as usize
 }
 
-// The word at which table `i` starts.
+// Returns the index of the word at which table `i` starts.
 pub fn start_of(words: &[u32], i: usize) -> usize
     requires { ⌜ 8 + i < length (now words) ⌝ }
     ensures { λ r. ⌜ (r ≡ getD (now (words .entry)) (8 + i) 0 / 4) × (r < 4294967296) ⌝ }
@@ -27,8 +27,8 @@ pub fn start_of(words: &[u32], i: usize) -> usize
     count_at(words, header::OFFSETS + i) / WORD_BYTES
 }
 
-// The bytes of table `i`, as the counts give them.
-fn table_size(words: &[u32], i: usize) -> usize
+// Returns the number of bytes of table `i`, computed from the counts.
+pub fn table_size(words: &[u32], i: usize) -> usize
     requires { ⌜ (20 ≤ length (now words)) × (i < 11) ⌝ }
     ensures { λ r. ⌜ (r ≡ getD (tableSizes (countsIn (now (words .entry)))) i 0) × (r < 68719476736) ⌝ }
 {
@@ -65,7 +65,7 @@ fn table_size(words: &[u32], i: usize) -> usize
     WORD_BYTES * count_at(words, header::PATTERN_WORDS)
 }
 
-// Whether the gap after byte `a` is zero; outside `words` it is.
+// Returns whether the gap from byte `a` to the next multiple of 8 is zero; true where it lies beyond `words`.
 fn gap_zero(words: &[u32], a: usize) -> bool
     requires { ⌜ (a ≡ 4 * (a / 4)) × (a + 7 < 18446744073709551616) ⌝ }
     ensures { λ r. ⌜ r ≡ gapZero a (now (words .entry)) ⌝ }
@@ -79,7 +79,7 @@ fn gap_zero(words: &[u32], a: usize) -> bool
     words[a / WORD_BYTES] == 0
 }
 
-// Whether `words` are those of a file of `bytes` bytes that has a whole header, and says so.
+// Returns whether `words` are those of a file of `bytes` bytes with a complete header, whose length word is `bytes`.
 fn length_right(words: &[u32], bytes: usize) -> bool
     ensures { λ r. ⌜ r ≡ wordsLengthRight (now (words .entry)) bytes ⌝ }
 {
@@ -93,7 +93,7 @@ fn length_right(words: &[u32], bytes: usize) -> bool
     said == bytes
 }
 
-// Whether the tables stand where the counts say, with zero gaps, and the file ends after the last.
+// Returns whether the tables start where the counts require, with zero gaps, and the file ends after the last one.
 fn tables_right(words: &[u32]) -> bool
     ensures { λ r. ⌜ r ≡ wordTablesRight (now (words .entry)) ⌝ }
 {
@@ -116,7 +116,7 @@ fn tables_right(words: &[u32]) -> bool
     count_at(words, header::LENGTH) == a
 }
 
-// Finds 13 where `words` are not those of a file of `bytes` bytes, then 14 where its tables do not stand right. Returns 0 where they do.
+// Returns 13 where `words` are not those of a file of `bytes` bytes, else 14 where its tables are not where they must be, else 0.
 pub fn shape_refusal(words: &[u32], bytes: usize) -> u32
     ensures { λ r. ⌜ r ≡ wordShapeFailing (now (words .entry)) bytes ⌝ }
 {

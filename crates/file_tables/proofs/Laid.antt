@@ -1,4 +1,4 @@
--- Offsets and tables one after the other, for the loops and calls that write them.
+-- Offsets and tables in file order, as loops and calls write them.
 use Prim.Native.Nat.{ℕ, zero, suc, _+_, _-_, _*_, _≤_, _<_}
 use native.Mathlib.Omega.{arith}
 use native.Mathlib.Numerals.{add-one}
@@ -33,7 +33,7 @@ widths-few =
     each-below 9 widths
     (lit< tt, (lit< tt, (lit< tt, (lit< tt, (lit< tt, (lit< tt, (lit< tt, (lit< tt, (lit< tt, (lit< tt, (lit< tt, tt)))))))))))
 
--- the bytes of a table whose length fits a u32
+-- a bound on the bytes of a table whose length is a u32
 pub size-most : (ks : List ℕ) (i : ℕ) → i < 11 → getD ks i 0 < 4294967296 → getD widths i 0 * getD ks i 0 ≤ 34359738360
 size-most ks i l h = mul-le-mul {n₂ = 8} {m₂ = 4294967295} (omega (arith, widths-few i l)) (omega arith)
 
@@ -47,14 +47,14 @@ module _ (a : ℕ) (ks : List ℕ) (i : ℕ) (l : i < length ks) where
   left : drop i ks ≡ getD ks i 0 ∷ drop (i + 1) ks
   left = drop-cons ks i 0 l ∙ ap (λ (j : ℕ). getD ks i 0 ∷ drop j ks) (sym (add-one i))
 
-  -- the end, from the end of table i on
+  -- the end of the file, computed from the end of table i
   pub end-step : endFrom a (drop i ks) ≡ endFrom (aligned a + getD ks i 0) (drop (i + 1) ks)
   end-step = ap (endFrom a) left
 
   pub end-later : aligned a ≤ endFrom a (drop i ks)
   end-later = omega (arith, end-step, end-from (aligned a + getD ks i 0) (drop (i + 1) ks))
 
-  -- table i begins at the offset that is left first, and those after it are left
+  -- table i begins at the first offset not yet written, and the other offsets follow from its end
   pub offset-here : (os : List ℕ) → i < length os → drop i os ≡ offsetsFrom a (drop i ks)
       → (getD os i 0 ≡ aligned a) × (drop (i + 1) os ≡ offsetsFrom (aligned a + getD ks i 0) (drop (i + 1) ks))
   offset-here os h e =
@@ -65,7 +65,7 @@ module _ (a : ℕ) (ks : List ℕ) (i : ℕ) (l : i < length ks) where
 pub end-done : (a : ℕ) (ks : List ℕ) (i : ℕ) → length ks ≤ i → endFrom a (drop i ks) ≡ a
 end-done a ks i l = ap (endFrom a) (drop-of-length-le ks {i = i} l)
 
--- ---- tables after tables
+-- ---- tables followed by further tables
 
 pub end-then : (a : ℕ) (ts us : List (List ℕ)) → endFrom a (map length (ts ++ us)) ≡ endFrom (endFrom a (map length ts)) (map length us)
 end-then a [] us = refl
@@ -84,16 +84,16 @@ laid-then a (t ∷ ts) us =
 pub end-before : (a : ℕ) (ts us : List (List ℕ)) → endFrom a (map length ts) ≤ endFrom a (map length (ts ++ us))
 end-before a ts us = rw (end-then a ts us) (end-from (endFrom a (map length ts)) (map length us))
 
--- and so lower than a bound on these
+-- a bound on the end of all tables also bounds the end of some
 pub end-low : (n a : ℕ) (ts us : List (List ℕ)) (e : ℕ) → e ≡ endFrom a (map length ts) → endFrom a (map length (ts ++ us)) < n → e < n
 end-low n a ts us e at low = omega (arith, at, low, end-before a ts us)
 
--- laid tables leave the length
+-- writing tables keeps the length of the output
 pub laid-length : (a : ℕ) (ts : List (List ℕ)) (old : List ℕ) {ws : List ℕ} → endFrom a (map length ts) ≤ a + length old
     → ws ≡ written (laidFrom a ts) old → length ws ≡ length old
 laid-length a ts old {ws} room f = ap length f ∙ length-written (laidFrom a ts) old (omega (arith, length-laid a ts, room))
 
--- what is left after them begins inside, and has the room of those that follow
+-- the rest of the output begins within it
 pub laid-inside : (a : ℕ) (ts : List (List ℕ)) (old ws : List ℕ) (e : ℕ) → e ≡ endFrom a (map length ts)
     → endFrom a (map length ts) ≤ a + length old → length ws ≡ length old → (a ≤ e) × (e - a ≤ length ws)
 laid-inside a ts old ws e at room same = (omega (arith, at, end-from a (map length ts)), omega (arith, at, room, same))
@@ -105,7 +105,7 @@ laid-room a ts us old ws e at room same =
     let whole : endFrom e (map length us) ≤ a + length old = rw at (rw (end-then a ts us) at room) in
     omega (arith, at, whole, same, length-tail ws (e - a), end-from a (map length ts), end-from e (map length us))
 
--- a call laid tables at the front of old, which then was ws, and another laid more of them in all that was left
+-- writing tables ts and then, after them, tables us writes ts ++ us
 pub laid-after : (a : ℕ) (ts us : List (List ℕ)) (old : List ℕ) {ws vs : List ℕ} (e : ℕ) → e ≡ endFrom a (map length ts)
     → endFrom a (map length (ts ++ us)) ≤ a + length old
     → ws ≡ written (laidFrom a ts) old → vs ≡ written (laidFrom e us) (take (length ws - (e - a)) (drop (e - a) ws))

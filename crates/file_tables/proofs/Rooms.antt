@@ -1,4 +1,4 @@
--- What the reader's number says of its outputs: a refused reader keeps them, and 0 says that each has room.
+-- What the reader's number says about its outputs: if it is not 0 they are unchanged, and if it is 0 each is long enough.
 use Prim.Native.Nat.{ℕ, zero, suc, _*_, _≤_}
 use native.Mathlib.Omega.{arith}
 use mathlib.Core.Path.{_≡_, refl}
@@ -12,10 +12,10 @@ use Rattle.layout.specs.FileWords.{wordsFailing, readWordsRefusal}
 use Rattle.layout.specs.Calls.ReadFile.{FileOutputs, fileRooms, HoldsFile}
 use Rattle.layout.proofs.Tests.{and-iff, leb-iff}
 use Rattle.layout.proofs.Buffers.{output-kept}
-use Rattle.file_shape.specs.Parts.{Stands}
+use Rattle.file_shape.specs.Parts.{WellShaped}
 use Rattle.file_shape.proofs.Parts.{accepted-stands}
 
--- a refused reader keeps every output
+-- a reader that refuses leaves every output unchanged
 pub file-kept : (r : ℕ) (new old : FileOutputs) → (r ≡ 0 → ⊥) → HoldsFile r new old old
 file-kept r new old h = record {
   counts = output-kept r _ _ h;
@@ -32,7 +32,7 @@ file-kept r new old h = record {
   patternWords = output-kept r _ _ h;
 }
 
--- what a reader's 0 says: the words stand right, and each output has room
+-- if the reader returns 0, the words pass its checks and each output is long enough
 both : (a : ℕ) (t : Bool) → orElse a (cond t 0 11) ≡ 0 → (a ≡ 0) × T t
 both zero true h = (refl, tt)
 both zero false h = absurd (omega arith)
@@ -52,7 +52,7 @@ pub record RoomsFit (ws : List ℕ) (o : FileOutputs) : Type 0 where
   pub alphas : countsIn ws .alphas ≤ length (o .alphas)
   pub patternWords : countsIn ws .words ≤ length (o .patternWords)
 
-pub read-taken : (ws : List ℕ) (n : ℕ) (o : FileOutputs) → readWordsRefusal ws n (fileRooms o) ≡ 0 → Stands ws × RoomsFit ws o
+pub read-taken : (ws : List ℕ) (n : ℕ) (o : FileOutputs) → readWordsRefusal ws n (fileRooms o) ≡ 0 → WellShaped ws × RoomsFit ws o
 read-taken ws n o e =
     let (ok, room) = both (wordsFailing ws n) (roomy (8 ∷ countedLengths (countsIn ws)) (fileRooms o)) e in
     let each = simp (and-iff, leb-iff) at room in (

@@ -1,4 +1,5 @@
--- The tables that the writer is given: checks 1 to 7 see their lengths alone, and the header of tables that pass follows from these.
+-- The tables passed to the writer: checks 1 to 7 depend on float tables only by their lengths, and the header of accepted tables follows
+-- from the lengths.
 use Prim.Native.Nat.{ℕ, _<_}
 use native.Mathlib.Omega.{arith}
 use mathlib.Core.Path.{_≡_, sym, ap, subst, _∙_}
@@ -7,19 +8,19 @@ use lib.ListN.{length, length-map, length-replicate}
 use lib.Ieee.{binary64, ofBits, nan}
 use Rattle.layout.specs.Problem.{Problem, problem}
 use Rattle.layout.specs.Answers.{problemRefusal}
-use Rattle.layout.specs.File.{widths, products, countedLengths, tableSizes, endFrom, Tables, floats, problemOf, countsOf}
+use Rattle.layout.specs.File.{widths, products, countedLengths, tableSizes, endFrom, BitTables, floats, problemOf, countsOf}
 use Rattle.layout.specs.FileWords.{unvalued}
 use Rattle.layout.proofs.Accepted.{problem-checked}
 use Rattle.layout.proofs.File.{Shaped, checked-shaped, FewCounts, checked-counts, few-end}
 use Rattle.layout.proofs.Lengths.{refusal-lengths}
 
--- the problem of tables with their values left aside
-abbrev pub unvaluedOf : Tables → Problem
+-- the problem of the tables with all floats left out, only their number kept
+abbrev pub unvaluedOf : BitTables → Problem
 unvaluedOf t =
     problem (t .n) (t .m) (t .pStarts) (t .pRows) (unvalued (length (t .pValues))) (unvalued (length (t .q)))
     (t .aStarts) (t .aRows) (unvalued (length (t .aValues))) (unvalued (length (t .b))) (t .cones) (unvalued (length (t .alphas))) (t .patternCount) (t .patternWords)
 
-pub tables-refusal : (t : Tables) → problemRefusal (unvaluedOf t) ≡ problemRefusal (problemOf t)
+pub tables-refusal : (t : BitTables) → problemRefusal (unvaluedOf t) ≡ problemRefusal (problemOf t)
 tables-refusal t =
     let as-many : (xs : List ℕ) → length (unvalued (length xs)) ≡ length (floats xs) = λ xs.
     length-replicate (length xs) nan ∙ sym (length-map xs (ofBits binary64)) in
@@ -28,14 +29,14 @@ tables-refusal t =
     (t .cones) (unvalued (length (t .alphas))) (floats (t .alphas)) (t .patternCount) (t .patternWords)
     (as-many (t .pValues)) (as-many (t .q)) (as-many (t .aValues)) (as-many (t .b)) (as-many (t .alphas))
 
--- how many numbers each table has
-abbrev pub lengthsOf : Tables → List ℕ
+-- the length of each table
+abbrev pub lengthsOf : BitTables → List ℕ
 lengthsOf t =
     length (t .pStarts) ∷ length (t .pRows) ∷ length (t .pValues) ∷ length (t .q)
     ∷ length (t .aStarts) ∷ length (t .aRows) ∷ length (t .aValues) ∷ length (t .b)
     ∷ length (t .cones) ∷ length (t .alphas) ∷ length (t .patternWords) ∷ []
 
-pub record FewNumbers (t : Tables) : Type 0 where
+pub record FewNumbers (t : BitTables) : Type 0 where
   pub pStarts : length (t .pStarts) < 4294967296
   pub pRows : length (t .pRows) < 4294967296
   pub pValues : length (t .pValues) < 4294967296
@@ -48,7 +49,7 @@ pub record FewNumbers (t : Tables) : Type 0 where
   pub alphas : length (t .alphas) < 4294967296
   pub patternWords : length (t .patternWords) < 4294967296
 
-module _ (t : Tables) (ok : problemRefusal (problemOf t) ≡ 0) where
+module _ (t : BitTables) (ok : problemRefusal (problemOf t) ≡ 0) where
   shaped : Shaped t
   shaped = checked-shaped t (problem-checked (problemOf t) ok)
 
@@ -70,7 +71,7 @@ module _ (t : Tables) (ok : problemRefusal (problemOf t) ≡ 0) where
     patternWords = omega (arith, few .words);
   }
 
-  -- they are as the counts say
+  -- the lengths are those that the counts give
   counted : lengthsOf t ≡ countedLengths (countsOf t)
   counted = λ i.
       shaped .pStarts i ∷ shaped .pRows i ∷ length (t .pValues) ∷ shaped .q i

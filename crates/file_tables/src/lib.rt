@@ -1,4 +1,4 @@
-// The tables of a problem file (Q-2): what the reader and the writer do with each of them. Float tables stand as 64-bit patterns, so that
+// The tables of a problem file (Q-2), each as the reader and the writer handle it. Floats are kept as their 64-bit patterns (u64), so that
 // a NaN keeps its bits.
 ghost use mathlib.Core.Path.{_≡_};
 ghost use mathlib.Core.List.{map, [], _∷_, _++_};
@@ -7,9 +7,9 @@ ghost use Prim.Native.Nat.{_≤_, _<_, _+_, _*_};
 ghost use lib.ListN.{length, getD};
 ghost use Rattle.layout.specs.Lists.{written};
 ghost use Rattle.layout.specs.Answers.{roomy, problemRefusal};
-ghost use Rattle.layout.specs.File.{aligned, countsIn, countedLengths, widths, products, offsetsFrom, endFrom, headerOf, tableBytes, tables as tablesOf, problemOf, countsOf, laidFrom};
+ghost use Rattle.layout.specs.File.{aligned, countsIn, countedLengths, widths, products, offsetsFrom, endFrom, headerOf, tableBytes, bitTables as tablesOf, problemOf, countsOf, laidFrom};
 ghost use Rattle.layout.specs.FileWords.{pairsOf, wordsAt};
-ghost use Rattle.file_shape.specs.Parts.{Stands, Inside};
+ghost use Rattle.file_shape.specs.Parts.{WellShaped, Inside};
 ghost use Rattle.file_tables.specs.Groups.{matrixBytes, layoutBytes};
 use constants::file_table;
 use constants::file_table::DOUBLE_BYTES;
@@ -23,9 +23,9 @@ const COUNTS: u32 = header::COUNTS as u32;
 
 const RECORD_WORDS: u32 = record::WORDS as u32;
 
-// Check 11 of the reader: the room of the eight counts and of each table.
+// Makes check 11 of the reader: `rooms` holds the lengths of its outputs, for the eight counts and for each table. Returns 11 or 0.
 pub fn check_room(words: &[u32], rooms: &[usize]) -> u32
-    requires { ⌜ Stands (now words) ⌝ }
+    requires { ⌜ WellShaped (now words) ⌝ }
     ensures { λ r. ⌜ r ≡ cond (roomy (8 ∷ countedLengths (countsIn (now (words .entry)))) (now (rooms .entry))) 0 11 ⌝ }
 {
     let starts = words[header::N] + 1;
@@ -47,7 +47,7 @@ pub fn check_room(words: &[u32], rooms: &[usize]) -> u32
     utils::check_rooms(&needs, rooms)
 }
 
-// Writes the `count` words of table `i`.
+// Copies the `count` words of table `i` of the file to the front of `out`.
 fn copy_table(words: &[u32], i: usize, count: usize, out: &mut [u32])
     requires { ⌜ Inside (now words) i count × (count ≤ length (now out)) ⌝ }
     ensures { λ _. ⌜ now (out .exit) ≡ written (wordsAt (now (words .entry)) i count) (now (out .entry)) ⌝ }
@@ -56,7 +56,7 @@ fn copy_table(words: &[u32], i: usize, count: usize, out: &mut [u32])
     csc::copy_numbers(out, &words[at..at + count]);
 }
 
-// Writes the `count` patterns of table `i`.
+// Writes the `count` floats of table `i`, as 64-bit patterns, to the front of `out`.
 fn copy_patterns(words: &[u32], i: usize, count: usize, out: &mut [u64])
     requires { ⌜ Inside (now words) i (2 * count) × (count ≤ length (now out)) ⌝ }
     ensures { λ _. ⌜ now (out .exit) ≡ written (pairsOf (wordsAt (now (words .entry)) i (2 * count))) (now (out .entry)) ⌝ }
@@ -65,7 +65,8 @@ fn copy_patterns(words: &[u32], i: usize, count: usize, out: &mut [u64])
     file_bytes::write_patterns(&words[at..at + 2 * count], out);
 }
 
-// Writes the tables of P and q, or of A and b: the four from table `first` on, of `n` columns, `entries` entries and `rows` values.
+// Writes the tables of P and q, or of A and b: the four tables from number `first` on, with `n` columns, `entries` entries, and `rows`
+// values in the vector.
 pub fn read_matrix(
     words: &[u32],
     first: usize,
@@ -91,14 +92,14 @@ pub fn read_matrix(
     copy_patterns(words, first + 3, rows, side_out);
 }
 
-// Writes the cones, α and the pattern words.
+// Writes the tables of cones, α and pattern words to the fronts of the outputs.
 pub fn read_layout(
     words: &[u32],
     cones_out: &mut [u32],
     alphas_out: &mut [u64],
     pattern_words_out: &mut [u32],
 )
-    requires { ⌜ Stands (now words) ⌝ }
+    requires { ⌜ WellShaped (now words) ⌝ }
     requires { let c = countsIn (now words) in ⌜ (3 * c .cones ≤ length (now «cones_out»)) × (c .alphas ≤ length (now «alphas_out»)) × (c .words ≤ length (now «pattern_words_out»)) ⌝ }
     ensures { λ _. let c = countsIn (now (words .entry)) in ⌜ now («cones_out» .exit) ≡ written (wordsAt (now (words .entry)) 8 (3 * c .cones)) (now («cones_out» .entry)) ⌝ }
     ensures { λ _. let c = countsIn (now (words .entry)) in ⌜ now («alphas_out» .exit) ≡ written (pairsOf (wordsAt (now (words .entry)) 9 (2 * c .alphas))) (now («alphas_out» .entry)) ⌝ }
@@ -114,7 +115,7 @@ pub fn read_layout(
 
 // ---- the writer's header
 
-// Where table `i` of these lengths ends, if the one before it ends at `end`.
+// Returns the byte where table `i` ends, if the table before it ends at byte `end`. Table `k` has `lengths[k]` numbers.
 fn next_end(end: usize, lengths: &[u32], i: usize) -> usize
     requires { ⌜ (end < 1099511627776) × (length (now lengths) ≡ 11) × (i < 11) ⌝ }
     ensures { λ r. ⌜ (r ≡ aligned end + getD (products widths (now (lengths .entry))) i 0) × (r ≤ end + 34359738375) ⌝ }
@@ -135,7 +136,7 @@ fn next_end(end: usize, lengths: &[u32], i: usize) -> usize
     (end + 7) / 8 * 8 + bytes[i] * (lengths[i] as usize)
 }
 
-// Finds where a file whose tables have these eleven lengths ends.
+// Returns the byte where a file ends whose eleven tables have these lengths.
 pub fn end_of(lengths: &[u32]) -> usize
     requires { ⌜ length (now lengths) ≡ 11 ⌝ }
     ensures { λ r. ⌜ (r ≡ endFrom 80 (products widths (now (lengths .entry)))) × (r < 1099511627776) ⌝ }
@@ -149,7 +150,7 @@ pub fn end_of(lengths: &[u32]) -> usize
     end
 }
 
-// Writes where each table of these lengths begins, and where the last ends.
+// Writes the byte offset of each table, for tables of these lengths, and then the byte where the last table ends.
 fn write_offsets(lengths: &[u32], out: &mut [u32])
     requires { ⌜ (length (now lengths) ≡ 11) × (12 ≤ length (now out)) × (endFrom 80 (products widths (now lengths)) < 4294967296) ⌝ }
     ensures { λ _. ⌜ now (out .exit) ≡ written (offsetsFrom 80 (products widths (now (lengths .entry))) ++ (endFrom 80 (products widths (now (lengths .entry))) ∷ [])) (now (out .entry)) ⌝ }
@@ -164,7 +165,7 @@ fn write_offsets(lengths: &[u32], out: &mut [u32])
     out[file_table::COUNT] = end as u32;
 }
 
-// Writes the counts, then the offsets of tables of these lengths.
+// Writes the eight counts, then the offsets of tables of these lengths and the file's length.
 fn write_header(counts: &[u32], lengths: &[u32], out: &mut [u32])
     requires { ⌜ (length (now counts) ≡ 8) × (length (now lengths) ≡ 11) × (20 ≤ length (now out)) × (endFrom 80 (products widths (now lengths)) < 4294967296) ⌝ }
     ensures { λ _. ⌜ now (out .exit) ≡ written (now (counts .entry) ++ (offsetsFrom 80 (products widths (now (lengths .entry))) ++ (endFrom 80 (products widths (now (lengths .entry))) ∷ []))) (now (out .entry)) ⌝ }
@@ -173,7 +174,7 @@ fn write_header(counts: &[u32], lengths: &[u32], out: &mut [u32])
     write_offsets(lengths, &mut out[header::OFFSETS..]);
 }
 
-// Writes the header of a problem that passes checks 1 to 7.
+// Writes the header of the file of a problem that passes checks 1 to 7.
 pub fn make_header(
     n: u32,
     m: u32,
@@ -223,9 +224,9 @@ pub fn make_header(
     write_header(&counts, &lengths, out);
 }
 
-// ---- the writer's tables: `out` begins where the table before them ends, at byte `end` of the file
+// ---- the writer's tables: the front of `out` is byte `end` of the file, where the table before ends
 
-// Writes the gap and the bytes of `words`. Returns where they end.
+// Writes the zero bytes of the gap, then the bytes of `words`. Returns the byte of the file where they end.
 fn lay_words(end: usize, words: &[u32], out: &mut [u8]) -> usize
     requires { ⌜ (end < 4294967296) × (endFrom end (map length (tableBytes 4 (now words) ∷ [])) ≤ end + length (now out)) ⌝ }
     ensures { λ r. ⌜ r ≡ endFrom end (map length (tableBytes 4 (now (words .entry)) ∷ [])) ⌝ }
@@ -237,7 +238,7 @@ fn lay_words(end: usize, words: &[u32], out: &mut [u8]) -> usize
     up + WORD_BYTES * words.len()
 }
 
-// Writes the gap and the bytes of `values`. Returns where they end.
+// Writes the zero bytes of the gap, then the bytes of `values`. Returns the byte of the file where they end.
 fn lay_doubles(end: usize, values: &[u64], out: &mut [u8]) -> usize
     requires { ⌜ (end < 4294967296) × (endFrom end (map length (tableBytes 8 (now values) ∷ [])) ≤ end + length (now out)) ⌝ }
     ensures { λ r. ⌜ r ≡ endFrom end (map length (tableBytes 8 (now (values .entry)) ∷ [])) ⌝ }
@@ -249,7 +250,7 @@ fn lay_doubles(end: usize, values: &[u64], out: &mut [u8]) -> usize
     up + DOUBLE_BYTES * values.len()
 }
 
-// Writes the tables of P and q, or of A and b. Returns where they end.
+// Writes the tables of P and q, or of A and b, with their gaps. Returns the byte of the file where they end.
 fn lay_matrix(
     end: usize,
     starts: &[u32],
@@ -269,7 +270,7 @@ fn lay_matrix(
     lay_doubles(end3, side, &mut out[end3 - end..])
 }
 
-// Writes the cones, α and the pattern words.
+// Writes the tables of cones, α and pattern words, with their gaps.
 fn lay_layout(end: usize, cones: &[u32], alphas: &[u64], words: &[u32], out: &mut [u8])
     requires { ⌜ endFrom end (map length (layoutBytes (now cones) (now alphas) (now words))) ≤ end + length (now out) ⌝ }
     requires { ⌜ endFrom end (map length (layoutBytes (now cones) (now alphas) (now words))) < 4294967296 ⌝ }
@@ -280,7 +281,7 @@ fn lay_layout(end: usize, cones: &[u32], alphas: &[u64], words: &[u32], out: &mu
     lay_words(end2, words, &mut out[end2 - end..]);
 }
 
-// Writes all tables; `out` begins after the header.
+// Writes all tables of a file, with their gaps; the front of `out` is the byte after the header.
 pub fn lay_tables(
     p_starts: &[u32],
     p_rows: &[u32],

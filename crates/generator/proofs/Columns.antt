@@ -1,20 +1,19 @@
--- Columns and a right side as the generator writes them: one column more, and a right side at the front of an output.
+-- Drawn columns written one by one, and a right side written to the front of an output.
 use Prim.Native.Nat.{ℕ, zero, suc, _+_, _-_, _≤_, _<_}
 use native.Mathlib.Nat.{zero-add, add-zero, le-of-suc-le-suc, not-suc-le-zero}
 use native.Mathlib.Omega.{arith}
-use mathlib.Core.Path.{_≡_, refl, sym, ap, ap₂, _∙_}
+use mathlib.Core.Path.{_≡_, refl, sym, ap, _∙_}
 use mathlib.Core.List.{List, [], _∷_, _++_, map, append-nil, map-append}
-use lib.ListN.{length, getD, set, drop, length-set, length-append, length-map}
+use lib.ListN.{length, set, drop, length-set, length-map}
 use lib.Ieee.{Float}
 use Rattle.layout.specs.Lists.{sum, join, startsFrom, written, Below}
 use Rattle.layout.specs.Compact.{Entry, rowsOf, csc}
 use Rattle.layout.specs.Generator.{draw, drawnValue, drawnColumn, drawnColumns, afterColumns, drawnSide}
 use Rattle.layout.proofs.Starts.{join-append, sum-append, length-starts}
-use Rattle.layout.proofs.Columns.{entry-count}
-use Rattle.layout.proofs.Compressed.{valuesOf, totals, starts-append}
+use Rattle.layout.proofs.Compressed.{valuesOf, starts-append}
 use Rattle.layout.proofs.Drawn.{columns-more, columns-count, side-length}
 
--- ---- one column more
+-- ---- one more column
 
 module _ (s : ℕ) (rs : List ℕ) (c : ℕ) where
   abbrev cs : List (List Entry)
@@ -45,7 +44,7 @@ module _ (s : ℕ) (rs : List ℕ) (c : ℕ) where
   pub values-more : csc (drawnColumns s rs (c + 1)) .values ≡ csc (drawnColumns s rs c) .values ++ valuesOf (drawnColumn (afterColumns s rs c) rs)
   values-more = ap valuesOf joined ∙ map-append (λ (e : Entry). e .value) (join (λ (es : List Entry). es) cs) new
 
--- ---- a right side at the front
+-- ---- a right side at the front of an output
 
 set-front : (xs ys : List Float) (i : ℕ) (x : Float) → i < length xs → set (xs ++ ys) i x ≡ set xs i x ++ ys
 set-front [] ys i x l = absurd (not-suc-le-zero l)
@@ -64,7 +63,7 @@ side-front s rs xs old h =
     side-append s rs xs (drop (length xs) old) h
     ∙ ap (λ (k : ℕ). drawnSide s rs xs ++ drop k old) (sym (side-length s rs xs))
 
--- ---- how many entries
+-- ---- the number of entries
 
 module _ (s : ℕ) (rs : List ℕ) where
   pub entries-up : (c d : ℕ) → sum (map length (drawnColumns s rs c)) ≤ sum (map length (drawnColumns s rs (c + d)))
@@ -73,7 +72,7 @@ module _ (s : ℕ) (rs : List ℕ) where
       let e : c + suc d ≡ c + d + 1 = omega arith in
       rw e (omega (arith, entries-up c d, entries-more s rs (c + d)))
 
-  -- a column more has room where n columns have
+  -- where the entries of n columns fit, so do those of the columns up to c, for c below n
   pub column-fits : (n c : ℕ) → c < n
       → sum (map length (drawnColumns s rs c)) + length (drawnColumn (afterColumns s rs c) rs) ≤ sum (map length (drawnColumns s rs n))
   column-fits n c l =
@@ -85,13 +84,13 @@ module _ (s : ℕ) (rs : List ℕ) where
   pub starts-many : (c : ℕ) → length (csc (drawnColumns s rs c) .starts) ≡ c + 1
   starts-many c = length-starts 0 (map length (drawnColumns s rs c)) ∙ omega (arith, length-map (drawnColumns s rs c) length, columns-count s rs c)
 
--- ---- the first start, stored before the columns
+-- ---- the first start, stored before the columns are written
 
 pub first-stored : (old : List ℕ) → 0 < length old → set old 0 0 ≡ written (0 ∷ []) (set old 0 0)
 first-stored [] l = absurd (not-suc-le-zero l)
 first-stored (x ∷ old) l = refl
 
--- the starts cover it
+-- writing the starts overwrites it
 covers-first : (xs old : List ℕ) → 0 < length xs → written xs (set old 0 0) ≡ written xs old
 covers-first [] old l = absurd (not-suc-le-zero l)
 covers-first (x ∷ xs) [] l = refl

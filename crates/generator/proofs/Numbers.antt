@@ -1,17 +1,16 @@
--- The generator's numbers: 15 before anything else, then 11.
-use Prim.Native.Nat.{ℕ, zero, suc, _-_, _≤_, _<_}
+-- The generator's refusal numbers: 15 before anything else, then 11.
+use Prim.Native.Nat.{ℕ, _-_, _≤_, _<_}
 use native.Mathlib.Omega.{arith}
 use mathlib.Core.Path.{_≡_, refl, sym, ap, _∙_}
 use mathlib.Core.Bool.{Bool, true, false, cond}
 use mathlib.Core.List.{List, [], _∷_, map}
 use lib.ListN.{length, replicate}
-use lib.Dec.{T, leb}
+use lib.Dec.{T}
 use borrow.Author.Tests.{le-leb, lt-leb}
 use Rattle.layout.specs.Lists.{sum}
 use Rattle.layout.specs.Problem.{tableLengths}
 use Rattle.layout.specs.Answers.{output, roomy}
 use Rattle.layout.specs.Generator.{draws, drawnOrdering, bandRows, drawnColumns, generated, inRanges, generateSizesRefusal, generateRefusal}
-use Rattle.layout.proofs.Tests.{and-iff, leb-iff, passes}
 use Rattle.layout.proofs.Generated.{generated-lengths}
 use Rattle.generator.specs.Lengths.{lengthsOf}
 
@@ -19,17 +18,14 @@ abbrev number : Bool → ℕ → ℕ → ℕ
 number b x y = cond b x y
 
 module _ (seed v w n : ℕ) where
-  pub ranges : T (inRanges seed v w n) → (2 ≤ v) × (v ≤ 64) × (1 ≤ w) × (w < v) × (1 ≤ n) × (n ≤ 64)
-  ranges ok = let h = simp (and-iff, leb-iff) at ok in omega arith
-
-  -- how many entries A has
+  -- the number of entries of A
   abbrev pub entriesOf : ℕ
   entriesOf = sum (map length (drawnColumns (draws (v - 1) seed) (bandRows (drawnOrdering seed v) v w) n))
 
   pub lengths-are : T (inRanges seed v w n) → tableLengths (generated seed v w n) ≡ lengthsOf v w n entriesOf
   lengths-are ok = generated-lengths seed v w n ok
 
-  -- the sizes
+  -- refusals of the size call
   pub sizes-15 : (room : ℕ) → inRanges seed v w n ≡ false → 15 ≡ generateSizesRefusal seed v w n room
   sizes-15 room e = rw e
 
@@ -39,7 +35,7 @@ module _ (seed v w n : ℕ) where
   pub sizes-done : (room : ℕ) → inRanges seed v w n ≡ true → 11 ≤ room → 0 ≡ generateSizesRefusal seed v w n room
   sizes-done room e l = rw (e, le-leb 11 room l)
 
-  -- the problem: the sizes were asked with room for eleven numbers
+  -- refusals of the generator: its size call has room for eleven numbers
   by-ranges : (b r : Bool) → number b 0 15 ≡ 0 → number b (number r 0 11) 15 ≡ number r 0 11
   by-ranges true r z = refl
   by-ranges false r z = absurd (omega arith)

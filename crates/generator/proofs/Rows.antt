@@ -1,13 +1,12 @@
--- The rows that a drawn ordering's band covers, from the table of places.
+-- The rows that a drawn ordering's band covers, computed from the ordering's inverse.
 use Prim.Native.Nat.{ℕ, _+_, _≤_, _<_}
 use native.Mathlib.Omega.{arith}
-use mathlib.Core.Path.{_≡_, refl, sym, ap, subst, _∙_}
+use mathlib.Core.Path.{_≡_, sym, ap, subst, _∙_}
 use mathlib.Core.List.{List}
 use lib.ListN.{length, getD, take}
 use lib.Dec.{T}
 use Rattle.layout.specs.Lists.{has, keep, below, written, Below}
 use Rattle.layout.specs.Triangle.{triangle}
-use Rattle.layout.specs.Patterns.{placeOf}
 use Rattle.layout.specs.Checks.{isPermutation, coveredRows}
 use Rattle.layout.specs.Answers.{inverse}
 use Rattle.layout.specs.Generator.{drawnOrdering, bandParts, bandRows}
@@ -21,7 +20,7 @@ use Rattle.utils.specs.Scattered.{scattered}
 use Rattle.utils.proofs.Scattered.{length-inverse, inverse-at, scattered-inverse, permutation-below}
 
 module _ (os : List ℕ) (v w : ℕ) where
-  -- few, and each a row of the cone
+  -- there are at most 2,080 covered rows, each a row of the cone
   pub rows-few : v ≤ 64 → length (bandRows os v w) ≤ 2080
   rows-few few =
       omega (arith, length-keep (λ q. has q (coveredRows (bandParts os v w))) (below (triangle v)), length-below (triangle v), triangle-mono v 64 few)
@@ -31,18 +30,18 @@ module _ (os : List ℕ) (v w : ℕ) where
       has-below (getD (bandRows os v w) i 0) (triangle v) .0
       (has-keep (λ q. has q (coveredRows (bandParts os v w))) (getD (bandRows os v w) i 0) (below (triangle v)) .0 (has-getD (bandRows os v w) i 0 l) .0)
 
-  -- the front of a table that holds them
+  -- the prefix of a table to which they were written
   pub rows-front : (rs old : List ℕ) (k : ℕ) → k ≡ length (bandRows os v w) → rs ≡ written (bandRows os v w) old → take k rs ≡ bandRows os v w
   rows-front rs old k e f = rw (e, f) (take-written (bandRows os v w) old)
 
 permutes : (seed v : ℕ) → 0 < v → (os : List ℕ) → os ≡ drawnOrdering seed v → T (isPermutation os) × (length os ≡ v)
 permutes seed v some os drawn = subst (λ (xs : List ℕ). T (isPermutation xs) × (length xs ≡ v)) (sym drawn) (ordering-permutes seed v some)
 
--- the numbers of a drawn ordering are places of a table as long
+-- the numbers of a drawn ordering of v vertices are below any n that is at least v
 pub ordering-low : (seed v : ℕ) → 0 < v → (os : List ℕ) → os ≡ drawnOrdering seed v → (n : ℕ) → v ≤ n → Below n os
 ordering-low seed v some os drawn n h = let (ok, long) = permutes seed v some os drawn in permutation-below os n ok (omega arith)
 
--- a call wrote the place of each number of a drawn ordering over old
+-- where ps is the inverse of a drawn ordering, written over old
 module _ (seed v : ℕ) (some : 0 < v) (os ps old : List ℕ) (drawn : os ≡ drawnOrdering seed v)
     (put : ps ≡ scattered 0 os old) (size : length old ≡ v) where
   permuted : T (isPermutation os) × (length os ≡ v)

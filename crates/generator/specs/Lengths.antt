@@ -1,4 +1,4 @@
--- The lengths of the generated problem's tables, for a number of entries of A.
+-- The lengths of the generated problem's eleven tables, given the number of entries of A.
 use Prim.Native.Nat.{ℕ, suc, _+_, _-_, _*_}
 use mathlib.Core.List.{List, [], _∷_}
 use Rattle.layout.specs.Triangle.{triangle}

@@ -1,12 +1,11 @@
-// The generator (Q-5): from a seed, a vertex count `v`, a band `w` and a column count `n`, a problem that any site can make again.
+// The generator (Q-5): from a seed, a vertex count `v`, a band `w` and a column count `n`, a test problem that any site can reproduce.
 ghost use mathlib.Core.Path.{_≡_};
 ghost use mathlib.Core.List.{map};
 ghost use Prim.Native.Nat.{suc, _+_, _-_, _*_, _≤_, _<_};
 ghost use lib.ListN.{length, replicate};
 ghost use lib.Dec.{T};
 ghost use Rattle.layout.specs.Lists.{sum, written, Below};
-ghost use Rattle.layout.specs.Triangle.{triangle};
-ghost use Rattle.layout.specs.Problem.{zero64, tableLengths};
+ghost use Rattle.layout.specs.Problem.{zero64};
 ghost use Rattle.layout.specs.Patterns.{patternWordsOf};
 ghost use Rattle.layout.specs.Compact.{csc as cscOf, psdWords};
 ghost use Rattle.layout.specs.Generator.{draws as drawsOf, drawnOrdering, band as bandOf, bandRows, drawnColumns, afterColumns, drawnSide, generated, inRanges, generateRefusal};
@@ -18,16 +17,16 @@ use constants::refusal;
 
 const PSD_TRIANGLE: u32 = 6;
 
-// ---- the rows
+// ---- the covered rows
 
-// The state after the ordering is drawn, and how many rows its band covers.
+// The number of rows that the band covers, and the state of the random generator after the ordering is drawn.
 pub struct RowsDraw {
     pub count: usize,
     pub state: u64,
 }
 
-// Draws an ordering of as many vertices as it has room for, and writes the rows that its band covers, rising. The places of the
-// vertices in the ordering are scratch.
+// Draws an ordering of `ordering.len()` vertices into `ordering`, and writes the rows that its band covers to `rows`, sorted. `places`
+// is a scratch buffer for the inverse of the ordering. Returns the number of covered rows and the state after the draws.
 fn draw_band(
     seed: u64,
     w: u32,
@@ -45,7 +44,7 @@ fn draw_band(
     RowsDraw { count, state }
 }
 
-// The same for `v` vertices.
+// Draws an ordering of `v` vertices and writes the rows that its band covers to `rows`, sorted. Returns what `draw_band` returns.
 fn draw_rows(seed: u64, v: u32, w: u32, rows: &mut [u32]) -> RowsDraw
     requires { ⌜ (w < v) × (v ≤ 64) × (2080 ≤ length (now rows)) ⌝ }
     ensures { λ r. ⌜ (r .state ≡ drawsOf (v - 1) seed) × (r .count ≡ length (bandRows (drawnOrdering seed v) v w)) ⌝ }
@@ -59,7 +58,7 @@ fn draw_rows(seed: u64, v: u32, w: u32, rows: &mut [u32]) -> RowsDraw
 
 // ---- A and b
 
-// Draws `n` columns over `rows` and counts their entries.
+// Draws `n` columns over `rows`, starting from state `s`, and counts their entries.
 fn count_columns(s: u64, rows: &[u32], n: u32) -> u32
     requires { ⌜ (length (now rows) ≤ 2080) × (n ≤ 64) ⌝ }
     ensures { λ r. ⌜ r ≡ sum (map length (drawnColumns s (now (rows .entry)) n)) ⌝ }
@@ -76,7 +75,7 @@ fn count_columns(s: u64, rows: &[u32], n: u32) -> u32
     entries
 }
 
-// Draws `n` columns over `rows` and writes them, and answers the state after them.
+// Draws `n` columns over `rows`, starting from state `s`, and writes their starts, rows and values. Returns the state after them.
 fn write_columns(
     s: u64,
     rows: &[u32],
@@ -111,7 +110,7 @@ fn write_columns(
     state
 }
 
-// Writes a right side of `m` values: drawn ones at the `rows`, and +0.0 elsewhere.
+// Writes a right side of `m` values: values drawn from state `s` at the `rows`, and +0.0 elsewhere.
 fn write_side(s: u64, rows: &[u32], m: usize, out: &mut [f64])
     requires { ⌜ (m ≤ length (now out)) × Below m (now rows) ⌝ }
     ensures { λ _. ⌜ now (out .exit) ≡ written (drawnSide s (now (rows .entry)) (replicate m zero64)) (now (out .entry)) ⌝ }
@@ -122,7 +121,7 @@ fn write_side(s: u64, rows: &[u32], m: usize, out: &mut [f64])
 
 // ---- the sizes
 
-// How many entries A has; the covered rows are scratch.
+// Counts the entries of A. `rows` is a scratch buffer for the covered rows.
 fn count_entries(seed: u64, v: u32, w: u32, n: u32, rows: &mut [u32]) -> u32
     requires { ⌜ (w < v) × (v ≤ 64) × (n ≤ 64) × (2080 ≤ length (now rows)) ⌝ }
     ensures { λ r. ⌜ r ≡ sum (map length (drawnColumns (drawsOf (v - 1) seed) (bandRows (drawnOrdering seed v) v w) n)) ⌝ }
@@ -131,7 +130,7 @@ fn count_entries(seed: u64, v: u32, w: u32, n: u32, rows: &mut [u32]) -> u32
     count_columns(d.state, &rows[..d.count], n)
 }
 
-// Writes the length of each table of the generated problem.
+// Writes the length of each table of the generated problem, whose A has `entries` entries.
 fn write_lengths(v: u32, w: u32, n: u32, entries: u32, out: &mut [u32])
     requires { ⌜ (w < v) × (v ≤ 64) × (n ≤ 64) × (11 ≤ length (now out)) ⌝ }
     ensures { λ _. ⌜ now (out .exit) ≡ written (lengthsOf v w n entries) (now (out .entry)) ⌝ }
@@ -143,7 +142,8 @@ fn write_lengths(v: u32, w: u32, n: u32, entries: u32, out: &mut [u32])
     csc::copy_numbers(out, &lengths);
 }
 
-// The length of each table of the generated problem, or a refusal: 15 for arguments out of their ranges, 11 for too short an output.
+// Writes the length of each of the eleven tables of the generated problem to `out`. Returns 15 for arguments out of range, 11 if `out` is
+// too short (`out` is then unchanged), and 0 otherwise.
 pub fn generate_sizes(seed: u64, v: u32, w: u32, n: u32, out: &mut [u32]) -> u32
     ensures { λ r. ⌜ GenerateSizes seed v w n (now (out .entry)) (now (out .exit)) r ⌝ }
 {
@@ -161,7 +161,7 @@ pub fn generate_sizes(seed: u64, v: u32, w: u32, n: u32, out: &mut [u32]) -> u32
 
 // ---- the problem
 
-// The number of the generator, 15, 11 or 0, for outputs with these rooms.
+// Returns the refusal number of `generate`: 15, 11 or 0, for outputs of the lengths in `rooms`.
 fn refuse(seed: u64, v: u32, w: u32, n: u32, rooms: &[usize]) -> u32
     ensures { λ r. ⌜ r ≡ generateRefusal seed v w n (now (rooms .entry)) ⌝ }
 {
@@ -173,7 +173,7 @@ fn refuse(seed: u64, v: u32, w: u32, n: u32, rooms: &[usize]) -> u32
     utils::check_rooms(&needs, rooms)
 }
 
-// Writes A and b, drawn over the rows that the band covers; the rows are scratch.
+// Writes A and b, drawn over the rows that the band covers. `rows` is a scratch buffer for these rows.
 fn write_drawn(
     seed: u64,
     v: u32,
@@ -205,7 +205,7 @@ fn write_drawn(
     write_side(after, &rows[..d.count], m as usize, b_out);
 }
 
-// Writes the single cone.
+// Writes the record of the single cone, PSD of size `v`.
 fn write_cone(v: u32, out: &mut [u32])
     requires { ⌜ 3 ≤ length (now out) ⌝ }
     ensures { λ _. ⌜ now (out .exit) ≡ written (psdWords v) (now (out .entry)) ⌝ }
@@ -214,7 +214,7 @@ fn write_cone(v: u32, out: &mut [u32])
     csc::copy_numbers(out, &cone);
 }
 
-// Writes the pattern's words; the ordering is scratch.
+// Writes the words of the pattern, for as many vertices as `ordering` is long. `ordering` is a scratch buffer.
 fn write_pattern(seed: u64, w: u32, ordering: &mut [u32], out: &mut [u32])
     requires { ⌜ (w < length (now ordering)) × (length (now ordering) ≤ 64) × (3 + length (now ordering) + (length (now ordering) - w) * (w + 4) ≤ length (now out)) ⌝ }
     ensures { λ _. ⌜ now (out .exit) ≡ written (patternWordsOf (bandOf (drawnOrdering seed (length (now (ordering .entry)))) (length (now (ordering .entry))) w)) (now (out .entry)) ⌝ }
@@ -266,7 +266,7 @@ fn write_constraints(
     );
 }
 
-// Writes the cone and the words of its pattern.
+// Writes the cone's record and the words of its pattern.
 fn write_layout(seed: u64, v: u32, w: u32, cones_out: &mut [u32], words_out: &mut [u32])
     requires { ⌜ (w < v) × (v ≤ 64) × (3 ≤ length (now «cones_out»)) × (3 + v + (v - w) * (w + 4) ≤ length (now «words_out»)) ⌝ }
     ensures { λ _. ⌜ now («cones_out» .exit) ≡ written (psdWords v) (now («cones_out» .entry)) ⌝ }
@@ -277,8 +277,8 @@ fn write_layout(seed: u64, v: u32, w: u32, cones_out: &mut [u32], words_out: &mu
     write_pattern(seed, w, &mut ordering[..v as usize], words_out);
 }
 
-// The generated problem, each table at the front of its output, or a refusal: 15 for arguments out of their ranges, 11 for too short
-// an output.
+// Writes each table of the generated problem to the front of its output. Returns 15 for arguments out of range, 11 if an output is too
+// short (all outputs are then unchanged), and 0 otherwise.
 pub fn generate(
     seed: u64,
     v: u32,

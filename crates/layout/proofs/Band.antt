@@ -1,5 +1,5 @@
--- The generator's pattern: clique c holds the vertices c to c + w; it is a clique tree for every ordering that is a permutation; how many
--- block rows and overlaps it has at most.
+-- The generator's pattern: clique c contains the vertices c to c + w; it is a clique tree for every ordering that is a permutation; bounds
+-- for the numbers of its block rows and overlaps.
 use Prim.Native.Nat.{ℕ, zero, suc, _+_, _-_, _*_, _≤_, _<_}
 use native.Mathlib.Nat.{suc-mul}
 use native.Mathlib.Omega.{arith}
@@ -61,7 +61,7 @@ module _ (os : List ℕ) (v w : ℕ) (l : w < v) where
   pub band-last : (c : ℕ) → c ≡ v - suc w → cliqueAt (band os v w) c ≡ lastClique v w
   band-last c e = getD-at inner (lastClique v w) [] noClique c (length-inner ∙ sym e)
 
-  -- the vertices c to c + w
+  -- clique c contains the vertices c to c + w
   pub band-members : (c : ℕ) → c < cliqueCount (band os v w) → members (cliqueAt (band os v w) c) ≡ upFrom c (suc w)
   band-members c m = elim (lt-or-le c k) [
     | inl h ↦ ap members (band-inner c h)
@@ -73,7 +73,7 @@ module _ (os : List ℕ) (v w : ℕ) (l : w < v) where
   pub in-band : (c u : ℕ) → c < cliqueCount (band os v w) → In (band os v w) c u ↔ ((c ≤ u) × (u < c + suc w))
   in-band c u m = rw (band-members c m) (has-upFrom u c (suc w))
 
-  -- a clique's block has w + 1 vertices, and its separator at most w
+  -- a clique has w + 1 vertices, and its separator at most w
   pub band-sizes : (c : ℕ) → c < cliqueCount (band os v w)
       → (blockSize (cliqueAt (band os v w) c) ≡ suc w) × (length (cliqueAt (band os v w) c .separator) ≤ w)
   band-sizes c m = elim (lt-or-le c k) [
@@ -179,7 +179,7 @@ module _ (os : List ℕ) (v w : ℕ) (l : w < v) where
 
   -- ---- the words
 
-  -- the head, the cliques in order, the last
+  -- the words of the head, then of the cliques in order, then of the last clique
   pub band-words-are : patternWordsOf (band os v w)
       ≡ (0 ∷ v ∷ (v - w) ∷ os) ++ (join cliqueWords (map (bandClique w) (below (v - suc w))) ++ cliqueWords (lastClique v w))
   band-words-are =

@@ -1,4 +1,4 @@
--- The rows that the generator's pattern covers: those of two vertices whose places in the ordering are at most w apart.
+-- The rows that the generator's pattern covers: those of two vertices whose indices in the ordering are at most w apart.
 use Prim.Native.Nat.{ℕ, suc, _+_, _-_, _≤_, _<_}
 use native.Mathlib.Omega.{arith}
 use mathlib.Core.Path.{_≡_, sym, ap, ap₂, subst, _∙_}
@@ -11,7 +11,7 @@ use Rattle.layout.specs.Lists.{has, rises, keep, below}
 use Rattle.layout.specs.Triangle.{triangle, indexRow, indexColumn}
 use Rattle.layout.specs.Patterns.{Pattern, cliqueAt, cliqueCount, members, placeOf}
 use Rattle.layout.specs.Blocks.{originalRow, patternRows}
-use Rattle.layout.specs.Checks.{isPermutation, coveredRows, RightPattern}
+use Rattle.layout.specs.Checks.{isPermutation, coveredRows}
 use Rattle.layout.specs.Answers.{inverse}
 use Rattle.layout.specs.Generator.{band, bandParts, bandRows}
 use Rattle.layout.proofs.Tests.{and-iff, leb-iff, lt-or-le, same-tests}
@@ -25,22 +25,22 @@ use Rattle.layout.proofs.Rows.{covered-pairs}
 use Rattle.layout.proofs.Keeps.{keep-same}
 use Rattle.layout.proofs.Band.{band-count, band-right, in-band}
 
--- a and b are at most w apart
+-- whether a and b are at most w apart
 abbrev pub within : ℕ → ℕ → ℕ → Bool
 within w a b = leb a (b + w) && leb b (a + w)
 
--- the same test of a row's two vertices, by a table of places
+-- the test `inBand`, with each vertex's index in the ordering read from a table
 abbrev pub inBandAt : List ℕ → ℕ → ℕ → Bool
 inBandAt places w r = within w (getD places (indexRow r) 0) (getD places (indexColumn r) 0)
 
--- the places of a row's two vertices in the ordering are at most w apart
+-- whether the two vertices of row r have indices in the ordering that are at most w apart
 abbrev pub inBand : List ℕ → ℕ → ℕ → Bool
 inBand os w r = within w (placeOf (indexRow r) os) (placeOf (indexColumn r) os)
 
 pub within-iff : (w a b : ℕ) → T (within w a b) ↔ ((a ≤ b + w) × (b ≤ a + w))
 within-iff w a b = simp (and-iff, leb-iff) Iff·rfl
 
--- the test at the row of the pair (i, j)
+-- `inBand` at the row of the pair (i, j)
 pub band-pair : (os : List ℕ) (w i j : ℕ) → i ≤ j → j < 256 → inBand os w (triangle j + i) ≡ within w (placeOf i os) (placeOf j os)
 band-pair os w i j le m = ap₂ (λ (a b : ℕ). within w (placeOf a os) (placeOf b os)) (index-row i j le m) (index-column i j le m)
 
@@ -51,21 +51,18 @@ module _ (os : List ℕ) (v w : ℕ) (l : w < v) (permutes : T (isPermutation os
   abbrev p : Pattern
   p = band os v w
 
-  ok : RightPattern (band os v w)
-  ok = band-right os v w l permutes many
-
   place : (i : ℕ) → i < v → (placeOf i os < v) × (getD os (placeOf i os) 0 ≡ i)
   place i m = let (a, e) = place-found i os 0 (permutation-has os permutes i .1 (omega arith)) in (omega arith, e)
 
-  -- clique c holds the original vertices whose places are c to c + w
+  -- clique c contains the original vertices with indices c to c + w in the ordering
   held-by : (c i : ℕ) → c < cliqueCount (band os v w) → i < v
       → T (has i (cliqueVertices (band os v w) c)) ↔ ((c ≤ placeOf i os) × (placeOf i os < c + suc w))
   held-by c i lc m =
       let (la, ea) = place i m in
       subst (λ (x : ℕ). T (has x (cliqueVertices (band os v w) c)) ↔ ((c ≤ placeOf i os) × (placeOf i os < c + suc w))) ea
-      (Iff·trans (in-original p ok c (placeOf i os) lc la) (in-band os v w l c (placeOf i os) lc))
+      (Iff·trans (in-original p (band-right os v w l permutes many) c (placeOf i os) lc la) (in-band os v w l c (placeOf i os) lc))
 
-  -- a clique that holds both
+  -- indices that are at most w apart are both in the range of one clique
   both : (a b : ℕ) → a < v → b < v → a ≤ b + w → b ≤ a + w
       → (c : ℕ) × (c < suc (v - suc w)) × (c ≤ a) × (a < c + suc w) × (c ≤ b) × (b < c + suc w)
   both a b la lb h g = elim (lt-or-le a (v - suc w)) [
@@ -82,12 +79,12 @@ module _ (os : List ℕ) (v w : ℕ) (l : w < v) (permutes : T (isPermutation os
   covered-rows : coveredRows (bandParts os v w) ≡ map originalRow (patternRows (band os v w) 0 0)
   covered-rows = ap (map originalRow) (append-nil (patternRows p 0 0))
 
-  -- the row of the pair (i, j)
+  -- the row of the pair (i, j) is covered exactly where its vertices' indices are at most w apart
   pub covered-iff : (i j : ℕ) → i ≤ j → j < v
       → T (has (triangle j + i) (coveredRows (bandParts os v w))) ↔ T (within w (placeOf i os) (placeOf j os))
   covered-iff i j le m = (
     λ h.
-        let (c, x, y, lc, held, lxy, e) = covered-pairs p ok 0 0 (triangle j + i) .0 (subst (λ (rs : List ℕ). T (has (triangle j + i) rs)) covered-rows h) in
+        let (c, x, y, lc, held, lxy, e) = covered-pairs p (band-right os v w l permutes many) 0 0 (triangle j + i) .0 (subst (λ (rs : List ℕ). T (has (triangle j + i) rs)) covered-rows h) in
         let (ex, ey) = triangle-injective i j x y le lxy (omega (arith, pairIndex-le x y lxy)) in
         let (hx, hy) = held in
         let a = held-by c i lc (omega arith) .0 (subst (λ (z : ℕ). T (has z (cliqueVertices p c))) (sym ex) hx) in
@@ -97,7 +94,7 @@ module _ (os : List ℕ) (v w : ℕ) (l : w < v) (permutes : T (isPermutation os
         let near = within-iff w (placeOf i os) (placeOf j os) .0 h in
         let (c, lc, ha, hb, hc, hd) = both (placeOf i os) (placeOf j os) (place i (omega arith) .0) (place j m .0) (near .0) (near .1) in
         let lc′ : c < cliqueCount p = omega (arith, band-count os v w l) in
-        subst (λ (rs : List ℕ). T (has (triangle j + i) rs)) (sym covered-rows) (covered-pairs p ok 0 0 (triangle j + i) .1
+        subst (λ (rs : List ℕ). T (has (triangle j + i) rs)) (sym covered-rows) (covered-pairs p (band-right os v w l permutes many) 0 0 (triangle j + i) .1
         (c, i, j, lc′, (held-by c i lc′ (omega arith) .1 (ha, hb), held-by c j lc′ m .1 (hc, hd)), le, omega (arith, pairIndex-le i j le))),
   )
 
@@ -106,7 +103,7 @@ module _ (os : List ℕ) (v w : ℕ) (l : w < v) (permutes : T (isPermutation os
       → has (triangle j + i) (coveredRows (bandParts os v w)) ≡ within w (placeOf i os) (placeOf j os)
   covered-test i j le m = same-tests _ _ (covered-iff i j le m)
 
-  -- the generator's rows are exactly the covered ones, which rise
+  -- the generator's rows are exactly the covered ones, and they strictly increase
   pub band-rows-cover : (r : ℕ) → T (has r (bandRows os v w)) ↔ T (has r (coveredRows (bandParts os v w)))
   band-rows-cover r = Iff·trans (has-keep (λ q. has q (coveredRows (bandParts os v w))) r (below (triangle v))) (
     λ h. h .1,
@@ -115,21 +112,21 @@ module _ (os : List ℕ) (v w : ℕ) (l : w < v) (permutes : T (isPermutation os
     where
       low : T (has r (coveredRows (bandParts os v w))) → r < triangle v
       low h =
-          let (c, i, j, lc, held, le, e) = covered-pairs p ok 0 0 r .0 (subst (λ (rs : List ℕ). T (has r rs)) covered-rows h) in
+          let (c, i, j, lc, held, le, e) = covered-pairs p (band-right os v w l permutes many) 0 0 r .0 (subst (λ (rs : List ℕ). T (has r rs)) covered-rows h) in
           let m : j < v = sorted-bounded p (members (cliqueAt p c)) j (held .1) in
           omega (arith, pairIndex-le i j le, triangle-column i j v le m)
 
   pub band-rows-rise : T (rises (bandRows os v w))
   band-rows-rise = rises-keep (λ q. has q (coveredRows (bandParts os v w))) (below (triangle v)) (rises-upFrom 0 (triangle v))
 
-  -- by the test of a row's two vertices
+  -- they are the rows that pass `inBand`
   pub band-rows-test : v ≤ 256 → bandRows os v w ≡ keep (inBand os w) (below (triangle v))
   band-rows-test few = keep-same (λ r. has r (coveredRows (bandParts os v w))) (inBand os w) (below (triangle v)) (λ r h.
       let (i, j, le, m, e) = triangle-pair v r (has-below r (triangle v) .0 h) in
       ap (λ (x : ℕ). has x (coveredRows (bandParts os v w))) e ∙ covered-test i j le m
       ∙ sym (ap (inBand os w) e ∙ band-pair os w i j le (omega arith)))
 
-  -- and by the table of places, the ordering's inverse
+  -- and those that pass `inBandAt`, with the ordering's inverse as the table
   pub band-rows-by : v ≤ 256 → bandRows os v w ≡ keep (inBandAt (inverse os) w) (below (triangle v))
   band-rows-by few = band-rows-test few ∙ keep-same (inBand os w) (inBandAt (inverse os) w) (below (triangle v)) (λ r h.
       let (i, j, le, m, e) = triangle-pair v r (has-below r (triangle v) .0 h) in

@@ -1,5 +1,5 @@
--- Limits of a right side carried to the compact rows: what is between them goes to something between the results, and as numbers everything
--- between the results comes from exactly one such right side.
+-- Limits of a right side carried to the compact rows: every b between them has an augmentation between the results, and every vector
+-- between the results is, as numbers, the augmentation of exactly one such b.
 use Prim.Native.Nat.{ℕ, zero, suc, _<_, zero-le, suc-le-suc}
 use native.Mathlib.Nat.{le-of-suc-le-suc, not-suc-le-zero}
 use native.Mathlib.Omega.{arith}
@@ -32,7 +32,7 @@ use Rattle.layout.proofs.Laid.{accepted-rows}
 
 -- ---- a row's value
 
--- a row that is moved to has b's value, and an overlap +0.0
+-- an augmented row that is not an overlap has b's value, a zero as +0.0; an overlap has +0.0
 pub moved-value : (b : List Float) (x : Row) → T (isMoved x) → rowValue b x ≡ plusZero (getD b (originalRow x) nan)
 moved-value b (kept o) h = refl
 moved-value b (owned o) h = refl
@@ -49,7 +49,7 @@ zero-fits = tt
 
 -- ---- the value at the row that an original row is moved to
 
--- +0.0 where it is moved to none
+-- the value in vs at the row that original row o is moved to, or +0.0 where it is moved to none
 abbrev ownValue : List Row → List Float → ℕ → Float
 ownValue [] vs o = zero64
 ownValue (x ∷ xs) [] o = zero64
@@ -83,9 +83,9 @@ find (x ∷ R) (v ∷ vs) o e = elim (tested (isMoved x && eqb (originalRow x) o
     none n h zero m = n (and-iff (isMoved x) (eqb (originalRow x) o) .1 (m .1, eqb-iff (originalRow x) o .1 (m .2)))
     none n h (suc s) m = h s (le-of-suc-le-suc (m .0), m .1, m .2)
 
--- ---- the refusals, as a program goes
+-- ---- the refusal number, in the order in which a program makes the checks
 
--- check 16 passes where neither list has a NaN and no low is above its high
+-- check 16 passes exactly where the lists have equal length, neither has a NaN, and no low is above its high
 pub atMost-iff : (low high : List Float) → T (atMost low high) ↔ ((length low ≡ length high) × ((r : ℕ) → r < length low
     → T (not (isNan (getD low r nan)) && not (isNan (getD high r nan)) && not (lt (getD high r nan) (getD low r nan)))))
 atMost-iff low high = (
@@ -93,12 +93,12 @@ atMost-iff low high = (
   λ h. same-at le nan low high .1 (h .0, λ r l. subst T (sym (le-is (getD low r nan) (getD high r nan))) (h .1 r l)),
 )
 
--- a test that both share
+-- a test that occurs in two conjunctions is needed once
 shared : (a b c : Bool) → ((a && b) && (a && c)) ≡ ((a && b) && c)
 shared true b c = refl
 shared false b c = refl
 
--- Checks 1 to 7 give r, made at once. With another test under 4 and one under 16 after it: r if it is at most 4, then these, then r.
+-- Let r be the number that checks 1 to 7 give. With a further test in check 4, and check 16 after it: r if it is at most 4, then 4, 16, and r.
 in-order : (one two three four high within five six seven : Bool) (cs : List Check)
     → let r = firstFailing (check 1 one ∷ check 2 two ∷ check 3 three ∷ check 4 four ∷ check 5 five ∷ check 6 six ∷ check 7 seven ∷ []) in
     firstFailing (check 1 one ∷ check 2 two ∷ check 3 three ∷ check 4 (four && high) ∷ check 16 within ∷ check 5 five ∷ check 6 six ∷ check 7 seven ∷ cs)
@@ -127,7 +127,7 @@ module _ (p : Problem) (low high : List Float) where
   abbrev named : Bool
   named = patternsRead (p .cones) (p .patternCount) (p .patternWords)
 
-  -- Of high only its length, under 4, and its values, under 9, are looked at.
+  -- Apart from check 16, only the length of high is read, in check 4, and its values, in check 9.
   pub limits-checks : limitsChecks p low high
       ≡ tableChecks p
       ++ (check 4 (check4 (withB p low) && eqb (length high) (p .m)) ∷ check 16 (atMost low high)
@@ -141,7 +141,7 @@ module _ (p : Problem) (low high : List Float) where
       (shared others (eqb (length low) (p .m)) (eqb (length high) (p .m)))
       (shared entries (covers p low) (covers p high))
 
-  -- Checks 1 to 7 with low give r. What the call gives: r if it is at most 4, then the length of high, then 16, then r, then the rest.
+  -- Let r be the number that checks 1 to 7 give with low. The call gives r if it is at most 4, then 4 for high's length, 16, r, and then 9 and 10.
   pub limits-in-order : let r = problemRefusal (withB p low) in
       limitsFailing p low high ≡
       orElse (cond (leb r 4) r 0)
@@ -155,7 +155,7 @@ module _ (p : Problem) (low high : List Float) where
       named (all treeRight ps) (all cliquesRight ps)
       (check 9 (check9 compact (withB p low) && covers p high) ∷ check 10 (check10 compact (p .m) (layout p)) ∷ [])
 
-  -- Nothing is refused exactly where both are accepted and check 16 passes.
+  -- No check fails exactly where low and high are both accepted and check 16 passes.
   pub limits-iff : (limitsFailing p low high ≡ 0)
       ↔ ((refusal compact (withB p low) ≡ 0) × (refusal compact (withB p high) ≡ 0) × T (atMost low high))
   limits-iff = (
@@ -178,7 +178,7 @@ module _ (p : Problem) (low high : List Float) where
         (test 1, (test 2, (test 3, (four, (h, (test 5, (test 6, (test 7, (nine, (test 10, tt)))))))))),
   )
 
-  -- the room that is needed: that of the cut with low, and of its b once more
+  -- the lengths of the outputs: those of the cut with low, with that of its b twice
   pub limits-sizes : let ks = sizes compact (withB p low) in limitsSizes p low high ≡ take 8 ks ++ (getD ks 7 0 ∷ drop 8 ks)
   limits-sizes =
       let ks = sizes compact (withB p low) in
@@ -186,7 +186,7 @@ module _ (p : Problem) (low high : List Float) where
       (length-map (compactRows (layout p)) (rowValue high) ∙ sym (length-map (compactRows (layout p)) (rowValue low)))
 
 module _ (p : Problem) (low high : List Float) (ok : limitsFailing p low high ≡ 0) where
-  -- ---- what the checks say
+  -- ---- what the checks ensure
 
   abbrev R : List Row
   R = compactRows (layout p)
@@ -197,7 +197,7 @@ module _ (p : Problem) (low high : List Float) (ok : limitsFailing p low high �
   limits-ordered : T (atMost low high)
   limits-ordered = limits-iff p low high .0 ok .2
 
-  -- low and high by their values
+  -- the lengths of low and high, and their order at each row
   low-length : length low ≡ p .m
   low-length = accepted-checked compact (withB p low) (both-ok .0) .lengthB
 
@@ -210,7 +210,7 @@ module _ (p : Problem) (low high : List Float) (ok : limitsFailing p low high �
   rows : RightRows 0 0 (p .m) R
   rows = accepted-rows compact (withB p low) (both-ok .0)
 
-  -- both are zero on a row that no clique covers
+  -- low and high are zero at a row that no clique covers
   uncovered : (r : ℕ) → r < p .m → (T (has r (coveredRows (layout p))) → ⊥) → T (isZero (getD low r nan)) × T (isZero (getD high r nan))
   uncovered r l n = (zero-there low (covered-values (withB p low) (both-ok .0)), zero-there high (covered-values (withB p high) (both-ok .1)))
     where
@@ -222,7 +222,7 @@ module _ (p : Problem) (low high : List Float) (ok : limitsFailing p low high �
             | inr k ↦ absurd (n k)
           ]
 
-  -- a b between them, by its values
+  -- b has m values, each between low and high
   abbrev Inside : List Float → Type 0
   Inside b = (length b ≡ p .m) × ((r : ℕ) → r < p .m → T (le (getD low r nan) (getD b r nan)) × T (le (getD b r nan) (getD high r nan)))
 
@@ -251,7 +251,7 @@ module _ (p : Problem) (low high : List Float) (ok : limitsFailing p low high �
   result-at : (b : List Float) (s : ℕ) → s < length R → getD (result b) s nan ≡ rowValue b (rowAt R s)
   result-at b s l = getD-map (rowValue b) R s (kept 0) nan l
 
-  -- an order that holds at each original row holds at each augmented one
+  -- where b is at most c at each original row, the same holds for their augmentations at each augmented row
   results-ordered : (b c : List Float) → ((r : ℕ) → r < p .m → T (le (getD b r nan) (getD c r nan))) → T (atMost (result b) (result c))
   results-ordered b c h =
       same-at le nan (result b) (result c) .1 (result-length b ∙ sym (result-length c), λ s l. at s (omega (arith, result-length b)))
@@ -304,7 +304,7 @@ module _ (p : Problem) (low high : List Float) (ok : limitsFailing p low high �
     v-length : length v ≡ length R
     v-length = v-over .0 ∙ result-length high
 
-    -- the value at row s is between the results there
+    -- the value of v at row s is between the results there
     v-rows : (s : ℕ) → s < length R
         → T (le (rowValue low (rowAt R s)) (getD v s nan)) × T (le (getD v s nan) (rowValue high (rowAt R s)))
     v-rows s l = (
@@ -312,7 +312,7 @@ module _ (p : Problem) (low high : List Float) (ok : limitsFailing p low high �
       rw (← result-at high s l) (v-over .1 s (omega (arith, v-length))),
     )
 
-    -- the right side that v comes from
+    -- the right side whose augmentation is v
     abbrev source : List Float
     source = map (ownValue R v) (below (p .m))
 
@@ -323,14 +323,14 @@ module _ (p : Problem) (low high : List Float) (ok : limitsFailing p low high �
     source-at r l =
         getD-map (ownValue R v) (below (p .m)) r 0 nan (omega (arith, length-below (p .m))) ∙ ap (ownValue R v) (getD-below (p .m) r 0 l)
 
-    -- an original row that is moved to no row is covered by no clique
+    -- an original row that is moved to no augmented row is covered by no clique
     not-moved : (r : ℕ) → ((s : ℕ) → Moved R r s → ⊥) → T (has r (coveredRows (layout p))) → ⊥
     not-moved r n k =
         let (t, l, e) = has-map (kept 0) originalRow r R .0 k in
         let (s, le, m, g) = rows .before t l in
         n s (omega arith, m, g ∙ sym e)
 
-    -- at each original row: the value of v that it is moved to, between the limits there, or zeros
+    -- `source` at an original row: v's value at the row it is moved to; or, where it is moved to none, +0.0, with low and high zero there
     abbrev AtRow : ℕ → Type 0
     AtRow r = (s : ℕ) × Moved R r s × (getD source r nan ≡ getD v s nan)
 
@@ -343,7 +343,7 @@ module _ (p : Problem) (low high : List Float) (ok : limitsFailing p low high �
       | inr (n, e) ↦ let z = uncovered r l (not-moved r n) in inr (source-at r l ∙ e, z .0, z .1)
     ]
 
-    -- the limits at an original row, and v where it is moved to
+    -- v's value at the row that an original row is moved to is between low and high at that original row
     v-limits : (r s : ℕ) → Moved R r s → T (le (getD low r nan) (getD v s nan)) × T (le (getD v s nan) (getD high r nan))
     v-limits r s m =
         let x = getD v s nan in (
@@ -360,12 +360,12 @@ module _ (p : Problem) (low high : List Float) (ok : limitsFailing p low high �
       ],
     )
 
-    -- its augmentation is v
+    -- the augmentation of `source` is v
     source-carried : T (asNumbers (result source) v)
     source-carried =
         same-at eq nan (result source) v .1 (result-length source ∙ sym v-length, λ s l. at s (omega (arith, result-length source)))
       where
-        -- row s, and the row of v that its original row's value is taken from
+        -- at row s, by the two cases for `source` at its original row
         taken : (s : ℕ) → s < length R → T (isMoved (rowAt R s)) → AtRow (originalRow (rowAt R s)) ⊎ Bare (originalRow (rowAt R s))
             → T (eq (rowValue source (rowAt R s)) (getD v s nan))
         taken s l t (inl (u, m, e)) =
@@ -391,7 +391,7 @@ module _ (p : Problem) (low high : List Float) (ok : limitsFailing p low high �
               rw (overlap-value source x n) (zeros-eq zero64 w tt (between-zeros zero64 w zero64 tt tt under over))
         ])
 
-    -- and no other right side's is
+    -- no other right side between the limits has this augmentation
     source-only : (c : List Float) → T (between low c high) → T (asNumbers (result c) v) → T (asNumbers c source)
     source-only c k g =
         let i = inside c k in
@@ -409,7 +409,7 @@ module _ (p : Problem) (low high : List Float) (ok : limitsFailing p low high �
               rw e (zeros-eq x zero64 (between-zeros (getD low r nan) x (getD high r nan) zl zh (k .0) (k .1)) tt)
         ]
 
-    -- doubles come from doubles
+    -- `source` consists of doubles if v does
     source-doubles : Doubles v → Doubles source
     source-doubles d = all-at nan (fits binary64) source .1 (λ r l. elim (at-row r (omega (arith, source-length))) [
       | inl (s, m, e) ↦ rw e (all-at nan (fits binary64) v .0 d s (omega (arith, v-length, m .0)))

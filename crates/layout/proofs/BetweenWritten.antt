@@ -1,7 +1,7 @@
--- Limits of a right side on what is written, from the promises of the cut with limits and of the single cuts alone.
+-- Limits of a right side on written outputs, from the contracts of the cut with limits and of the single cuts alone.
 use Prim.Native.Nat.{ℕ}
-use mathlib.Core.Path.{_≡_, refl, sym, subst, _∙_}
-use mathlib.Core.Bool.{Bool, cond}
+use mathlib.Core.Path.{_≡_, sym, subst, _∙_}
+use mathlib.Core.Bool.{cond}
 use mathlib.Core.List.{List}
 use lib.ListN.{length, take}
 use lib.Dec.{T}
@@ -18,12 +18,12 @@ use Rattle.layout.proofs.Buffers.{front-read}
 use Rattle.layout.proofs.Order.{orElse-zero}
 use Rattle.layout.proofs.Between.{carries}
 
--- the fronts of two outputs that hold the same table
+-- two outputs with the same table written to their start have the same prefix
 pub same-fronts : {A : Type 0} (new old old2 : List A) {out out2 : List A} → out ≡ written new old → out2 ≡ written new old2
     → take (length new) out ≡ take (length new) out2
 same-fronts new old old2 w w2 = front-read new old w ∙ sym (front-read new old2 w2)
 
--- a cut with right side b, and outputs with everything of one with right side c, whatever they have for b
+-- the outputs of a cut with right side b agree, but for b, with outputs that hold the rest of a cut with right side c
 pub same-but-b : (p : Problem) (b c new : List Float) {before before2 after after2 : Augmented} → Holds 0 (augmented compact (withB p b)) before after
     → Holds 0 (augmentedWithB (augmented compact (withB p c)) new) before2 after2 → SameButB (withB p b) (withB p c) after after2
 same-but-b p b c new {before} {before2} h g =
@@ -42,7 +42,7 @@ same-but-b p b c new {before} {before2} h g =
     }
 
 module _ (p : Problem) (low high : List Float) {before after : Limits} (call : CutBetween p low high before after 0) where
-  -- no check up to 10 fails
+  -- no check up to 10 or 16 fails
   accepted-limits : limitsFailing p low high ≡ 0
   accepted-limits = orElse-zero (limitsFailing p low high) (cond (roomy (limitsSizes p low high) (limitsRooms before)) 0 11) .0 (sym (call .number)) .0
 
@@ -55,7 +55,7 @@ module _ (p : Problem) (low high : List Float) {before after : Limits} (call : C
   own-read : (b : List Float) {lent own : Augmented} → Cut 1 (withB p b) lent own 0 → frontOn compact (withB p b) 7 (own .b) ≡ compactB (withB p b)
   own-read b {lent} cut = front-read (compactB (withB p b)) (lent .b) (cut .tables .constrained .b)
 
-  -- between the two written is between the two augmentations
+  -- between the two written right sides is between the two augmentations
   as-written : (v : List Float) → between (lowWritten p low after) v (highWritten p high after) ≡ between (compactB (withB p low)) v (compactB (withB p high))
   as-written v = λ i. between (low-read i) v (high-read i)
 

@@ -1,4 +1,4 @@
--- Floats and their 64-bit patterns: what is read off patterns fits, a problem whose floats fit is read back from its tables,
+-- Floats and their 64-bit patterns: floats read from patterns fit binary64, a problem whose floats fit is recovered from its tables,
 -- and the compact cut keeps floats that fit.
 use Prim.Native.Nat.{ℕ, zero, suc, _-_}
 use native.Mathlib.Omega.{arith}
@@ -16,7 +16,7 @@ use Rattle.layout.specs.Blocks.{Row, kept, owned, overlap, compactRows, 
 use Rattle.layout.specs.Checks.{layout}
 use Rattle.layout.specs.Compact.{Entry, entriesFrom, column, csc, plus, summedFrom, summed, moved, rowEntries, augmentedColumn, overlapColumns, rowValue}
 use Rattle.layout.specs.Equations.{Doubles}
-use Rattle.layout.specs.File.{floats, bits, Tables, tables, problemOf, U64s, compactProblem, compactTables}
+use Rattle.layout.specs.File.{floats, bits, BitTables, bitTables, problemOf, U64s, compactProblem, compactTables}
 use Rattle.layout.proofs.Tests.{and-iff}
 use Rattle.layout.proofs.Members.{all-of-both, all-replicate}
 use Rattle.layout.proofs.Compressed.{valuesOf}
@@ -28,7 +28,7 @@ fit-cons v vs h hs = and-iff (fits binary64 v) (all (fits binary64) vs) .1 (h, h
 fit-append : (us vs : List Float) → Doubles us → Doubles vs → Doubles (us ++ vs)
 fit-append us vs h k = all-of-both (fits binary64) us vs h k
 
--- ---- patterns
+-- ---- bit patterns
 
 pub floats-fit : (xs : List ℕ) → Doubles (floats xs)
 floats-fit [] = tt
@@ -46,7 +46,7 @@ bits-back (v ∷ vs) h =
     let (first, rest) = and-iff (fits binary64 v) (all (fits binary64) vs) .0 h in
     ap₂ (λ (a : Float) (l : List Float). a ∷ l) (ofBits-toBits binary64 v first) (bits-back vs rest)
 
--- a pattern is written back, if it is no NaN's
+-- a bit pattern that is not a NaN's is recovered from its float
 pub floats-back : (xs : List ℕ) → U64s xs → T (all (λ x. not (isNan (ofBits binary64 x))) xs) → bits (floats xs) ≡ xs
 floats-back [] h k = refl
 floats-back (x ∷ xs) h k =
@@ -54,7 +54,7 @@ floats-back (x ∷ xs) h k =
     ap₂ (λ (a : ℕ) (l : List ℕ). a ∷ l) (toBits-ofBits binary64 x (below-head 18446744073709551616 x xs h) first)
     (floats-back xs (below-tail 18446744073709551616 x xs h) rest)
 
--- the pattern that a NaN is written as
+-- the bit pattern that a NaN is written as
 pub nan-pattern : toBits binary64 nan ≡ 9221120237041090560
 unfolding toBits
 nan-pattern = refl
@@ -67,7 +67,7 @@ pub record FloatsFit (p : Problem) : Type 0 where
   pub b : Doubles (p .b)
   pub alphas : Doubles (p .alphas)
 
-pub problem-floats : (t : Tables) → FloatsFit (problemOf t)
+pub problem-floats : (t : BitTables) → FloatsFit (problemOf t)
 problem-floats t = record {
   P = floats-fit (t .pValues);
   q = floats-fit (t .q);
@@ -76,15 +76,15 @@ problem-floats t = record {
   alphas = floats-fit (t .alphas);
 }
 
--- a problem's tables, a NaN as the pattern that `toBits` writes
-abbrev pub tablesOf : Problem → Tables
+-- a problem's tables, with a NaN as the bit pattern that `toBits` gives
+abbrev pub tablesOf : Problem → BitTables
 tablesOf p =
-    tables (p .n) (p .m) (p .P .starts) (p .P .rows) (bits (p .P .values)) (bits (p .q))
+    bitTables (p .n) (p .m) (p .P .starts) (p .P .rows) (bits (p .P .values)) (bits (p .q))
     (p .A .starts) (p .A .rows) (bits (p .A .values)) (bits (p .b)) (p .cones) (bits (p .alphas)) (p .patternCount) (p .patternWords)
 
--- stand for it
-pub tables-stand : (p : Problem) → FloatsFit p → problemOf (tablesOf p) ≡ p
-tables-stand p h = λ i.
+-- they represent the problem
+pub tables-represent : (p : Problem) → FloatsFit p → problemOf (tablesOf p) ≡ p
+tables-represent p h = λ i.
     problem (p .n) (p .m) (p .P .starts) (p .P .rows) (bits-back (p .P .values) (h .P) i) (bits-back (p .q) (h .q) i)
     (p .A .starts) (p .A .rows) (bits-back (p .A .values) (h .A) i) (bits-back (p .b) (h .b) i) (p .cones)
     (bits-back (p .alphas) (h .alphas) i) (p .patternCount) (p .patternWords)
@@ -152,7 +152,7 @@ column-fit es h r [] = tt
 column-fit es h r (x ∷ R) =
     joined-fit (rowEntries es r x) (augmentedColumn es (suc r) R) (row-fit es h r x) (column-fit es h (suc r) R)
 
--- all entries of columns
+-- all entries of the columns are doubles
 abbrev AllFit : List (List Entry) → Type 0
 AllFit cs = Doubles (csc cs .values)
 
@@ -196,19 +196,19 @@ compact-floats p h =
       alphas = h .alphas;
     }
 
--- ---- its tables
+-- ---- the compact problem's tables
 
 zero-floats : (k : ℕ) → floats (replicate k 0) ≡ replicate k zero64
 unfolding ofBits
 zero-floats zero = refl
 zero-floats (suc k) = ap (λ (l : List Float). zero64 ∷ l) (zero-floats k)
 
--- q with the pattern 0 for each overlap
+-- q with the bit pattern 0 for each overlap
 pub floats-zeros : (xs : List ℕ) (k : ℕ) → floats (xs ++ replicate k 0) ≡ floats xs ++ replicate k zero64
 floats-zeros xs k = map-append (ofBits binary64) xs (replicate k 0) ∙ ap (λ (l : List Float). floats xs ++ l) (zero-floats k)
 
--- they stand for the compact problem
-pub compact-stands : (t : Tables) → problemOf (compactTables t) ≡ compactProblem (problemOf t)
+-- they represent the compact problem
+pub compact-stands : (t : BitTables) → problemOf (compactTables t) ≡ compactProblem (problemOf t)
 compact-stands t =
     let p = problemOf t in
     let a = compactProblem p in

@@ -1,5 +1,5 @@
--- A block has one row for an original row that it holds, and none for any other. So the augmented rows that add to an original row are as
--- many as the blocks that hold it.
+-- A block has one row for each original row that it contains, and none for any other. So the number of augmented rows that add to an
+-- original row is the number of blocks that contain it.
 use Prim.Native.Nat.{ℕ, _+_, _<_}
 use native.Mathlib.Omega.{arith}
 use mathlib.Core.Path.{_≡_, refl, sym, ap, ap₂, _∙_}
@@ -24,7 +24,7 @@ use Rattle.layout.proofs.Joins.{map-same, sum-down}
 use Rattle.layout.proofs.Counting.{countIf, count-append, count-sum, count-nowhere, count-once, count-same, count-map, count-join}
 use Rattle.layout.proofs.Rows.{cliqueRows}
 
--- a pair's row adds to the pair's original row, owned or not
+-- a pair's augmented row adds to the pair's original row, whether owned or an overlap
 row-adds : (o : ℕ) (p : Pattern) (base first c : ℕ) (x : Pair) → adds o (rowOf p base first c x) ≡ eqb (pairRow base x) o
 row-adds o p base first c (pair i j) = go (inSeparator p c (pair i j))
   where
@@ -38,7 +38,7 @@ module _ (o : ℕ) (p : Pattern) (base first c : ℕ) where
   abbrev there : Pair → Bool
   there x = eqb (pairRow base x) o
 
-  -- two places of a block with one original row are one place
+  -- two entries of a block with the same original row have the same index
   one-place : (t u : ℕ) → t < length (block p c) → u < length (block p c)
       → pairRow base (getD (block p c) t (pair 0 0)) ≡ pairRow base (getD (block p c) u (pair 0 0)) → t ≡ u
   one-place t u l m e =
@@ -101,6 +101,6 @@ rows-blocks o first (cut i row k p ∷ ps) =
       rows-blocks o (first + blockRows p) ps,
     )
 
--- the rows that add to o are as many as the blocks that hold it
+-- the number of rows that add to o is the number of blocks that contain it
 pub blocks-counted : (o : ℕ) (ps : List Part) → blocksAt o (compactRows ps) ≡ sum (map (blocksIn o) ps)
 blocks-counted o ps = rows-blocks o 0 ps

@@ -1,5 +1,5 @@
 -- The s that the compact joining returns, row by row: the recursive sum of its blocks' values, or a copy. Its errors are those of the sum,
--- and only the value of one of its own augmented rows can move it.
+-- and it depends only on the values of its own augmented rows.
 use Prim.Native.Nat.{ℕ, zero, suc, _+_, _*_, _^_, _≤_, _<_, zero-le, suc-le-suc}
 use native.Mathlib.Nat.{le-trans, le-of-suc-le-suc, not-suc-le-zero, mul-le-mul-right}
 use native.Mathlib.Omega.{arith}
@@ -19,7 +19,7 @@ use Rattle.layout.specs.Patterns.{patterns}
 use Rattle.layout.specs.Checks.{Sound, check}
 use Rattle.layout.specs.Reverse.{addAt, addRow, addRows}
 use Rattle.layout.specs.Answers.{output, orElse, roomy, joinedParts, solutionFits, mapRight, joinChecks, joined}
-use Rattle.layout.specs.Calls.Join.{Rejoined, rooms, Join}
+use Rattle.layout.specs.Calls.Join.{Rejoined, rejoinedRooms, Join}
 use Rattle.layout.specs.Equations.{finite, count, Doubles}
 use Rattle.layout.specs.Rounding.{magnitude, exactSum, magnitudes, adds, copies, decomposed, termsAt, errorBound, returned, RoundingErrors, OneMoved}
 use Rattle.layout.proofs.Tests.{and-iff, eqb-iff, lt-or-le, cond-passed, cond-failed}
@@ -38,7 +38,7 @@ use Rattle.layout.proofs.Summation.{finite-terms, summation-error}
 
 -- ---- one original row
 
--- what a row with value v makes of a at original row o
+-- the value at original row o, before it a, after an augmented row x with value v
 abbrev atRow : ℕ → Row → Float → Float → Float
 atRow o x v a = cond (copies o x) v (cond (adds o x) (add binary64 a v) a)
 
@@ -69,7 +69,7 @@ rows-at o (x ∷ R) [] ws l = refl
 rows-at o (x ∷ R) (v ∷ s) ws l =
     rows-at o R s (addRow x v ws) (omega (arith, row-length x v ws)) ∙ ap (walk (atRow o) R s) (row-at o x v ws l)
 
--- ---- a row of no undecomposed cone is summed
+-- ---- a row that is not in an undecomposed cone is summed
 
 terms-summed : (o : ℕ) (R : List Row) (s : List Float) (a : Float) → T (decomposed o R) → walk (atRow o) R s a ≡ leftSum a (termsAt o R s)
 terms-summed o [] s a h = refl
@@ -87,7 +87,7 @@ terms-summed o (x ∷ R) (v ∷ s) a h =
 
 -- ---- one value of s becomes v
 
--- at an augmented row that stands for another original row
+-- at an augmented row that represents another original row
 walk-other : (o : ℕ) (R : List Row) (s : List Float) (r : ℕ) (v a : Float) → (originalRow (rowAt R r) ≡ o → ⊥)
     → walk (atRow o) R (set s r v) a ≡ walk (atRow o) R s a
 walk-other o [] s r v a h = refl
@@ -120,7 +120,7 @@ walk-copied o (x ∷ R) (v ∷ s) (suc r) a l m h alone =
 returned-length : (m : ℕ) (ps : List Part) (s : List Float) → length (addRows (compactRows ps) s (replicate m zero64)) ≡ m
 returned-length m ps s = length-walk addRow row-length (compactRows ps) s (replicate m zero64) ∙ length-replicate m zero64
 
--- in a joining's output, where it refuses nothing
+-- it is in the output of a joining that refuses nothing
 pub returned-written : (n m : ℕ) (ps : List Part) (sol : Solution) (out old : List Float) (r o : ℕ) → r ≡ 0
     → out ≡ output r (joined compact n m ps sol .s) old → o < m → getD out o nan ≡ returned m ps (sol .s) o
 returned-written n m ps sol out old r o e w l =
@@ -141,7 +141,7 @@ module _ (m : ℕ) (ps : List Part) where
   returned-outside s o l =
       List·getD-eq-default (addRows R s (replicate m zero64)) nan (omega (arith, returned-length m ps s))
 
-  -- a finite one is a sum
+  -- a finite result at a row that is not in an undecomposed cone is a sum
   returned-sum : (s : List Float) (o : ℕ) → T (decomposed o R) → T (finite (returned m ps s o))
       → returned m ps s o ≡ leftSum zero64 (termsAt o R s)
   returned-sum s o whole fin = elim (lt-or-le o m) [
@@ -163,7 +163,7 @@ module _ (m : ℕ) (ps : List Part) where
       (mul-le-mul-right (magnitudes (termsAt o R s)) (terms-few o R s)))
 
   module _ (right : RightRows 0 0 m (compactRows ps)) where
-    -- where a block adds, no row is copied
+    -- where a block adds to an original row, no row is copied to it
     pub added-decomposed : (r o : ℕ) → r < length (compactRows ps) → T (adds o (rowAt (compactRows ps) r)) → T (decomposed o (compactRows ps))
     added-decomposed r o l h = all-at (kept 0) (λ x. not (copies o x)) R .1 (λ q i. not-T (copies o (rowAt R q)) (λ c.
         let e = copies-there o (rowAt R q) c in
@@ -202,16 +202,16 @@ module _ (m : ℕ) (ps : List Part) where
         other r o v h (inl l) = returned-inside (set s r v) o l ∙ walk-other o R s r v zero64 h ∙ sym (returned-inside s o l)
         other r o v h (inr l) = returned-outside (set s r v) o l ∙ sym (returned-outside s o l)
 
--- what a joining's checks ask is enough
+-- the checks of a joining are enough for the rounding bounds
 pub sound-rounding : {m : ℕ} {cones : List ℕ} {count : ℕ} {words : List ℕ} → Sound m cones count words
     → let ps = parts (records cones) (patterns count words) in
     (s : List Float) → length s ≡ blockRowCount ps → Doubles s → RoundingErrors m ps s
 sound-rounding {m} {cones} {count} {words} sound s long doubles =
     rounding-errors m (parts (records cones) (patterns count words)) (sound-rows sound) s (long ∙ sym (sound-count sound)) doubles
 
--- ---- on what the joining writes
+-- ---- on the outputs of a joining
 
--- Of what the compact joining of one solution writes, where nothing is refused.
+-- What holds for the outputs of a compact joining of one solution that is not refused.
 pub record SummedRows (m : ℕ) (ps : List Part) (sol : Solution) (out : Rejoined) : Type 0 where
   pub rows : RightRows 0 0 m (compactRows ps)
   pub long : length (sol .s) ≡ length (compactRows ps)
@@ -223,7 +223,7 @@ pub rounding-written : (n m : ℕ) (cones : List ℕ) (count : ℕ) (words : Lis
 rounding-written n m cones count words sol map before after call =
     let ps = joinedParts cones count words in
     let fits : Bool = solutionFits compact n m ps sol in
-    let eleven : ℕ = cond (roomy (n ∷ m ∷ m ∷ 2 ∷ []) (rooms before)) 0 11 in
+    let eleven : ℕ = cond (roomy (n ∷ m ∷ m ∷ 2 ∷ []) (rejoinedRooms before)) 0 11 in
     let twelve : ℕ = cond (fits && mapRight compact ps map) 0 12 in
     let (joins, rest) = orElse-zero (joinChecks compact n m cones count words) (orElse eleven twelve) .0 (sym (call .number)) in
     let map-fits = passed 12 (check 12 (fits && mapRight compact ps map) ∷ []) tt (orElse-zero eleven twelve .0 rest .1) in
@@ -235,7 +235,7 @@ rounding-written n m cones count words sol map before after call =
       written = λ o l. returned-written n m ps sol (after .s) (before .s) 0 o refl (call .tables .s) l;
     }
 
--- values and lists that are the same
+-- the bound of Q-9, with equal values and lists substituted
 near : (o r : ℕ) (rows : List Row) (s t u : List Float) (x x′ y y′ : Float) → x ≡ x′ → y ≡ y′ → u ≡ t
     → 2 ^ 53 * magnitude (count x -ℤ count y) ≤ 2 ^ 53 * magnitude (count (getD t r nan) -ℤ count (getD s r nan)) + (errorBound o rows s + errorBound o rows u)
     → 2 ^ 53 * magnitude (count x′ -ℤ count y′) ≤ 2 ^ 53 * magnitude (count (getD t r nan) -ℤ count (getD s r nan)) + (errorBound o rows s + errorBound o rows t)
@@ -245,7 +245,7 @@ near o r rows s t u x x′ y y′ e f g h =
     (subst (λ (b : Float). 2 ^ 53 * magnitude (count x′ -ℤ count b) ≤ bound u) f
     (subst (λ (a : Float). 2 ^ 53 * magnitude (count a -ℤ count y) ≤ bound u) e h))
 
--- Q-9 on what two compact joinings write, of solutions that differ in the block value at augmented row r: premises are the call's promises.
+-- Q-9 on the outputs of two compact joinings of solutions that differ in the block value at augmented row r: the premises are the call's contract.
 pub moved-written : (n m : ℕ) (cones : List ℕ) (k : ℕ) (words : List ℕ) (sol other : Solution) (map map′ : List ℕ)
     (before after before′ after′ : Rejoined) (r : ℕ)
     → Join 1 n m cones k words sol map before after 0 → Join 1 n m cones k words other map′ before′ after′ 0

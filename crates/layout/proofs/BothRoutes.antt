@@ -1,5 +1,5 @@
--- Both routes mean one problem. The standard equations' block rows say that the added unknowns are the blocks; its first m rows are
--- then the original equations with the blocks' sums for slacks, and these are what the compact equations come to by demand 3.
+-- Both routes state the same problem. The standard equations' block rows force the added unknowns to be the blocks; its first m rows are
+-- then the original equations with the blocks' sums as slacks, to which the compact equations are equivalent by demand 3.
 use Prim.Native.Nat.{ℕ, zero, suc, _+_, _-_, _<_}
 use native.Mathlib.Omega.{arith}
 use mathlib.Core.Path.{_≡_, refl, sym, ap, ap₂, subst, _∙_}
@@ -51,7 +51,7 @@ block-term o q r u =
     (sym (onRow-is o r (pos 1 *ℤ u)) ∙ ap (onRow o r) (one-*ℤ u))
     (+ℤ-idr (cond (eqb q r) (negsuc 0 *ℤ u) (pos 0)) ∙ sym (onRow-is q r (negsuc 0 *ℤ u)) ∙ ap (onRow q r) (minus-one-*ℤ u))
 
--- what these columns, times y, give to row r: y added by the rows of H, and -y on the rows from q on
+-- the contribution to row r of these columns times y: y summed by the rows of H, and -y in the rows from q on
 block-terms : (os : List ℕ) (q : ℕ) (g : ℕ → List Entry) (c : ℕ) (y : List ℤ) (r : ℕ) → length y ≡ length os
     → ((k : ℕ) → k < length os → g (c + k) ≡ blockColumn (getD os k 0) (q + k))
     → terms unit r g c y ≡ rowTotal os y r +ℤ rowTotal (upFrom q (length os)) (map negℤ y) r
@@ -84,7 +84,7 @@ module _ (p : Problem) (ok : refusal standard p ≡ 0) (once : T (withoutRepeats
   columns-count : length os ≡ blocks
   columns-count = standard-count 0 (layout p) (accepted-laid standard p ok .0)
 
-  -- A's columns, then those of H over -I
+  -- A's columns come first, then those of H over -I
   first-columns : (c : ℕ) → c < p .n → column (standardA p) c ≡ column (p .A) c
   first-columns c l = csc-ruled (column (p .A)) (p .n) (blockColumns (p .m) os) c l
 
@@ -99,7 +99,7 @@ module _ (p : Problem) (ok : refusal standard p ≡ 0) (once : T (withoutRepeats
       columns-terms count r (standardA p) (column (p .A)) 0 x (λ i _ k. first-columns i (omega arith))
       ∙ sym (columns-terms count r (p .A) (column (p .A)) 0 x (λ i _ k. refl))
 
-  -- the original equations read A itself
+  -- without repeats the original equations have A itself
   original-sum : (x : List ℤ) (r : ℕ) → columnsTerm count r (summedA p) 0 x ≡ columnsTerm count r (p .A) 0 x
   original-sum x r = ap (λ (M : Csc). columnsTerm count r M 0 x) (A-alone p standard ok once)
 
@@ -109,7 +109,7 @@ module _ (p : Problem) (ok : refusal standard p ≡ 0) (once : T (withoutRepeats
       columns-terms unit r (standardA p) (column (standardA p)) (p .n) y (λ i _ k. refl)
       ∙ block-terms os (p .m) (column (standardA p)) (p .n) y r (e ∙ sym columns-count) added-columns
 
-  -- the stored entries of A lie in the first m rows
+  -- the stored entries of A are in the first m rows
   entries-inside : T (all (λ r. has r (below (p .m))) (p .A .rows))
   entries-inside = all-has (λ r. has r (below (p .m))) (p .A .rows) .1 (λ r h.
       has-below r (p .m) .1 (ltb-iff r (p .m) .0 (all-has (λ r. ltb r (p .m)) (p .A .rows) .0 rows r h)))
@@ -175,7 +175,7 @@ module _ (p : Problem) (ok : refusal standard p ≡ 0) (once : T (withoutRepeats
         (columnsTerm count r (standardA p) 0 x +ℤ columnsTerm unit r (standardA p) (p .n) y) +ℤ at (standardSlacks p t) r
 
     module _ (y : List ℤ) (f : length y ≡ blocks) where
-      -- row r of the first m: A times x, and y added by the rows of H
+      -- row r below m: A times x, plus y summed by the rows of H
       upper : (r : ℕ) → r < p .m → left y r ≡ columnsTerm count r (p .A) 0 x +ℤ rowTotal os y r
       upper r l =
           ap₂ _+ℤ_
@@ -184,7 +184,7 @@ module _ (p : Problem) (ok : refusal standard p ≡ 0) (once : T (withoutRepeats
           ∙ +ℤ-idr (columnsTerm count r (p .A) 0 x +ℤ (rowTotal os y r +ℤ pos 0))
           ∙ ap (λ (z : ℤ). columnsTerm count r (p .A) 0 x +ℤ z) (+ℤ-idr (rowTotal os y r))
 
-      -- row m + k: the block's value, less the unknown
+      -- row m + k: the block's value less the unknown
       lower : (k : ℕ) → k < blocks → left y (p .m + k) ≡ negℤ (at y k) +ℤ at u k
       lower k l =
           ap₂ _+ℤ_
@@ -196,7 +196,7 @@ module _ (p : Problem) (ok : refusal standard p ≡ 0) (once : T (withoutRepeats
           (later-slack k)
           ∙ ap (λ (z : ℤ). z +ℤ at u k) (+ℤ-idl (pos 0 +ℤ negℤ (at y k)) ∙ +ℤ-idl (negℤ (at y k)))
 
-      -- the block rows hold exactly where y is the blocks
+      -- the block rows force y to be the list of the blocks
       same-value : (a c : ℤ) → negℤ a +ℤ c ≡ pos 0 → a ≡ c
       same-value a c h = sym (+ℤ-idr a) ∙ ap (λ (z : ℤ). a +ℤ z) (sym h) ∙ simp linear
 
@@ -228,7 +228,7 @@ module _ (p : Problem) (ok : refusal standard p ≡ 0) (once : T (withoutRepeats
     one-choice : MeetsOriginal p d x (slackSums p t) → ExactlyOne blocks (λ y. MeetsStandard p d x y (standardSlacks p t))
     one-choice h = (u, u-long, from-original h, λ z k n. y-forced z k n)
 
--- the standard equations of a problem that the standard route accepts, without repeated entries, have the original's solutions
+-- for a problem without repeated entries that the standard route accepts, the standard equations have the original equations' solutions
 pub standard-solutions : (p : Problem) → refusal standard p ≡ 0 → T (withoutRepeats p) → StandardSolutions p
 standard-solutions p ok once = record {
   forced = λ d _ x t e g y f h. y-forced p ok once d x t e g y f h;
@@ -236,7 +236,7 @@ standard-solutions p ok once = record {
   unsolved = λ d _ x t e g n y f h. n (to-original p ok once d x t e g y f h);
 }
 
--- the original equations hold where they do not fail
+-- the original equations hold where their failure is impossible
 original-stable : (p : Problem) (d : ℕ) (x s : List ℤ) → ((MeetsOriginal p d x s → ⊥) → ⊥) → MeetsOriginal p d x s
 original-stable p d x s n r l = go (ℤ-discrete (columnsTerm count r (summedA p) 0 x +ℤ at s r) (pos d *ℤ count (getD (p .b) r nan)))
   where
@@ -245,7 +245,7 @@ original-stable p d x s n r l = go (ℤ-discrete (columnsTerm count r (summedA p
     go (yes e) = e
     go (no k) = absurd (n (λ h. k (h r l)))
 
--- without repeats the sums in place are the stored entries
+-- without repeats, A with its repeats added is A as stored
 pub stored-finite : (p : Problem) (route : Route) → refusal route p ≡ 0 → T (withoutRepeats p) → StoredFinite p ↔ AllFinite p
 stored-finite p route ok once =
     let e = A-alone p route ok once in
@@ -259,7 +259,7 @@ both-routes p standard-ok compact-ok once stored d z x t e g =
       λ (y, f, m, _). one-choice p standard-ok once d x t e g (original-stable p d x (slackSums p t) (λ n. h .unsolved d z x t e g n y f m)),
     )
 
--- the same, of blocks given in standard order
+-- the same for blocks given in standard order
 pub both-routes-given : (p : Problem) → refusal standard p ≡ 0 → refusal compact p ≡ 0 → T (withoutRepeats p) → StoredFinite p
     → (d : ℕ) → 0 < d → (x u : List ℤ) → length x ≡ p .n → length u ≡ blockRowCount (layout p)
     → ExactlyOne (blockRowCount (layout p)) (λ y. MeetsStandard p d x y (replicate (p .m) (pos 0) ++ u))

@@ -1,4 +1,4 @@
--- Numbers of w bytes and back, one and in tables.
+-- Numbers as w bytes each and back, singly and in tables.
 use Prim.Native.Nat.{ℕ, zero, suc, _+_, _*_, _/_, _%_, _^_, _≤_, _<_}
 use native.Mathlib.Nat.{pow-succ', mul-suc, mul-zero}
 use native.Mathlib.Numerals.{add-one, add-two, add-three, add-four}
@@ -31,7 +31,7 @@ below-append n [] ys h k = k
 below-append n (x ∷ xs) ys h k =
     below-cons n x (xs ++ ys) (below-head n x xs h) (below-append n xs ys (below-tail n x xs h) k)
 
--- one by one
+-- the same bound, one number after the other
 abbrev pub EachBelow : ℕ → List ℕ → Type 0
 EachBelow n [] = Unit {0}
 EachBelow n (x ∷ xs) = (x < n) × EachBelow n xs
@@ -79,7 +79,7 @@ pub length-numbers : (w k : ℕ) (bs : List ℕ) → length (numbersOf w k bs) �
 length-numbers w zero bs = refl
 length-numbers w (suc k) bs = ap suc (length-numbers w k (drop w bs))
 
--- what was written is read back, whatever follows it
+-- a table is read back from its bytes, whatever follows them
 pub numbers-back : (w : ℕ) (xs rest : List ℕ) → Below (256 ^ w) xs → numbersOf w (length xs) (tableBytes w xs ++ rest) ≡ xs
 numbers-back w [] rest h = refl
 numbers-back w (x ∷ xs) rest h =
@@ -96,7 +96,7 @@ below-take n k xs l h i j =
     let t = length-take-le k xs l in
     rw (getD-take k xs i 0 (omega arith)) (h i (omega arith))
 
--- and bytes that were read are written back
+-- and bytes that were read as a table are its bytes
 pub table-back : (w k : ℕ) (bs : List ℕ) → Below 256 bs → w * k ≤ length bs → tableBytes w (numbersOf w k bs) ≡ take (w * k) bs
 table-back w zero bs h l = rw (mul-zero w)
 table-back w (suc k) bs h l =
@@ -128,7 +128,7 @@ numbers-at w (suc k) (suc i) bs d h =
     numbers-at w k i (drop w bs) d (omega arith)
     ∙ ap (λ (l : List ℕ). numberOf (take w l)) (drop-drop (w * i) w bs ∙ ap (λ (j : ℕ). drop j bs) e)
 
--- a u32 and a u64 by their bytes
+-- a u32 and a u64 from their bytes
 pub u32-at : (bs : List ℕ) (o : ℕ) → o + 4 ≤ length bs
     → numberOf (take 4 (drop o bs)) ≡ getD bs o 0 + 256 * getD bs (o + 1) 0 + 65536 * getD bs (o + 2) 0 + 16777216 * getD bs (o + 3) 0
 u32-at bs o h =
@@ -163,13 +163,13 @@ bytes-eight low high h =
     ∙ ap₂ (λ (d : ℕ) (r : List ℕ). d ∷ r) d₂ (ap (bytesOf 5) three
     ∙ ap₂ (λ (d : ℕ) (r : List ℕ). d ∷ r) d₃ (ap (bytesOf 4) four))))
 
--- one number more of a table
+-- the bytes of a table with one more number
 pub table-more : (w : ℕ) (xs : List ℕ) (i : ℕ) → i < length xs → tableBytes w (take (i + 1) xs) ≡ tableBytes w (take i xs) ++ bytesOf w (getD xs i 0)
 table-more w xs i l =
     ap (tableBytes w) (ap (λ (k : ℕ). take k xs) (add-one i) ∙ take-suc xs i 0 l) ∙ join-append (bytesOf w) (take i xs) (getD xs i 0 ∷ [])
     ∙ ap (λ (l : List ℕ). tableBytes w (take i xs) ++ l) (append-nil (bytesOf w (getD xs i 0)))
 
--- a part of a table, and a u64 as two words of the file
+-- a part of a table, and a u64 as two u32 words
 pub numbers-part : (w n o k : ℕ) (bs : List ℕ) → o + k ≤ n → take k (drop o (numbersOf w n bs)) ≡ numbersOf w k (drop (w * o) bs)
 numbers-part w zero zero zero bs h = refl
 numbers-part w zero zero (suc k) bs h = absurd (omega arith)
@@ -182,12 +182,3 @@ numbers-part w (suc n) zero (suc k) bs h =
 numbers-part w (suc n) (suc o) k bs h =
     let e : w + w * o ≡ w * suc o = omega (arith, mul-suc w o) in
     numbers-part w n o k (drop w bs) (omega arith) ∙ ap (numbersOf w k) (drop-drop (w * o) w bs ∙ ap (λ (j : ℕ). drop j bs) e)
-
-pub u64-words : (n i : ℕ) (bs : List ℕ) → i + 1 < n → 4 * n ≤ length bs
-    → numberOf (take 8 (drop (4 * i) bs)) ≡ getD (numbersOf 4 n bs) i 0 + 4294967296 * getD (numbersOf 4 n bs) (i + 1) 0
-u64-words n i bs l h =
-    let e : 4 * i + 4 ≡ 4 * (i + 1) = omega arith in
-    let low : numberOf (take 4 (drop (4 * i) bs)) ≡ getD (numbersOf 4 n bs) i 0 = sym (numbers-at 4 n i bs 0 (omega arith)) in
-    let high : numberOf (take 4 (drop (4 * i + 4) bs)) ≡ getD (numbersOf 4 n bs) (i + 1) 0 =
-    ap (λ (j : ℕ). numberOf (take 4 (drop j bs))) e ∙ sym (numbers-at 4 n (i + 1) bs 0 l) in
-    u64-at bs (4 * i) (omega arith) ∙ ap₂ (λ (a b : ℕ). a + 4294967296 * b) low high

@@ -1,4 +1,4 @@
--- The change of route: the answer is a compact solution of the same problem, and s has the same exact totals by original row.
+-- The change of route: the result is a compact solution of the same problem, and s has the same exact totals by original row.
 use Prim.Native.Nat.{ℕ, zero, suc, _+_, _<_}
 use native.Mathlib.Omega.{arith}
 use mathlib.Core.Path.{_≡_, refl, sym, ap, ap₂, subst, _∙_}
@@ -16,7 +16,7 @@ use Rattle.layout.specs.Equations.{finite, count as count₆₄, compact
 use Rattle.layout.specs.ChangeRoute.{changed, changedSizes, changeRefusal, counts, standardTotals, RouteChanged}
 use Rattle.layout.specs.Orders.{blockLengths, compactOrder}
 use Rattle.layout.specs.Answers.{orElse, roomy, joinedParts, addedCount, slackCount, solutionFits, mapRight, joinChecks, joinRefusal, scalars}
-use Rattle.layout.specs.Calls.Join.{Rejoined, rooms}
+use Rattle.layout.specs.Calls.Join.{Rejoined, rejoinedRooms}
 use Rattle.layout.specs.Calls.ChangeRoute.{ChangeRoute, held}
 use Rattle.layout.proofs.Tests.{and-iff, eqb-iff}
 use Rattle.layout.proofs.Accepted.{joinTests, join-sound}
@@ -26,7 +26,7 @@ use Rattle.layout.proofs.Buffers.{take-written}
 use Rattle.layout.proofs.Orders.{length-compact, compact-map, all-compact, block-moved}
 use Rattle.layout.proofs.Totals.{same-totals}
 
--- the last two checks pass
+-- where checks 11 and 12 pass, the number is that of the checks before them
 last : (a : ℕ) (room fit : Bool) → T room → T fit → orElse a (orElse (cond room 0 11) (cond fit 0 12)) ≡ a
 last zero true true r f = refl
 last zero true false r f = absurd f
@@ -49,7 +49,7 @@ module _ (n m : ℕ) (cones : List ℕ) (count : ℕ) (words : List ℕ) (sol : 
   abbrev fits : Bool
   fits = solutionFits standard n m ps sol
 
-  -- what each check says
+  -- each check passes
   pub change-checked : (joinChecks standard n m cones count words ≡ 0) × T (check10 compact m (joinedParts cones count words))
       × T (roomy (changedSizes n m (joinedParts cones count words)) rooms) × T (solutionFits standard n m (joinedParts cones count words) sol)
   change-checked =
@@ -81,16 +81,16 @@ module _ (n m : ℕ) (cones : List ℕ) (count : ℕ) (words : List ℕ) (sol : 
   z-long : length (changed n m ps sol .z) ≡ slackCount compact m ps
   z-long = length-compact ps (drop m (sol .z)) after-z
 
-  -- the lengths are those that check 11 asks
+  -- the result's lengths are those that check 11 asks for
   pub changed-sizes : let a = changed n m (joinedParts cones count words) sol in
       length (a .x) ∷ length (a .s) ∷ length (a .z) ∷ length (scalars a) ∷ [] ≡ changedSizes n m (joinedParts cones count words)
   changed-sizes = λ i. x-long i ∷ s-long i ∷ z-long i ∷ 2 ∷ []
 
-  -- and those that a compact joining of the same problem accepts
+  -- and those that a compact joining of the same problem asks for
   pub changed-fits : T (solutionFits compact n m (joinedParts cones count words) (changed n m (joinedParts cones count words) sol))
   changed-fits = simp (and-iff, eqb-iff) ((x-long, s-long), z-long)
 
-  -- which takes the problem
+  -- checks 1 to 10 of a compact joining pass
   pub changed-taken : joinChecks compact n m cones count words ≡ 0
   changed-taken =
       none-fails (joinTests compact n m cones count words) (test 1, (test 4, (test 5, (test 6, (test 7, (change-checked .1, tt))))))
@@ -98,7 +98,7 @@ module _ (n m : ℕ) (cones : List ℕ) (count : ℕ) (words : List ℕ) (sol : 
       test : (k : ℕ) → T (passing k (joinTests standard n m cones count words))
       test k = passed k (joinTests standard n m cones count words) tt (change-checked .0)
 
-  -- and the answer
+  -- a compact joining of the result is accepted, given the right cone map and long enough outputs
   pub changed-joined : (entries rooms′ : List ℕ) → T (mapRight compact (joinedParts cones count words) entries)
       → T (roomy (n ∷ m ∷ m ∷ 2 ∷ []) rooms′)
       → joinRefusal compact n m cones count words (changed n m (joinedParts cones count words) sol) entries rooms′ ≡ 0
@@ -108,7 +108,7 @@ module _ (n m : ℕ) (cones : List ℕ) (count : ℕ) (words : List ℕ) (sol : 
       (and-iff (solutionFits compact n m ps (changed n m ps sol)) (mapRight compact ps entries) .1 (changed-fits, map′))
       ∙ changed-taken
 
-  -- a block of s or of z
+  -- a block of s or of z is moved unchanged
   block-changed : (vs : List Float) → length (drop m vs) ≡ blockRowCount ps
       → (qs : List Part) (x : Part) (rs : List Part) (c : ℕ) → ps ≡ qs ++ (x ∷ rs) → c < length (blockLengths x)
       → let ks = blockLengths x in
@@ -120,7 +120,7 @@ module _ (n m : ℕ) (cones : List ℕ) (count : ℕ) (words : List ℕ) (sol : 
       ∙ block-moved qs x rs (drop m vs) c (long ∙ ap blockRowCount e) l
       ∙ ap (take (getD ks c 0)) (drop-drop (blockRowCount qs + sum (take c ks)) m vs)
 
-  -- what was finite stays so, and the exact total of s at each original row is the same
+  -- finite values stay finite, and the exact total of s at each original row is the same
   pub changed-finite : T (all finite (drop m (sol .s))) → T (all finite (changed n m (joinedParts cones count words) sol .s))
   changed-finite h = all-compact finite ps (drop m (sol .s)) h
 
@@ -132,7 +132,7 @@ module _ (n m : ℕ) (cones : List ℕ) (count : ℕ) (words : List ℕ) (sol : 
       ∙ same-totals m ps (sound-laid change-sound .0) (sound-rows change-sound) (counts (drop m (sol .s)))
       (length-map (drop m (sol .s)) count₆₄ ∙ after-s)
 
-  -- what Q-12 asks
+  -- what Q-12 asks to be proved
   pub route-changed : RouteChanged n m (joinedParts cones count words) sol (changed n m (joinedParts cones count words) sol)
   route-changed = record {
     fits = changed-fits;
@@ -142,16 +142,16 @@ module _ (n m : ℕ) (cones : List ℕ) (count : ℕ) (words : List ℕ) (sol : 
     totals = changed-totals;
   }
 
--- ---- on what the call writes
+-- ---- on the call's outputs
 
--- What the contract of the call says, for the answer 0, gives this of its outputs: they hold a compact solution, of which a compact
--- joining refuses nothing.
+-- From the contract of the call, where it returns 0: its outputs contain a compact solution with the properties above, which a compact
+-- joining accepts.
 module _ (n m : ℕ) (cones : List ℕ) (count : ℕ) (words : List ℕ) (sol : Solution) (before after : Rejoined)
     (given : ChangeRoute n m cones count words sol before after 0) where
   abbrev answer : Solution
   answer = changed n m (joinedParts cones count words) sol
 
-  ok : changeRefusal n m cones count words sol (rooms before) ≡ 0
+  ok : changeRefusal n m cones count words sol (rejoinedRooms before) ≡ 0
   ok = sym (given .number)
 
   front : (xs old new : List Float) (k : ℕ) → k ≡ length xs → new ≡ written xs old → take k new ≡ xs
@@ -160,9 +160,9 @@ module _ (n m : ℕ) (cones : List ℕ) (count : ℕ) (words : List ℕ) (sol : 
   pub held-changed : held n m (joinedParts cones count words) after ≡ changed n m (joinedParts cones count words) sol
   held-changed =
       let ps = joinedParts cones count words in
-      let x-front = front (answer .x) (before .x) (after .x) (n + addedCount compact ps) (sym (x-long n m cones count words sol (rooms before) ok)) (given .tables .x) in
-      let s-front = front (answer .s) (before .s) (after .s) (slackCount compact m ps) (sym (s-long n m cones count words sol (rooms before) ok)) (given .tables .s) in
-      let z-front = front (answer .z) (before .z) (after .z) (slackCount compact m ps) (sym (z-long n m cones count words sol (rooms before) ok)) (given .tables .z) in
+      let x-front = front (answer .x) (before .x) (after .x) (n + addedCount compact ps) (sym (x-long n m cones count words sol (rejoinedRooms before) ok)) (given .tables .x) in
+      let s-front = front (answer .s) (before .s) (after .s) (slackCount compact m ps) (sym (s-long n m cones count words sol (rejoinedRooms before) ok)) (given .tables .s) in
+      let z-front = front (answer .z) (before .z) (after .z) (slackCount compact m ps) (sym (z-long n m cones count words sol (rejoinedRooms before) ok)) (given .tables .z) in
       λ i. record {
         x = x-front i;
         s = s-front i;
@@ -175,7 +175,7 @@ module _ (n m : ℕ) (cones : List ℕ) (count : ℕ) (words : List ℕ) (sol : 
       × ((entries rooms′ : List ℕ) → T (mapRight compact (joinedParts cones count words) entries) → T (roomy (n ∷ m ∷ m ∷ 2 ∷ []) rooms′)
       → joinRefusal compact n m cones count words (held n m (joinedParts cones count words) after) entries rooms′ ≡ 0)
   changed-written = (
-    subst (RouteChanged n m (joinedParts cones count words) sol) (sym held-changed) (route-changed n m cones count words sol (rooms before) ok),
+    subst (RouteChanged n m (joinedParts cones count words) sol) (sym held-changed) (route-changed n m cones count words sol (rejoinedRooms before) ok),
     λ entries rooms′ map′ room. ap (λ (a : Solution). joinRefusal compact n m cones count words a entries rooms′) held-changed
-        ∙ changed-joined n m cones count words sol (rooms before) ok entries rooms′ map′ room,
+        ∙ changed-joined n m cones count words sol (rejoinedRooms before) ok entries rooms′ map′ room,
   )

@@ -22,7 +22,7 @@ use Rattle.layout.proofs.WordCounts.{clique-size, vertices-few}
 
 -- ---- the records
 
--- a clique's cone
+-- the record of a PSD cone, as each clique has one
 abbrev psd : ℕ → Cone
 psd k = record { kind = 6; first = k; second = 0 }
 
@@ -45,7 +45,7 @@ pub cones-words : (ps : List Part) → join compactPart ps ≡ join coneWords (n
 cones-words [] = refl
 cones-words (x ∷ ps) = ap₂ _++_ (part-words x) (cones-words ps) ∙ sym (join-append coneWords (partRecords x) (newCones ps))
 
--- ---- what checks 1 to 7 say of the parts
+-- ---- what checks 1 to 7 ensure for the parts
 
 pub record RightCone (c : Cone) : Type 0 where
   pub bounded : T (sizesBounded c)
@@ -59,12 +59,12 @@ abbrev RightParts : List Part → Type 0
 RightParts [] = Unit {0}
 RightParts (x ∷ ps) = RightPart x × RightParts ps
 
--- the values that a part takes from the table of α
+-- the number of values that a part takes from the table of α
 abbrev partAlphas : Part → ℕ
 partAlphas (whole i c row) = alphaCount c
 partAlphas (cut i row k p) = 0
 
--- among cones from number i on, the pattern's takes none
+-- the pattern's cone, if among the cones from number i on, takes no value of α
 abbrev TakesNone : ℕ → List Cone → Pattern → Type 0
 TakesNone i cs p = (n : ℕ) → n < length cs → p .origIndex ≡ i + n → alphaCount (getD cs n noCone) ≡ 0
 
@@ -103,7 +103,7 @@ parts-right i row k (c ∷ cs) (p ∷ ps) g h =
 
 -- ---- the new cones
 
--- a test that every number below k passes
+-- a test that every number below k passes holds for them in decreasing order
 all-down : (test : ℕ → Bool) (k : ℕ) → ((c : ℕ) → c < k → T (test c)) → T (all test (reverse (below k)))
 all-down test zero h = tt
 all-down test (suc k) h =
@@ -134,7 +134,7 @@ all-right (x ∷ ps) h =
     let (bs, rs) = all-right ps (h .1) in
     (all-of-both sizesBounded (partRecords x) (newCones ps) b bs, all-of-both reads (partRecords x) (newCones ps) r rs)
 
--- a count of the new cones is that of the parts
+-- a sum over the new cones is a sum over the parts
 counted : (f : Cone → ℕ) (g : Part → ℕ) → ((x : Part) → sum (map f (partRecords x)) ≡ g x)
     → (ps : List Part) → sum (map f (newCones ps)) ≡ sum (map g ps)
 counted f g h [] = refl
@@ -158,7 +158,7 @@ part-alphas : (x : Part) → sum (map alphaCount (partRecords x)) ≡ partAlphas
 part-alphas (whole i c row) = omega arith
 part-alphas (cut i row k p) = none-taken (λ c. blockSize (cliqueAt p c)) (reverse (below (cliqueCount p)))
 
--- no more of them than cones and cliques
+-- there are at most as many new cones as cones and cliques together
 pub new-few : (i row k : ℕ) (cs : List Cone) (ps : List Pattern)
     → length (newCones (partsFrom i row k cs ps)) ≤ length cs + sum (map cliqueCount ps)
 new-few i row k [] ps = omega arith

@@ -1,4 +1,4 @@
--- The compact problem, where check 1's bounds hold of it, passes checks 1 to 7 itself.
+-- The compact problem passes checks 1 to 7 itself, where it keeps check 1's bounds.
 use Prim.Native.Nat.{ℕ, zero, suc, _+_, _-_, _≤_, _<_}
 use native.Mathlib.Omega.{arith}
 use mathlib.Core.Path.{_≡_, sym, ap, ap₂, subst, _∙_}
@@ -13,7 +13,7 @@ use Rattle.layout.specs.Cones.{records, wholeRecords, reads, rowCount, a
 use Rattle.layout.specs.Blocks.{overlapCount}
 use Rattle.layout.specs.Checks.{layout, refusal, neverFalls, startCount, startsAtZero, startsEnd, rowsAsMany, startsRight, columnRows, rowsInOrder, rowsRight, check1, check2, check3, check4, conesRead, alphasAsMany, problemChecks}
 use Rattle.layout.specs.Compact.{coneWords, extendedP}
-use Rattle.layout.specs.Answers.{problemRefusal, sizes}
+use Rattle.layout.specs.Answers.{problemRefusal}
 use Rattle.layout.specs.File.{compactProblem}
 use Rattle.layout.proofs.Tests.{and-iff, eqb-iff, lt-or-le}
 use Rattle.layout.proofs.Members.{all-has, has-below}
@@ -113,9 +113,6 @@ module _ (n k : ℕ) (P : Csc) (h : T (startsRight n P)) where
 module _ (p : Problem) (ok : refusal compact p ≡ 0) where
   abbrev q : Problem
   q = compactProblem p
-
-  abbrev size : ℕ → ℕ
-  size i = getD (sizes compact p) i 0
 
   cones-are : q .cones ≡ join coneWords (newCones (layout p))
   cones-are = cones-words (layout p)

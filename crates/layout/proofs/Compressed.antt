@@ -1,4 +1,4 @@
--- The compressed columns of any columns pass check 2, and check 3 where the columns do; those of a matrix's own columns are the matrix.
+-- The compressed columns of any columns pass check 2, and check 3 where each column does; those of a matrix's own columns are the matrix.
 use Prim.Native.Nat.{ℕ, zero, suc, _+_, _-_, _≤_, _<_}
 use native.Mathlib.Nat.{le-refl, le-of-eq}
 use native.Mathlib.Omega.{arith}
@@ -28,7 +28,7 @@ rows-joined [] = refl
 rows-joined (c ∷ cs) =
     map-append (λ (e : Entry). e .row) c (join (λ c. c) cs) ∙ ap (λ (r : List ℕ). rowsOf c ++ r) (rows-joined cs)
 
--- ---- check 2 holds of the compressed columns of any columns
+-- ---- check 2 passes for the compressed columns of any columns
 
 starts-never-fall : (a : ℕ) (ks : List ℕ) → T (neverFalls (startsFrom a ks))
 starts-never-fall a [] = tt
@@ -71,7 +71,7 @@ module _ (cs : List (List Entry)) where
         eqb-iff (length (M .rows)) (length (M .values)) .1 (even cs),
       )
 
-  -- each row is a column's
+  -- each stored row index is in one of the columns
   row-of : (r : ℕ) → T (has r (csc cs .rows)) → (c : ℕ) × (c < length cs) × T (has r (rowsOf (getD cs c [])))
   row-of r h =
       let k = subst (λ (rs : List ℕ). T (has r rs)) (rows-joined cs) h in
@@ -79,11 +79,11 @@ module _ (cs : List (List Entry)) where
       let lc : c < length cs = omega (arith, length-map cs rowsOf) in
       (c, lc, subst (λ (rs : List ℕ). T (has r rs)) (getD-map rowsOf cs c [] [] lc) j)
 
-  -- what holds of the columns' rows holds of all
+  -- a test that the row indices of every column pass holds for all row indices
   pub csc-all : (p : ℕ → Bool) → ((c : ℕ) → c < length cs → T (all p (rowsOf (getD cs c [])))) → T (all p (csc cs .rows))
   csc-all p h = all-has p (csc cs .rows) .1 (λ r k. let (c, l, j) = row-of r k in all-has p (rowsOf (getD cs c [])) .0 (h c l) r j)
 
-  -- what holds of each column's rows
+  -- a property of each column's row indices holds for the columns of the matrix
   pub csc-each : (f : List ℕ → Bool) → ((c : ℕ) → c < length cs → T (f (rowsOf (getD cs c []))))
       → T (all (λ c. f (columnRows (csc cs) c)) (below (length cs)))
   csc-each f h = all-has (λ c. f (columnRows (csc cs) c)) (below (length cs)) .1 (λ c k.
@@ -92,7 +92,7 @@ module _ (cs : List (List Entry)) where
       (ap rowsOf (sym (column-csc cs c l)) ∙ column-rows (length cs) (csc cs) (starts-right (length cs) (csc cs) csc-starts) c l)
       (h c l))
 
-  -- check 3, from the columns: that of P, and that of A
+  -- check 3 from the columns: as it is for P, and as it is for A
   module _ (m : ℕ) (inside : (c : ℕ) → c < length cs → (r : ℕ) → T (has r (rowsOf (getD cs c []))) → r < m) where
     rows-low : T (all (λ r. ltb r m) (csc cs .rows))
     rows-low = csc-all (λ r. ltb r m) (λ c l. all-has (λ r. ltb r m) (rowsOf (getD cs c [])) .1 (λ r h. lt→ltb r m (inside c l r h)))
@@ -107,7 +107,7 @@ module _ (cs : List (List Entry)) where
         and-iff (all (λ r. ltb r m) (csc cs .rows)) (all (λ c. neverFalls (columnRows (csc cs) c)) (below (length cs))) .1
         (rows-low, csc-each neverFalls never)
 
--- ---- columns given by a rule below n, and others after them
+-- ---- columns given by a rule for each number below n, and others after them
 
 module _ (f : ℕ → List Entry) (n : ℕ) (ds : List (List Entry)) where
   abbrev ruled : List (List Entry)
@@ -133,7 +133,7 @@ module _ (f : ℕ → List Entry) (n : ℕ) (ds : List (List Entry)) where
 abbrev pub columnValues : Csc → ℕ → List Float
 columnValues M c = part (getD (M .starts) c 0) (getD (M .starts) (suc c) 0) (M .values)
 
--- the running totals after a, without a itself
+-- a plus each running total, without a itself
 abbrev pub totals : ℕ → List ℕ → List ℕ
 totals a [] = []
 totals a (k ∷ ks) = (a + k) ∷ totals (a + k) ks
@@ -149,7 +149,7 @@ starts-append a (k ∷ ks) js =
     (starts-append (a + k) ks js ∙ ap (λ (s : ℕ). startsFrom (a + k) ks ++ totals s js) (omega arith))
 
 module _ (n : ℕ) (M : Csc) (right : RightStarts n M) where
-  -- xs is the table of one field
+  -- xs is the matrix's table for one field of the entries
   module _ {X : Type 0} (field : Entry → X) (d : X) (xs : List X) (size : length xs ≡ length (M .rows))
       (reads : (t : ℕ) → field (record { row = getD (M .rows) t 0; value = getD (M .values) t nan }) ≡ getD xs t d) where
     column-field : (c : ℕ) → c < n

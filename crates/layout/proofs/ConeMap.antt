@@ -1,5 +1,5 @@
--- The cone map's first rows and row counts: each entry starts where the one before it ends, its rows are its block's, and a walk over
--- the entries that reads them joins a solution as the walk over all augmented rows does. Its patterns' numbers lie below the mark for none.
+-- The cone map's first rows and row counts: each entry starts where the one before it ends, its rows are its block's, and a joining that
+-- walks over the entries gives what a walk over all augmented rows gives. The map's pattern numbers are below the no-pattern mark.
 use Prim.Native.Nat.{ℕ, zero, suc, _+_, _*_, _≤_, _<_}
 use native.Mathlib.Nat.{not-suc-le-zero, le-of-suc-le-suc, le-refl}
 use native.Mathlib.Omega.{arith}
@@ -37,7 +37,7 @@ abbrev pub entryRows : MapEntry → ℕ
 entryRows (wholeCone i first rows) = rows
 entryRows (blockOf i k c first rows) = rows
 
--- the entries take the rows from a to b, one after the other
+-- the entries cover the rows from a to b, one after the other
 abbrev pub Follow : ℕ → List MapEntry → ℕ → Type 0
 Follow a [] b = a ≡ b
 Follow a (e ∷ es) b = (entryFirst e ≡ a) × Follow (a + entryRows e) es b
@@ -49,7 +49,7 @@ follow-append a b c (e ∷ es) fs h g = (h .0, follow-append (a + entryRows e) b
 abbrev size : Clique → ℕ
 size q = triangle (blockSize q)
 
--- the cliques below c of a pattern, from the last to the first
+-- the entries of a pattern's cliques below c, from last to first, cover rows one after the other
 cliques-follow : (i k : ℕ) (p : Pattern) (first c : ℕ) → c ≤ cliqueCount p
     → Follow (first + sum (map size (drop c (p .cliques)))) (map (blockEntry i k p first) (reverse (below c))) (first + blockRows p)
 cliques-follow i k p first zero l = refl
@@ -90,13 +90,13 @@ pub first-at : (ps : List Part) (k : ℕ) (d : MapEntry) → k < length (coneMap
     → entryFirst (getD (coneMap ps) k d) ≡ sum (take k (map entryRows (coneMap ps)))
 first-at ps k d l = omega (arith, follow-at 0 (0 + blockRowCount ps) (coneMap ps) k d (map-follows 0 ps) l)
 
--- and all of them are the augmented rows
+-- the row counts of all entries add up to the number of augmented rows
 pub rows-sum : (ps : List Part) → sum (map entryRows (coneMap ps)) ≡ blockRowCount ps
 rows-sum ps = omega (arith, follow-sum 0 (0 + blockRowCount ps) (coneMap ps) (map-follows 0 ps))
 
 -- ---- the rows of each entry
 
--- the rows of each new cone of a part, and of parts, whose rows start at first
+-- the rows of each new cone of a part, and of parts, whose rows start at `first`
 abbrev pub partBlocks : ℕ → Part → List (List Row)
 partBlocks first (whole i c row) = map kept (upFrom row (rowCount c)) ∷ []
 partBlocks first (cut i row k p) = map (λ c. map (rowOf p row first c) (block p c)) (reverse (below (cliqueCount p)))
@@ -105,7 +105,7 @@ abbrev pub blocksFrom : ℕ → List Part → List (List Row)
 blocksFrom first [] = []
 blocksFrom first (x ∷ ps) = partBlocks first x ++ blocksFrom (first + partRows x) ps
 
--- one after the other they are the augmented rows
+-- joined one after the other they are the augmented rows
 pub blocks-joined : (first : ℕ) (ps : List Part) → join (λ R. R) (blocksFrom first ps) ≡ rowsFrom first ps
 blocks-joined first [] = refl
 blocks-joined first (whole i c row ∷ ps) =
@@ -122,7 +122,7 @@ cliques-long i k row first p h (suc c) l =
     (sym (reverse-below c))
     (ap₂ {C = List ℕ} (λ n ns. n ∷ ns) (length-map (block p c) (rowOf p row first c) ∙ block-length p h c l) (cliques-long i k row first p h c (omega arith)))
 
--- each is as long as its entry says
+-- each is as long as its entry's row count
 pub blocks-long : (first row : ℕ) (ps : List Part) → Laid row ps → map length (blocksFrom first ps) ≡ map entryRows (mapFrom first ps)
 blocks-long first row [] h = refl
 blocks-long first row (whole i c r ∷ ps) h =
@@ -134,7 +134,7 @@ blocks-long first row (cut i r k p ∷ ps) h =
     (blocks-long (first + blockRows p) (row + triangle (p .vertexCount)) ps (h .2))
     ∙ sym (map-append entryRows (mapPart first (cut i r k p)) (mapFrom (first + blockRows p) ps))
 
--- the part of a list from an entry's first row on, as long as its rows
+-- the part of a list that an entry covers, from its first row on
 abbrev pub entryPart : {A : Type 0} → MapEntry → List A → List A
 entryPart e vs = take (entryRows e) (drop (entryFirst e) vs)
 
@@ -155,7 +155,7 @@ part-of a b (e ∷ es) (R ∷ Rs) S (suc k) d h g j l =
     same : length R ≡ entryRows e
     same = ap (λ (ns : List ℕ). getD ns 0 0) g
 
--- the augmented rows from an entry's first row on are its block's
+-- the augmented rows that an entry covers are its block's rows
 pub block-at : (ps : List Part) → Laid 0 ps → (k : ℕ) (d : MapEntry) → k < length (coneMap ps)
     → entryPart (getD (coneMap ps) k d) (compactRows ps) ≡ getD (blocksFrom 0 ps) k []
 block-at ps h k d l =
@@ -164,7 +164,7 @@ block-at ps h k d l =
 
 -- ---- a joining by the map
 
--- entry by entry: the rows of its block take the values from its first row on
+-- entry by entry: the rows of its block are walked with the values from its first row on
 abbrev pub byMap : {S : Type 0} → (Row → Float → S → S) → List Float → List MapEntry → List (List Row) → S → S
 byMap f vs es Rs w = walk (λ e R w. walk f R (entryPart e vs) w) es Rs w
 
@@ -190,7 +190,7 @@ by-map f ps h vs w =
     follow-walk f vs 0 (0 + blockRowCount ps) (coneMap ps) (blocksFrom 0 ps) w (map-follows 0 ps) (blocks-long 0 0 ps h)
     ∙ ap (λ (R : List Row). walk f R vs w) (blocks-joined 0 ps)
 
--- s and z of a compact joining
+-- by the map, s and z of a compact joining
 pub add-by-map : (ps : List Part) → Laid 0 ps → (s ws : List Float) → byMap addRow s (coneMap ps) (blocksFrom 0 ps) ws ≡ addRows (compactRows ps) s ws
 add-by-map ps h s ws = by-map addRow ps h s ws
 
@@ -199,7 +199,7 @@ put-by-map ps h z ws = by-map putRow ps h z ws
 
 -- ---- words
 
--- part by part
+-- the map's words are those of its parts, one after the other
 pub words-part : (first : ℕ) (x : Part) (ps : List Part)
     → mapWords (mapFrom first (x ∷ ps)) ≡ mapWords (mapPart first x) ++ mapWords (mapFrom (first + partRows x) ps)
 words-part first x ps = join-append entryWords (mapPart first x) (mapFrom (first + partRows x) ps)
@@ -211,7 +211,7 @@ past : (e : MapEntry) (ws : List ℕ) (m n : ℕ) → m ≡ 5 + n → drop m (en
 past (wholeCone i first rows) ws m n e = rw (e ∙ five n)
 past (blockOf i k c first rows) ws m n e = rw (e ∙ five n)
 
--- the words of entry k stand from 5 k on
+-- the words of entry k start at index 5 k
 pub words-at : (es : List MapEntry) (k : ℕ) (d : MapEntry) → k < length es
     → drop (5 * k) (mapWords es) ≡ entryWords (getD es k d) ++ mapWords (drop (suc k) es)
 words-at [] k d l = absurd (not-suc-le-zero l)
@@ -233,9 +233,9 @@ rows-word es k d l = sym (getD-drop (5 * k) (mapWords es) 4 0) ∙ ap (λ (ws : 
     fourth (wholeCone i first rows) = refl
     fourth (blockOf i k c first rows) = refl
 
--- ---- patterns' numbers
+-- ---- pattern numbers
 
--- they are below the mark
+-- every pattern number in the map is below the no-pattern mark
 abbrev pub Told : List MapEntry → Type 0
 Told [] = Unit {0}
 Told (wholeCone i first rows ∷ es) = Told es
@@ -250,7 +250,7 @@ told-blocks : (i k : ℕ) (p : Pattern) (first : ℕ) (cs : List ℕ) → k < no
 told-blocks i k p first [] l = tt
 told-blocks i k p first (c ∷ cs) l = (l, told-blocks i k p first cs l)
 
--- a part's number is at most its cone's
+-- as a pattern's number is at most its cone's, and there are at most 1024 cones, it is below the mark
 told-parts : (i row k first : ℕ) (cs : List Cone) (ps : List Pattern) → k ≤ i → i + length cs ≤ 1024 → Told (mapFrom first (partsFrom i row k cs ps))
 told-parts i row k first [] ps l few = tt
 told-parts i row k first (c ∷ cs) [] l few = told-parts (suc i) (row + rowCount c) k (first + rowCount c) cs [] (omega arith) (omega arith)

@@ -1,5 +1,5 @@
--- The rows of a cone: those of one that is not decomposed are kept, one augmented row after the other, and those of a decomposed one are
--- rows of no undecomposed cone.
+-- The rows of a cone: an undecomposed cone's rows are kept, in consecutive augmented rows, and nothing is copied to the rows of a
+-- decomposed cone.
 use Prim.Native.Nat.{ℕ, zero, suc, _+_, _≤_, _<_}
 use native.Mathlib.Nat.{le-of-eq, not-suc-le-zero, le-of-suc-le-suc}
 use native.Mathlib.Omega.{arith}
@@ -24,7 +24,7 @@ use Rattle.layout.proofs.Moves.{rowAt, RightRows, kept-rows, never-kept
 use Rattle.layout.proofs.Laid.{laid-rows, sound-laid, sound-count}
 use Rattle.layout.proofs.RowTerms.{copies-there}
 
--- ---- a cone that is not decomposed
+-- ---- an undecomposed cone
 
 length-kept : (row n : ℕ) → length (map kept (upFrom row n)) ≡ n
 length-kept row n = length-map (upFrom row n) kept ∙ length-upFrom row n
@@ -34,7 +34,7 @@ after xs ys n k r e f =
     let g : r ≡ length xs + k = omega arith in
     ap (rowAt (xs ++ ys)) g ∙ getD-append-add xs ys k (kept 0)
 
--- row t of part j, which is whole
+-- the augmented row for row t of part j, an undecomposed cone, is kept
 pub whole-kept : (first start : ℕ) (ps : List Part) → Laid start ps → (j : ℕ) (d : Part) (i : ℕ) (c : Cone) (row t : ℕ) → j < length ps
     → getD ps j d ≡ whole i c row → t < rowCount c → rowAt (rowsFrom first ps) (blockRowCount (take j ps) + t) ≡ kept (row + t)
 whole-kept first start [] laid j d i c row t l e m = absurd (not-suc-le-zero l)
@@ -55,7 +55,7 @@ whole-kept first start (cut h r k p ∷ ps) laid (suc j) d i c row t l e m =
     (blockRows p + blockRowCount (take j ps) + t) (rows-count p (laid .1) r first) (omega arith)
     ∙ whole-kept (first + blockRows p) (start + triangle (p .vertexCount)) ps (laid .2) j d i c row t (le-of-suc-le-suc l) e m
 
--- it is one of the rows
+-- row t of part j is one of the augmented rows
 row-within : (ps : List Part) (j : ℕ) (d : Part) (t : ℕ) → j < length ps → t < partRows (getD ps j d)
     → blockRowCount (take j ps) + t < blockRowCount ps
 row-within [] j d t l m = absurd (not-suc-le-zero l)
@@ -64,7 +64,7 @@ row-within (q ∷ ps) (suc j) d t l m = omega (arith, row-within ps j d t (le-of
 
 -- ---- a decomposed cone
 
--- rows that stand for others copy nothing at o
+-- rows that represent only original rows from lo to hi - 1 copy nothing to a row o outside
 outside : (first lo hi o : ℕ) (R : List Row) → RightRows first lo hi R → (o < lo) ⊎ (hi ≤ o) → T (decomposed o R)
 outside first lo hi o R right h = all-at (kept 0) (λ x. not (copies o x)) R .1 (λ q l. not-T (copies o (rowAt R q)) (λ c. far q l c h))
   where
@@ -78,7 +78,7 @@ blocks-decomposed first row o p right =
     all-at (kept 0) (λ x. not (copies o x)) R .1
     (λ q l. not-T (copies o (rowAt R q)) (λ c. never-kept p right row first q o l (copies-there o (rowAt R q) c)))
 
--- a part starts where the first does, or later
+-- a decomposed cone starts at or after the start of the first part
 starts-after : (start : ℕ) (ps : List Part) → Laid start ps → (j : ℕ) (d : Part) (i row k : ℕ) (p : Pattern) → j < length ps
     → getD ps j d ≡ cut i row k p → start ≤ row
 starts-after start [] laid j d i row k p l e = absurd (not-suc-le-zero l)
@@ -89,7 +89,7 @@ starts-after start (whole h b r ∷ ps) laid (suc j) d i row k p l e =
 starts-after start (cut h r n b ∷ ps) laid (suc j) d i row k p l e =
     omega (arith, starts-after (start + triangle (b .vertexCount)) ps (laid .2) j d i row k p (le-of-suc-le-suc l) e)
 
--- original row o of part j, which is cut
+-- no augmented row is copied to original row o of part j, a decomposed cone
 pub cut-decomposed : (first start : ℕ) (ps : List Part) → Laid start ps → (j : ℕ) (d : Part) (i row k : ℕ) (p : Pattern) (o : ℕ) → j < length ps
     → getD ps j d ≡ cut i row k p → row ≤ o → o < row + triangle (p .vertexCount) → T (decomposed o (rowsFrom first ps))
 cut-decomposed first start [] laid j d i row k p o l e low high = absurd (not-suc-le-zero l)
@@ -123,7 +123,7 @@ module _ {m : ℕ} {cones : List ℕ} {count : ℕ} {words : List ℕ} (sound : 
       errors .copied (blockRowCount (take j ps) + t) (row + t) (omega (arith, within, sound-count sound))
       (subst (λ (x : Row). T (copies (row + t) x)) (sym at) (eqb-refl (row + t)))
 
-  -- a row of a decomposed one is summed
+  -- no augmented row is copied to a row of a decomposed cone
   pub cone-decomposed : (i row k : ℕ) (p : Pattern) (o : ℕ) → getD ps j d ≡ cut i row k p → row ≤ o → o < row + triangle (p .vertexCount)
       → T (decomposed o (compactRows ps))
   cone-decomposed i row k p o e low high = cut-decomposed 0 0 ps (sound-laid sound .0) j d i row k p o inside e low high

@@ -1,5 +1,5 @@
--- What the generator draws: columns whose entries stand on some of the rows, in their order, b, and finite values; and what a loop that
--- draws them has left.
+-- What the generator draws: columns with entries in some of the rows, in their order, and b, with finite values; and the state of a loop
+-- that draws them.
 use Prim.Native.Nat.{ℕ, zero, suc, _+_, _%_, _≤_, _<_, zero-le}
 use native.Mathlib.Nat.{mod-lt, zero-lt-suc, not-suc-le-zero, le-of-suc-le-suc}
 use native.Mathlib.Numerals.{add-one}
@@ -25,12 +25,12 @@ use Rattle.layout.proofs.Compressed.{valuesOf}
 
 -- ---- values
 
--- one of 201 values, each of them finite
+-- a drawn value is finite
 pub value-finite : (d : ℕ) → T (finite (drawnValue d))
 unfolding ofInt
 value-finite d = all-has (λ t. finite (ofInt binary64 (pos t -ℤ pos 100))) (below 201) .0 tt (d % 201) (has-below (d % 201) 201 .1 (mod-lt d (zero-lt-suc 200)))
 
--- integers tested for equality
+-- whether two integers are equal
 abbrev same : ℤ → ℤ → Bool
 same (pos a) (pos b) = eqb a b
 same (pos a) (negsuc b) = false
@@ -43,7 +43,7 @@ same-says (pos a) (negsuc b) h = absurd h
 same-says (negsuc a) (pos b) h = absurd h
 same-says (negsuc a) (negsuc b) h = ap negsuc (eqb→eq a b h)
 
--- each is that whole number, and 0 is +0.0
+-- a drawn value is the whole number (draw mod 201) - 100, and the number 0 is +0.0
 pub value-exact : (d : ℕ) → unit (drawnValue d) ≡ pos (d % 201) -ℤ pos 100
 unfolding ofInt
 value-exact d =
@@ -55,17 +55,13 @@ pub value-zero : (d : ℕ) → d % 201 ≡ 100 → drawnValue d ≡ zero64
 unfolding ofInt
 value-zero d e = rw e
 
--- ---- a column over the rows rs, from the u64 s on
+-- ---- a column over the rows rs, from the state s on
 
--- an entry or none, then the rest
+-- an entry or none, then the entries es
 abbrev more : Bool → ℕ → Float → List Entry → List Entry
 more b r x es = cond b (record { row = r; value = x } ∷ []) [] ++ es
 
-column-more : (s r : ℕ) (rs : List ℕ)
-    → drawnColumn s (r ∷ rs) ≡ more (isOdd (draw s)) r (drawnValue (draw (draw s))) (drawnColumn (afterEntry s) rs)
-column-more s r rs = refl
-
--- its entries stand on some of the rows
+-- a drawn column has entries in rows of rs only
 pub column-has : (s : ℕ) (rs : List ℕ) (q : ℕ) → T (has q (rowsOf (drawnColumn s rs))) → T (has q rs)
 column-has s [] q h = h
 column-has s (r ∷ rs) q h =
@@ -75,7 +71,7 @@ column-has s (r ∷ rs) q h =
     go true x es f k = elim (has-cons q r (rowsOf es) .0 k) [ inl e ↦ has-cons q r rs .1 (inl e) | inr m ↦ has-cons q r rs .1 (inr (f m)) ]
     go false x es f k = has-cons q r rs .1 (inr (f k))
 
--- in their order
+-- in increasing order if rs increases
 pub column-rises : (s : ℕ) (rs : List ℕ) → T (rises rs) → T (rises (rowsOf (drawnColumn s rs)))
 column-rises s [] h = tt
 column-rises s (r ∷ rs) h =
@@ -112,7 +108,7 @@ pub columns-count : (s : ℕ) (rs : List ℕ) (n : ℕ) → length (drawnColumns
 columns-count s rs zero = refl
 columns-count s rs (suc n) = ap suc (columns-count (afterColumn s rs) rs n)
 
--- each is drawn
+-- each column is drawn, from some state
 pub columns-drawn : (s : ℕ) (rs : List ℕ) (n c : ℕ) → c < n → (t : ℕ) × (getD (drawnColumns s rs n) c [] ≡ drawnColumn t rs)
 columns-drawn s rs zero c l = absurd (not-suc-le-zero l)
 columns-drawn s rs (suc n) zero l = (s, refl)
@@ -126,7 +122,7 @@ columns-finite s rs (suc n) =
     rw (map-append (λ (e : Entry). e .value) es fs)
     (all-of-both finite (valuesOf es) (valuesOf fs) (column-finite s rs) (columns-finite (afterColumn s rs) rs n))
 
--- drawn one after the other
+-- a column over appended rows is drawn over the first rows, then over the second
 pub column-append : (s : ℕ) (xs ys : List ℕ) → drawnColumn s (xs ++ ys) ≡ drawnColumn s xs ++ drawnColumn (afterColumn s xs) ys
 column-append s [] ys = refl
 column-append s (x ∷ xs) ys =
@@ -137,7 +133,7 @@ pub after-append : (s : ℕ) (xs ys : List ℕ) → afterColumn s (xs ++ ys) ≡
 after-append s [] ys = refl
 after-append s (x ∷ xs) ys = after-append (afterEntry s) xs ys
 
--- one column more
+-- one more column
 pub columns-more : (s : ℕ) (rs : List ℕ) (n : ℕ)
     → drawnColumns s rs (n + 1) ≡ drawnColumns s rs n ++ (drawnColumn (afterColumns s rs n) rs ∷ [])
 columns-more s rs n = rw add-one (go s n)
@@ -159,7 +155,7 @@ pub side-length : (s : ℕ) (rs : List ℕ) (b : List Float) → length (drawnSi
 side-length s [] b = refl
 side-length s (r ∷ rs) b = side-length (draw s) rs (set b r (drawnValue (draw s))) ∙ length-set b r (drawnValue (draw s))
 
--- the other rows keep what they had
+-- b is unchanged in rows outside rs
 pub side-other : (s : ℕ) (rs : List ℕ) (b : List Float) (q : ℕ) (d : Float) → (T (has q rs) → ⊥)
     → getD (drawnSide s rs b) q d ≡ getD b q d
 side-other s [] b q d out = refl
@@ -172,31 +168,18 @@ side-finite s [] b h = h
 side-finite s (r ∷ rs) b h =
     side-finite (draw s) rs (set b r (drawnValue (draw s))) (all-set finite b r (drawnValue (draw s)) h (value-finite (draw s)))
 
--- ---- what a loop over the rows has left at i
+-- ---- what a loop over the rows has yet to draw at index i
 
 module _ (rs : List ℕ) (i : ℕ) (l : i < length rs) where
-  pub column-step : (s : ℕ)
-      → drawnColumn s (drop i rs) ≡ drawnEntry s (getD rs i 0) ++ drawnColumn (afterEntry s) (drop (i + 1) rs)
-  column-step s = rw (add-one, drop-cons rs i 0 l)
-
-  pub after-step : (s : ℕ) → afterColumn s (drop i rs) ≡ afterColumn (afterEntry s) (drop (i + 1) rs)
-  after-step s = rw (add-one, drop-cons rs i 0 l)
-
   pub side-step : (s : ℕ) (b : List Float)
       → drawnSide s (drop i rs) b ≡ drawnSide (draw s) (drop (i + 1) rs) (set b (getD rs i 0) (drawnValue (draw s)))
   side-step s b = rw (add-one, drop-cons rs i 0 l)
 
 module _ (rs : List ℕ) (i : ℕ) (l : length rs ≤ i) where
-  pub column-done : (s : ℕ) → drawnColumn s (drop i rs) ≡ []
-  column-done s = rw (drop-of-length-le rs l)
-
-  pub after-done : (s : ℕ) → afterColumn s (drop i rs) ≡ s
-  after-done s = rw (drop-of-length-le rs l)
-
   pub side-done : (s : ℕ) (b : List Float) → drawnSide s (drop i rs) b ≡ b
   side-done s b = rw (drop-of-length-le rs l)
 
--- ---- what a loop over the rows has done at i
+-- ---- what a loop over the rows has drawn at index i
 
 module _ (s : ℕ) (rs : List ℕ) (i : ℕ) where
   -- no more entries than in the whole column
@@ -218,7 +201,7 @@ module _ (s : ℕ) (rs : List ℕ) (i : ℕ) (l : i < length rs) where
       ∙ ap (λ (es : List Entry). drawnColumn s (take i rs) ++ es) (append-nil (drawnEntry (afterColumn s (take i rs)) (getD rs i 0)))
 
   module _ (t : ℕ) (here : t ≡ afterColumn s (take i rs)) where
-    -- an odd draw stores the value of the state after it
+    -- an odd draw stores an entry, with the value of the state after it
     pub column-hit : isOdd (draw t) ≡ true
         → drawnColumn s (take (i + 1) rs) ≡ drawnColumn s (take i rs) ++ (record { row = getD rs i 0; value = drawnValue (afterEntry t) } ∷ [])
     column-hit e =

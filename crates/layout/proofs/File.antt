@@ -1,4 +1,4 @@
--- Problem files: what was written is read back, an accepted file is written again byte by byte, and how long a file is.
+-- Problem files: a written file is read back, an accepted file is written again byte by byte, and the length of a file.
 use Prim.Native.Nat.{ℕ, suc, _+_, _*_, _/_, _^_, _≤_, _<_}
 use native.Mathlib.Omega.{arith}
 use mathlib.Core.Path.{_≡_, refl, sym, ap, ap₂, subst, _∙_}
@@ -12,7 +12,7 @@ use Rattle.layout.specs.Lists.{Below, sum, sameNumbers}
 use Rattle.layout.specs.Cones.{Cone, Kind, zeroCone, nonnegative, secondOrder, exponential, power, genPower, psdTriangle, noKind, kindOf, records, nvars, rowCount, alphas, alphaCount}
 use Rattle.layout.specs.Checks.{Checked, problemChecks}
 use Rattle.layout.specs.Answers.{orElse, roomRefusal, problemRefusal}
-use Rattle.layout.specs.File.{tableBytes, numbersOf, HeaderCounts, countWords, countsIn, tableSizes, offsetsFrom, endFrom, headerOf, Tables, tables, floats, problemOf, Fit, countsOf, tablesBytes, laidFrom, fileOf, writeRefusal, header, tableAt, tablesBy, fileTables, lengthRight, gapsZero, tablesRight, shapeChecks, shapeFailing, fileFailing}
+use Rattle.layout.specs.File.{tableBytes, numbersOf, HeaderCounts, countWords, countsIn, tableSizes, offsetsFrom, endFrom, headerOf, BitTables, bitTables, floats, problemOf, Fit, countsOf, tablesBytes, laidFrom, fileOf, writeRefusal, header, tableAt, tablesBy, fileTables, lengthRight, gapsZero, tablesRight, shapeChecks, shapeFailing, fileFailing}
 use Rattle.layout.proofs.Tests.{and-iff, eqb-iff}
 use Rattle.layout.proofs.Walks.{numbers-equal, numbers-same}
 use Rattle.layout.proofs.Order.{orElse-zero, passed, none-fails, failing-append}
@@ -25,8 +25,8 @@ use Rattle.layout.proofs.Offsets.{end-from, end-most, table-inside, off
 
 -- ---- lengths
 
--- tables as long as the counts say
-pub record Shaped (t : Tables) : Type 0 where
+-- the tables have the lengths that the counts give
+pub record Shaped (t : BitTables) : Type 0 where
   pub pStarts : length (t .pStarts) ≡ suc (t .n)
   pub pRows : length (t .pRows) ≡ length (t .pValues)
   pub q : length (t .q) ≡ t .n
@@ -35,7 +35,7 @@ pub record Shaped (t : Tables) : Type 0 where
   pub b : length (t .b) ≡ t .m
   pub cones : length (t .cones) ≡ 3 * (length (t .cones) / 3)
 
-pub checked-shaped : (t : Tables) → Checked (problemOf t) → Shaped t
+pub checked-shaped : (t : BitTables) → Checked (problemOf t) → Shaped t
 checked-shaped t h =
     let p = problemOf t in
     let forP = starts-right (t .n) (p .P) (h .startsP) in
@@ -50,8 +50,8 @@ checked-shaped t h =
       cones = omega (arith, whole-thirds (t .cones) (sound-whole (h .sound)));
     }
 
--- the length of any file, and of one whose tables are as long as its counts say
-pub file-length : (t : Tables) → length (fileOf t) ≡ endFrom 80 (map length (tablesBytes t))
+-- the length of any file, and of one whose tables have the lengths that its counts give
+pub file-length : (t : BitTables) → length (fileOf t) ≡ endFrom 80 (map length (tablesBytes t))
 file-length t =
     let h = headerOf (countsOf t) in
     omega (
@@ -61,7 +61,7 @@ file-length t =
       length-laid 80 (tablesBytes t),
     )
 
-module _ (t : Tables) (s : Shaped t) where
+module _ (t : BitTables) (s : Shaped t) where
   sized : (w : ℕ) (xs : List ℕ) (k : ℕ) → length xs ≡ k → length (tableBytes w xs) ≡ w * k
   sized w xs k e = length-table w xs ∙ ap (λ (j : ℕ). w * j) e
 
@@ -76,7 +76,7 @@ module _ (t : Tables) (s : Shaped t) where
   pub shaped-length : length (fileOf t) ≡ endFrom 80 (tableSizes (countsOf t))
   shaped-length = file-length t ∙ ap (endFrom 80) shaped-sizes
 
--- ---- the checks of the shape
+-- ---- checks 13 and 14
 
 pub shape-iff : (bs : List ℕ) → shapeFailing bs ≡ 0 ↔ (T (lengthRight bs) × T (tablesRight bs))
 shape-iff bs = (
@@ -84,9 +84,9 @@ shape-iff bs = (
   λ h. none-fails (shapeChecks bs) (h .0, (h .1, tt)),
 )
 
--- ---- what was written is read back
+-- ---- a written file is read back
 
-module _ (t : Tables) (s : Shaped t) (f : Fit t) (few : Below 4294967296 (headerOf (countsOf t))) where
+module _ (t : BitTables) (s : Shaped t) (f : Fit t) (few : Below 4294967296 (headerOf (countsOf t))) where
   abbrev c : HeaderCounts
   c = countsOf t
 
@@ -114,7 +114,7 @@ module _ (t : Tables) (s : Shaped t) (f : Fit t) (few : Below 4294967296 (header
 
   tables-back : tablesBy (headerOf c) (fileOf t) ≡ t
   tables-back = λ i.
-      tables (t .n) (t .m)
+      bitTables (t .n) (t .m)
       (table 0 4 (t .pStarts) (suc (t .n)) (lit< tt) refl (f .pStarts) (s .pStarts) i)
       (table 1 4 (t .pRows) (length (t .pValues)) (lit< tt) refl (f .pRows) (s .pRows) i)
       (table 2 8 (t .pValues) (length (t .pValues)) (lit< tt) refl (f .pValues) refl i)
@@ -128,7 +128,7 @@ module _ (t : Tables) (s : Shaped t) (f : Fit t) (few : Below 4294967296 (header
       (t .patternCount)
       (table 10 4 (t .patternWords) (length (t .patternWords)) (lit< tt) refl (f .patternWords) refl i)
 
-  -- tables that fit are read back from their file, and 13 and 14 let it pass
+  -- tables that fit are read back from their file, which passes 13 and 14
   pub shaped-back : (fileTables (fileOf t) ≡ t) × (shapeFailing (fileOf t) ≡ 0)
   shaped-back = (
     ap (λ (h : List ℕ). tablesBy h (fileOf t)) header-back ∙ tables-back,
@@ -147,7 +147,7 @@ module _ (t : Tables) (s : Shaped t) (f : Fit t) (few : Below 4294967296 (header
     ),
   )
 
--- ---- a file that 13 and 14 let pass is written again, byte by byte
+-- ---- a file that passes 13 and 14 is written again, byte by byte
 
 module _ (bs : List ℕ) (bytes : Below 256 bs) (ok : shapeFailing bs ≡ 0) where
   abbrev h : List ℕ
@@ -168,7 +168,7 @@ module _ (bs : List ℕ) (bytes : Below 256 bs) (ok : shapeFailing bs ≡ 0) whe
   pub file-end : endFrom 80 (tableSizes (countsIn (header bs))) ≡ length bs
   file-end = sym (ap (λ (l : List ℕ). getD l 19 0) header-is) ∙ eqb→eq (getD h 19 0) (length bs) (long .1)
 
-  -- table i stands inside the file
+  -- table i is inside the file
   pub inside : (i : ℕ) → i < 11
       → getD (offsetsFrom 80 (tableSizes (countsIn (header bs)))) i 0 + getD (tableSizes (countsIn (header bs))) i 0 ≤ length bs
   inside i l = omega (arith, table-inside 80 ks i l, file-end)
@@ -217,7 +217,7 @@ module _ (bs : List ℕ) (bytes : Below 256 bs) (ok : shapeFailing bs ≡ 0) whe
       ∙ ap₂ _++_ (table-back 4 20 bs bytes (leb→le 80 (length bs) (long .0))) (laid-again 80 ks bs file-end (right .1))
       ∙ take-append-drop 80 bs
 
-  -- what was read fits u32 and u64
+  -- numbers that were read fit u32 or u64
   fits : (i w k : ℕ) → i < 11 → getD h (8 + i) 0 ≡ getD (offsetsFrom 80 ks) i 0 → w * k ≡ getD ks i 0
       → Below (256 ^ w) (tableAt h bs i w k)
   fits i w k l e z =
@@ -242,22 +242,7 @@ module _ (bs : List ℕ) (bytes : Below 256 bs) (ok : shapeFailing bs ≡ 0) whe
         patternWords = fits 10 4 (c .words) (lit< tt) (at 10) refl;
       }
 
--- ---- how long a file is
-
--- counts below 2^32: no sum of the offsets reaches 2^40
-pub end-small : (c : HeaderCounts) → Below 4294967296 (countWords c) → endFrom 80 (tableSizes c) < 1099511627776
-end-small c h =
-    omega (
-      arith,
-      end-most 80 (tableSizes c),
-      h 0 (lit< tt),
-      h 1 (lit< tt),
-      h 2 (lit< tt),
-      h 3 (lit< tt),
-      h 4 (lit< tt),
-      h 5 (lit< tt),
-      h 7 (lit< tt),
-    )
+-- ---- the length of a file
 
 alpha-few : (k : Kind) (a c : ℕ) → alphas k a ≤ nvars k a c
 alpha-few zeroCone a c = omega arith
@@ -269,11 +254,12 @@ alpha-few genPower a c = omega arith
 alpha-few psdTriangle a c = omega arith
 alpha-few noKind a c = omega arith
 
-alphas-few : (cs : List Cone) → sum (map alphaCount cs) ≤ sum (map rowCount cs)
+-- no cone takes more α than it has rows
+pub alphas-few : (cs : List Cone) → sum (map alphaCount cs) ≤ sum (map rowCount cs)
 alphas-few [] = omega arith
 alphas-few (c ∷ cs) = omega (arith, alpha-few (kindOf (c .kind)) (c .first) (c .second), alphas-few cs)
 
--- the counts of a problem that checks 1 to 7 let pass, and the end of its file
+-- bounds for the counts of a problem that passes checks 1 to 7, and for the end of its file
 pub record FewCounts (c : HeaderCounts) : Type 0 where
   pub n : c .n ≤ 65536
   pub m : c .m ≤ 65536
@@ -284,7 +270,7 @@ pub record FewCounts (c : HeaderCounts) : Type 0 where
   pub patterns : c .patterns ≤ 1024
   pub words : c .words ≤ 68160512
 
-pub checked-counts : (t : Tables) → Checked (problemOf t) → FewCounts (countsOf t)
+pub checked-counts : (t : BitTables) → Checked (problemOf t) → FewCounts (countsOf t)
 checked-counts t h =
     let read = simp (and-iff, eqb-iff) at (h .sound .read) in
     let as-many = eqb→eq (sum (map alphaCount (records (t .cones)))) (length (floats (t .alphas))) (h .alphas) in
@@ -303,7 +289,7 @@ pub few-end : (c : HeaderCounts) → FewCounts c → endFrom 80 (tableSizes c) <
 few-end c h =
     omega (arith, end-most 80 (tableSizes c), h .n, h .m, h .entriesP, h .entriesA, h .cones, h .alphas, h .patterns, h .words)
 
--- a header's numbers fit u32 where the end and the pattern count do
+-- a header's numbers fit u32 if the file's end and the pattern count do
 pub header-fits : (c : HeaderCounts) → endFrom 80 (tableSizes c) < 4294967296 → c .patterns < 4294967296 → Below 4294967296 (headerOf c)
 header-fits c low few =
     let ks = tableSizes c in
@@ -328,28 +314,28 @@ header-fits c low few =
 
 -- ---- the reader and the writer
 
--- the file of a problem that checks 1 to 7 let pass: its length, in closed form, and that it fits a u32
-pub written-length : (t : Tables) → problemRefusal (problemOf t) ≡ 0
+-- the file of a problem that passes checks 1 to 7: its length, from its counts, and that this fits a u32
+pub written-length : (t : BitTables) → problemRefusal (problemOf t) ≡ 0
     → (length (fileOf t) ≡ endFrom 80 (tableSizes (countsOf t))) × (length (fileOf t) < 4294967296)
 written-length t ok =
     let h = problem-checked (problemOf t) ok in
     let e = shaped-length t (checked-shaped t h) in
     (e, omega (arith, few-end (countsOf t) (checked-counts t h)))
 
--- 13, then 14, then checks 1 to 7
+-- the refusal number of a file: 13, then 14, then checks 1 to 7
 pub file-in-order : (bs : List ℕ) → fileFailing bs ≡ orElse (shapeFailing bs) (problemRefusal (problemOf (fileTables bs)))
 file-in-order bs = failing-append (shapeChecks bs) (problemChecks (problemOf (fileTables bs))) tt
 
--- such a file is accepted, and read back it gives the same tables
-pub written-back : (t : Tables) → Fit t → problemRefusal (problemOf t) ≡ 0 → (fileTables (fileOf t) ≡ t) × (fileFailing (fileOf t) ≡ 0)
+-- the file of such a problem is accepted, and reading it gives the same tables
+pub written-back : (t : BitTables) → Fit t → problemRefusal (problemOf t) ≡ 0 → (fileTables (fileOf t) ≡ t) × (fileFailing (fileOf t) ≡ 0)
 written-back t f ok =
     let h = problem-checked (problemOf t) ok in
     let few = checked-counts t h in
     let fits = header-fits (countsOf t) (few-end (countsOf t) few) (omega (arith, few .patterns)) in
     let (back, shape) = shaped-back t (checked-shaped t h) f fits in
-    (back, file-in-order (fileOf t) ∙ ap₂ orElse shape (ap (λ (u : Tables). problemRefusal (problemOf u)) back ∙ ok))
+    (back, file-in-order (fileOf t) ∙ ap₂ orElse shape (ap (λ (u : BitTables). problemRefusal (problemOf u)) back ∙ ok))
 
--- what a reader's refusal of 0 says
+-- an accepted file passes 13 and 14, and its problem passes checks 1 to 7
 pub read-passed : (bs : List ℕ) → fileFailing bs ≡ 0 → (shapeFailing bs ≡ 0) × (problemRefusal (problemOf (fileTables bs)) ≡ 0)
 read-passed bs e = orElse-zero (shapeFailing bs) (problemRefusal (problemOf (fileTables bs))) .0 (sym (file-in-order bs) ∙ e)
 
@@ -357,7 +343,7 @@ read-passed bs e = orElse-zero (shapeFailing bs) (problemRefusal (problemOf (fil
 pub read-again : (bs : List ℕ) → Below 256 bs → fileFailing bs ≡ 0 → fileOf (fileTables bs) ≡ bs
 read-again bs bytes ok = shape-again bs bytes (read-passed bs ok .0)
 
--- and the writer refuses it for want of room alone
+-- and the writer refuses its tables only where the output is too short
 pub written-again : (bs : List ℕ) (room : ℕ) → Below 256 bs → fileFailing bs ≡ 0 → writeRefusal (fileTables bs) room ≡ roomRefusal (length bs) room
 written-again bs room bytes ok =
     ap₂ (λ (r : ℕ) (f : List ℕ). orElse r (roomRefusal (length f) room)) (read-passed bs ok .1) (read-again bs bytes ok)

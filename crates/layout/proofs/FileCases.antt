@@ -5,14 +5,14 @@ use mathlib.Core.List.{List, [], _∷_, _++_}
 use lib.ListN.{length, take, drop, set, replicate}
 use lib.Ieee.{ofBits, toBits, ofInt, add, eq}
 use Rattle.layout.specs.Patterns.{noParent}
-use Rattle.layout.specs.File.{tableBytes, numbersOf, Tables, tables, bits, problemOf, fileOf, fileTables, fileFailing, programOutput, refusedText}
+use Rattle.layout.specs.File.{tableBytes, numbersOf, BitTables, bitTables, bits, problemOf, fileOf, fileTables, fileFailing, programOutput, refusedText}
 use Rattle.layout.specs.FileWords.{fileWords, wordsFailing}
 use Rattle.layout.proofs.Cases.{f, seam}
 
--- the three projectors, with the patterns of b
-abbrev seamTables : List ℕ → Tables
+-- the three projectors, with b as bit patterns
+abbrev seamTables : List ℕ → BitTables
 seamTables b =
-    tables 1 6 (0 ∷ 0 ∷ []) [] [] (0 ∷ []) (0 ∷ 5 ∷ []) (0 ∷ 1 ∷ 2 ∷ 4 ∷ 5 ∷ [])
+    bitTables 1 6 (0 ∷ 0 ∷ []) [] [] (0 ∷ []) (0 ∷ 5 ∷ []) (0 ∷ 1 ∷ 2 ∷ 4 ∷ 5 ∷ [])
     (bits (f 10 ∷ f 20 ∷ f 30 ∷ f 40 ∷ f 50 ∷ [])) b (6 ∷ 3 ∷ 0 ∷ []) [] 1
     (0 ∷ 3 ∷ 2 ∷ 0 ∷ 1 ∷ 2 ∷ 1 ∷ 1 ∷ 1 ∷ 0 ∷ 1 ∷ noParent ∷ 2 ∷ 0 ∷ 1 ∷ 2 ∷ [])
 
@@ -23,7 +23,7 @@ same-problem : problemOf (seamTables (bits (f 1 ∷ f 2 ∷ f 3 ∷ f 0 ∷ f 4 
 unfolding ofBits toBits ofInt
 same-problem = refl
 
--- the file by its u32 words: header, A starts, A rows with a gap, A values, b, cones with a gap, pattern words
+-- the file as u32 words: header, A starts, A rows with a gap, A values, b, cones with a gap, pattern words
 seam-file : (length seamFile ≡ 296) × (numbersOf 4 74 seamFile ≡
     1 ∷ 6 ∷ 0 ∷ 5 ∷ 1 ∷ 0 ∷ 1 ∷ 16
     ∷ 80 ∷ 88 ∷ 88 ∷ 88 ∷ 96 ∷ 104 ∷ 128 ∷ 168 ∷ 216 ∷ 232 ∷ 232 ∷ 296
@@ -48,7 +48,7 @@ seam-program : programOutput seamFile ≡ tableBytes 4 (
 unfolding ofBits toBits ofInt add eq
 seam-program = refl
 
--- with a NaN of some payload in b the file is accepted, and has the same bytes written again
+-- with a NaN with a payload in b the file is accepted, and has the same bytes when written again
 abbrev nanFile : List ℕ
 nanFile = fileOf (seamTables (18442240474082181121 ∷ bits (f 2 ∷ f 3 ∷ f 0 ∷ f 4 ∷ f 5 ∷ [])))
 
@@ -56,16 +56,16 @@ seam-nan : (fileFailing nanFile ≡ 0) × (fileOf (fileTables nanFile) ≡ nanFi
 unfolding ofBits toBits ofInt add eq
 seam-nan = (refl, refl)
 
--- through the program a NaN of some payload stays as it is in q, and in b is written as `toBits` writes it
+-- through the program a NaN with a payload is unchanged in q, and in b becomes the NaN that `toBits` gives
 abbrev nansFile : List ℕ
-nansFile = fileOf (tables 1 1 (0 ∷ 0 ∷ []) [] [] (18442240474082181121 ∷ []) (0 ∷ 0 ∷ []) [] [] (18442240474082181121 ∷ []) (1 ∷ 1 ∷ 0 ∷ []) [] 0 [])
+nansFile = fileOf (bitTables 1 1 (0 ∷ 0 ∷ []) [] [] (18442240474082181121 ∷ []) (0 ∷ 0 ∷ []) [] [] (18442240474082181121 ∷ []) (1 ∷ 1 ∷ 0 ∷ []) [] 0 [])
 
 nans-program : (numbersOf 8 3 (drop 88 nansFile) ≡ 18442240474082181121 ∷ 0 ∷ 18442240474082181121 ∷ [])
     × (numbersOf 8 3 (drop 88 (programOutput nansFile)) ≡ 18442240474082181121 ∷ 0 ∷ 9221120237041090560 ∷ [])
 unfolding ofBits toBits eq
 nans-program = (refl, refl)
 
--- 13: a short header, a byte too few
+-- 13: a short header; a byte too few
 short-header : programOutput (take 79 seamFile) ≡ refusedText 13
 unfolding toBits ofInt
 short-header = refl
@@ -74,7 +74,7 @@ byte-too-few : programOutput (take 295 seamFile) ≡ refusedText 13
 unfolding toBits ofInt
 byte-too-few = refl
 
--- 14: an offset of 92 for 88, 4,294,967,295 columns, a gap that is not zero
+-- 14: an offset of 92 instead of 88; 4,294,967,295 columns; a gap that is not zero
 wrong-offset : programOutput (set seamFile 36 92) ≡ refusedText 14
 unfolding toBits ofInt
 wrong-offset = refl
@@ -87,7 +87,7 @@ filled-gap : programOutput (set seamFile 127 1) ≡ refusedText 14
 unfolding toBits ofInt
 filled-gap = refl
 
--- by its words: accepted; a byte more that the length counts is 14; a word more than the length says, or one less, is 13
+-- by its words: accepted; 14 with one more byte that the length counts; 13 with a word more or less than the length gives
 seam-words : (wordsFailing (fileWords seamFile) 296 ≡ 0)
     × (wordsFailing (fileWords (set seamFile 76 41 ++ (0 ∷ []))) 297 ≡ 14)
     × (wordsFailing (fileWords seamFile ++ (0 ∷ [])) 296 ≡ 13)
@@ -95,7 +95,7 @@ seam-words : (wordsFailing (fileWords seamFile) 296 ≡ 0)
 unfolding ofBits toBits ofInt add eq
 seam-words = (refl, refl, refl, refl)
 
--- 1 before 13: a byte too many
+-- 1 comes before 13: a byte too many
 too-long : programOutput (replicate 8193 0) ≡ refusedText 1
 too-long = refl
 

@@ -1,5 +1,5 @@
--- For code: check 14 as one walk over the tables, whose sums stay small; where the tables stand in the words; loops that read and write
--- words, numbers of two words and bytes.
+-- For code: check 14 as one walk over the tables, with a bound for its sums; where the tables are in the words; loops that read and write
+-- words, numbers of two words, and bytes.
 use Prim.Native.Nat.{ℕ, zero, suc, _+_, _-_, _*_, _/_, _%_, _≤_, _<_}
 use native.Mathlib.Omega.{arith}
 use native.Mathlib.Numerals.{add-one}
@@ -10,10 +10,9 @@ use lib.ListN.{List·getD-append, length, getD, take, drop, set, length-append, 
 use lib.Seq.{take-all, drop-cons, getD-take, getD-append-add, take-add, length-take-le}
 use lib.Dec.{eqb, eqb→eq, eqb-refl, lit<}
 use lib.Ieee.{binary64, ofBits, nan}
-use Rattle.layout.specs.Lists.{all, Below, written, sameNumbers}
-use Rattle.layout.specs.Checks.{check}
+use Rattle.layout.specs.Lists.{all, written, sameNumbers}
 use Rattle.layout.specs.Answers.{orElse, problemRefusal}
-use Rattle.layout.specs.File.{bytesOf, tableBytes, HeaderCounts, aligned, offsetsFrom, endFrom, countWords, countsIn, tableSizes, headerOf, problemOf, floats, U32s}
+use Rattle.layout.specs.File.{bytesOf, tableBytes, HeaderCounts, aligned, offsetsFrom, endFrom, countWords, countsIn, tableSizes, headerOf, problemOf, floats}
 use Rattle.layout.specs.FileWords.{gapZero, unvalued, unvaluedProblem, wordsFailing, fileWords, pairsOf, wordsAt, wordTables, wordsLengthRight, wordGapsZero, wordTablesRight, wordShapeChecks, wordShapeFailing}
 use Rattle.layout.proofs.Tests.{and-iff, and-swap, and-false, and-right, passed, failed}
 use Rattle.layout.proofs.Order.{orElse-same}
@@ -21,9 +20,8 @@ use Rattle.layout.proofs.Order as Order
 use Rattle.layout.proofs.Starts.{part-at}
 use Rattle.layout.proofs.Buffers.{set-written, two-more, take-none}
 use Rattle.layout.proofs.Walks.{numbers-equal}
-use Rattle.layout.proofs.Bytes.{each-below, length-table, numbers-at, u32-at, bytes-four, bytes-eight, table-more}
+use Rattle.layout.proofs.Bytes.{length-table, numbers-at, u32-at, bytes-four, bytes-eight, table-more}
 use Rattle.layout.proofs.Offsets.{table-inside}
-use Rattle.layout.proofs.File.{end-small}
 use Rattle.layout.proofs.FileWords.{words-in-order, words-long, words-whole, offset-fours}
 use Rattle.layout.proofs.Lengths.{refusal-lengths}
 
@@ -33,7 +31,7 @@ pub shape-number : (ws : List ℕ) (n : ℕ) {whole laid : Bool} → whole ≡ w
     → wordShapeFailing ws n ≡ cond whole (cond laid 0 14) 13
 shape-number ws n f g = ap₂ (λ (whole laid : Bool). cond whole (cond laid 0 14) 13) (sym f) (sym g)
 
--- a header that is not whole is none
+-- with fewer than 20 words, check 14 fails
 pub tables-short : (ws : List ℕ) → length ws < 20 → wordTablesRight ws ≡ false
 tables-short ws l = failed (wordTablesRight ws) (λ h.
     let c = countsIn ws in
@@ -42,9 +40,9 @@ tables-short ws l = failed (wordTablesRight ws) (λ h.
     let long : length ws ≡ 20 = ap length (sym (take-all 20 ws (omega arith)) ∙ same) in
     absurd (omega arith))
 
--- ---- 14 as a walk
+-- ---- check 14 as a walk
 
--- words i, i + 1, .. are the offsets of tables of sizes ks from a on, zero words stand between them, and the word after is their end
+-- words i, i + 1, .. are the offsets of tables of sizes ks after byte a, the gaps are zero, and the word after the offsets is the end
 abbrev pub standsFrom : ℕ → List ℕ → ℕ → List ℕ → Bool
 standsFrom a [] i ws = eqb (getD ws i 0) a
 standsFrom a (k ∷ ks) i ws = eqb (getD ws i 0) (aligned a) && gapZero a ws && standsFrom (aligned a + k) ks (suc i) ws
@@ -91,7 +89,7 @@ module _ (a : ℕ) (ks : List ℕ) (ws : List ℕ) (i : ℕ) (l : i < length ks)
       ∙ ap₂ (λ (j at : ℕ). eqb (getD ws (8 + i) 0) (aligned a) && gapZero a ws && standsFrom (aligned a + getD ks i 0) (drop j ks) at ws)
       (sym (add-one i)) (omega arith)
 
-  -- it stands right, and the walk goes on at its end
+  -- its offset is right and its gap is zero: the walk goes on at its end
   pub stands-next : getD ws (8 + i) 0 ≡ aligned a → gapZero a ws ≡ true
       → standsFrom a (drop i ks) (8 + i) ws ≡ standsFrom (aligned a + getD ks i 0) (drop (i + 1) ks) (8 + (i + 1)) ws
   stands-next e z =
@@ -99,26 +97,26 @@ module _ (a : ℕ) (ks : List ℕ) (ws : List ℕ) (i : ℕ) (l : i < length ks)
       ∙ ap₂ (λ (x y : Bool). x && y && standsFrom (aligned a + getD ks i 0) (drop (i + 1) ks) (8 + (i + 1)) ws)
       (ap (λ (o : ℕ). eqb o (aligned a)) e ∙ passed (eqb (aligned a) (aligned a)) (eqb-refl (aligned a))) z
 
-  -- it stands elsewhere
+  -- its offset is wrong: the walk fails
   pub stands-elsewhere : (getD ws (8 + i) 0 ≡ aligned a → ⊥) → standsFrom a (drop i ks) (8 + i) ws ≡ false
   stands-elsewhere n =
       stands-step
       ∙ ap (λ (x : Bool). x && gapZero a ws && standsFrom (aligned a + getD ks i 0) (drop (i + 1) ks) (8 + (i + 1)) ws)
       (failed (eqb (getD ws (8 + i) 0) (aligned a)) (λ h. n (eqb→eq (getD ws (8 + i) 0) (aligned a) h)))
 
-  -- the gap before it is not zero
+  -- the gap before it is not zero: the walk fails
   pub stands-gap : gapZero a ws ≡ false → standsFrom a (drop i ks) (8 + i) ws ≡ false
   stands-gap z =
       let here : Bool = eqb (getD ws (8 + i) 0) (aligned a) in
       let rest : Bool = standsFrom (aligned a + getD ks i 0) (drop (i + 1) ks) (8 + (i + 1)) ws in
       stands-step ∙ and-false (here && gapZero a ws) rest (and-right here (gapZero a ws) z)
 
--- after the last table
+-- after the last table, the next word has to be the end
 pub stands-done : (a : ℕ) (ks ws : List ℕ) (i : ℕ) → i ≡ length ks → standsFrom a (drop i ks) (8 + i) ws ≡ eqb (getD ws (8 + length ks) 0) a
 stands-done a ks ws i e =
     ap (λ (r : List ℕ). standsFrom a r (8 + i) ws) (drop-of-length-le ks {i = i} (omega arith)) ∙ ap (λ (j : ℕ). eqb (getD ws (8 + j) 0) a) e
 
--- a gap of whole words is none or one
+-- a gap: empty, outside the words, or one word
 pub gap-none : (a : ℕ) (ws : List ℕ) → aligned a ≡ a → gapZero a ws ≡ true
 gap-none a ws e =
     let size : aligned a / 4 - a / 4 ≡ 0 = omega arith in
@@ -140,17 +138,7 @@ gap-one a ws e n l =
     one : aligned a / 4 - a / 4 ≡ 1
     one = omega (arith, e, n)
 
--- counts in u32 words: the sums of the walk are small, each is at most the last one
-pub header-small : (ws : List ℕ) → U32s ws → 20 ≤ length ws
-    → Below 4294967296 (countWords (countsIn ws)) × (endFrom 80 (tableSizes (countsIn ws)) < 1099511627776)
-header-small ws fit l =
-    let c = countsIn ws in
-    let at : (i : ℕ) → i < 20 → getD ws i 0 < 4294967296 = λ i h. fit i (omega arith) in
-    let few : Below 4294967296 (countWords c) = each-below 4294967296 (countWords c)
-    (at 0 (lit< tt), (at 1 (lit< tt), (at 2 (lit< tt), (at 3 (lit< tt), (at 4 (lit< tt), (at 5 (lit< tt), (at 6 (lit< tt), (at 7 (lit< tt), tt)))))))) in
-    (few, end-small c few)
-
--- ---- where the tables stand, once 13 and 14 have passed
+-- ---- where the tables are, once 13 and 14 have passed
 
 offset-at : (c : HeaderCounts) (i : ℕ) → i < 11 → getD (headerOf c) (8 + i) 0 ≡ getD (offsetsFrom 80 (tableSizes c)) i 0
 offset-at c i l =
@@ -171,7 +159,7 @@ module _ (ws : List ℕ) (n : ℕ) (ok : wordShapeFailing ws n ≡ 0) where
   word-right : (i : ℕ) → i < 20 → getD ws i 0 ≡ getD (headerOf (countsIn ws)) i 0
   word-right i l = sym (getD-take 20 ws i 0 l) ∙ ap (λ (r : List ℕ). getD r i 0) header-right
 
-  -- table i, of k words, is a part of the words, at a multiple of 8
+  -- table i, of k words, is inside the words, at a byte offset that is a multiple of 4
   pub table-stands : (i k : ℕ) → i < 11 → 4 * k ≡ getD (tableSizes (countsIn ws)) i 0
       → (getD ws (8 + i) 0 ≡ 4 * (getD ws (8 + i) 0 / 4)) × (getD ws (8 + i) 0 / 4 + k ≤ length ws)
   table-stands i k l z =
@@ -199,7 +187,7 @@ length-pairs (suc k) [] e = absurd (omega arith)
 length-pairs (suc k) (w ∷ []) e = absurd (omega arith)
 length-pairs (suc k) (w ∷ v ∷ ws) e = ap suc (length-pairs k ws (omega arith))
 
--- one number more
+-- one more number
 pub pairs-more : (ws : List ℕ) (i : ℕ) → 2 * i + 1 < length ws
     → pairsOf (take (2 * (i + 1)) ws) ≡ pairsOf (take (2 * i) ws) ++ ((getD ws (2 * i) 0 + 4294967296 * getD ws (2 * i + 1) 0) ∷ [])
 pairs-more [] i l = absurd (omega arith)
@@ -213,7 +201,7 @@ pairs-more (w ∷ v ∷ ws) (suc i) l =
     ∙ ap (λ (r : List ℕ). (w + 4294967296 * v) ∷ r) (pairs-more ws i (omega arith))
     ∙ sym (λ j. pairsOf (take (here j) (w ∷ v ∷ ws)) ++ ((getD (w ∷ v ∷ ws) (here j) 0 + 4294967296 * getD (w ∷ v ∷ ws) (next j) 0) ∷ []))
 
--- stored at the seam
+-- one more number, stored after the others
 pub pairs-written : (ws old : List ℕ) (i : ℕ) → 2 * i + 1 < length ws → i < length old
     → set (written (pairsOf (take (2 * i) ws)) old) i (getD ws (2 * i) 0 + 4294967296 * getD ws (2 * i + 1) 0)
     ≡ written (pairsOf (take (2 * (i + 1)) ws)) old
@@ -225,7 +213,7 @@ pairs-written ws old i l h =
 
 -- ---- a table's bytes, for a loop that writes them
 
--- a word's four bytes stored from a on
+-- a word's four bytes stored from index a on
 abbrev pub putWord : List ℕ → ℕ → ℕ → List ℕ
 putWord out a v = set (set (set (set out a (v % 256)) (a + 1) (v / 256 % 256)) (a + 2) (v / 65536 % 256)) (a + 3) (v / 16777216 % 256)
 
@@ -244,7 +232,7 @@ bytes-written xs old i l h =
     (append-assoc done (v % 256 ∷ v / 256 % 256 ∷ []) (v / 65536 % 256 ∷ v / 16777216 % 256 ∷ [])
     ∙ sym (table-more 4 xs i l ∙ ap (λ (r : List ℕ). done ++ r) (bytes-four v)))
 
--- numbers as two words each, the low word first: a u64 table is written as they are
+-- numbers as two words each, the low word first: a u64 table is written as these words
 abbrev pub halves : List ℕ → List ℕ
 halves [] = []
 halves (v ∷ vs) = v % 4294967296 ∷ v / 4294967296 ∷ halves vs
@@ -305,7 +293,7 @@ word-bytes bs i l = numbers-at 4 (length bs / 4) i bs 0 l ∙ u32-at bs (4 * i) 
 
 -- ---- checks 1 to 7 on the words
 
--- the values need not be read
+-- they do not depend on the values
 pub words-checks : (ws : List ℕ) (n : ℕ) → wordShapeFailing ws n ≡ 0 → problemRefusal (problemOf (wordTables ws)) ≡ problemRefusal (unvaluedProblem ws)
 words-checks ws n ok =
     let c = countsIn ws in
@@ -321,7 +309,7 @@ words-checks ws n ok =
     (count 2 (c .entriesP) (lit< tt) refl) (count 3 (c .n) (lit< tt) refl) (count 6 (c .entriesA) (lit< tt) refl)
     (count 7 (c .m) (lit< tt) refl) (count 9 (c .alphas) (lit< tt) refl)
 
--- so the reader's refusal is 13 or 14, or that of checks 1 to 7 on parts of the words
+-- so the reader's refusal number is 13 or 14, or that of checks 1 to 7 on parts of the words
 pub words-unvalued : (ws : List ℕ) (n : ℕ) → wordsFailing ws n ≡ orElse (wordShapeFailing ws n) (problemRefusal (unvaluedProblem ws))
 words-unvalued ws n =
     words-in-order ws n

@@ -1,4 +1,4 @@
--- The reader over words is the reader over bytes: refusals, tables, and the round trip.
+-- The reader over words agrees with the reader over bytes: refusals, tables, and the round trip.
 use Prim.Native.Nat.{ℕ, zero, suc, _+_, _-_, _*_, _/_, _%_, _≤_, _<_}
 use native.Mathlib.Omega.{arith}
 use mathlib.Core.Path.{_≡_, refl, sym, ap, ap₂, subst, _∙_}
@@ -11,7 +11,7 @@ use lib.Dec.{T, leb, eqb, eqb→eq, leb→le, le→leb, lit<}
 use Rattle.layout.specs.Lists.{all, part, Below, sameNumbers}
 use Rattle.layout.specs.Checks.{check, firstFailing, problemChecks}
 use Rattle.layout.specs.Answers.{orElse, roomy, problemRefusal}
-use Rattle.layout.specs.File.{bytesOf, numberOf, tableBytes, numbersOf, HeaderCounts, countsIn, countedLengths, aligned, offsetsFrom, endFrom, tableSizes, headerOf, Tables, tables, problemOf, U32s, Fit, tablesBytes, laidFrom, fileOf, header, fileTables, countsOf, lengthRight, gapsZero, tablesRight, shapeChecks, shapeFailing, fileFailing, readRefusal}
+use Rattle.layout.specs.File.{bytesOf, numberOf, tableBytes, numbersOf, HeaderCounts, countsIn, countedLengths, aligned, offsetsFrom, endFrom, tableSizes, headerOf, BitTables, bitTables, problemOf, U32s, Fit, tablesBytes, laidFrom, fileOf, header, fileTables, countsOf, lengthRight, gapsZero, tablesRight, shapeChecks, shapeFailing, fileFailing, readRefusal}
 use Rattle.layout.specs.FileWords.{fileWords, pairsOf, wordsAt, wordTables, wordsLengthRight, wordGapsZero, wordTablesRight, wordShapeChecks, wordShapeFailing, wordsFailing, readWordsRefusal}
 use Rattle.layout.proofs.Tests.{and-iff, eqb-iff, same-tests, tested, failed, and-false}
 use Rattle.layout.proofs.Walks.{all-append, numbers-equal}
@@ -22,7 +22,7 @@ use Rattle.layout.proofs.File.{header-is, inside, file-in-order, writte
 
 -- ---- words of bytes
 
--- a number is zero where its bytes are
+-- a number is zero exactly where all its bytes are
 number-zero : (bs : List ℕ) → eqb (numberOf bs) 0 ≡ all (λ b. eqb b 0) bs
 number-zero [] = refl
 number-zero (b ∷ bs) =
@@ -47,7 +47,7 @@ zero-words (suc k) bs =
     ∙ sym (ap (λ (j : ℕ). all (λ b. eqb b 0) (take j bs)) e ∙ ap (all (λ b. eqb b 0)) (take-add 4 (4 * k) bs)
     ∙ all-append (λ b. eqb b 0) (take 4 bs) (take (4 * k) (drop 4 bs)))
 
--- two words are a u64
+-- pairs of u32 words are the u64 numbers of the same bytes
 pub pairs-numbers : (k : ℕ) (bs : List ℕ) → 8 * k ≤ length bs → pairsOf (numbersOf 4 (2 * k) bs) ≡ numbersOf 8 k bs
 pairs-numbers zero bs h = refl
 pairs-numbers (suc k) bs h =
@@ -59,7 +59,7 @@ pairs-numbers (suc k) bs h =
 pub words-length : (bs : List ℕ) → length (fileWords bs) ≡ length bs / 4
 words-length bs = length-numbers 4 (length bs / 4) bs
 
--- ---- offsets of whole words
+-- ---- offsets that are multiples of 4
 
 abbrev Fours : List ℕ → Type 0
 Fours [] = Unit {0}
@@ -103,9 +103,9 @@ gap-words n a (k ∷ ks) bs e h l =
     ∙ ap₂ (λ (x y : ℕ). all (λ b. eqb b 0) (take x (drop y bs))) bytes (sym e) in
     ap₂ _&&_ here (gap-words n (o + k) ks bs (omega (arith, h .0)) (h .1) l)
 
--- ---- the shape
+-- ---- checks 13 and 14
 
--- what 13 says
+-- what check 13 ensures
 pub words-long : (ws : List ℕ) (n : ℕ) → T (wordsLengthRight ws n) → (length ws ≡ n / 4) × (20 ≤ length ws) × (getD ws 19 0 ≡ n)
 words-long ws n h =
     let (front, last) = and-iff (eqb (length ws) (n / 4) && leb 20 (length ws)) (eqb (getD ws 19 0) n) .0 h in
@@ -128,7 +128,7 @@ module _ (bs : List ℕ) where
   abbrev ws : List ℕ
   ws = fileWords bs
 
-  -- the header's words
+  -- the first 20 words are the header
   head-words : 80 ≤ length bs → take 20 ws ≡ header bs
   head-words l = numbers-part 4 (length bs / 4) 0 20 bs (omega arith)
 
@@ -147,7 +147,7 @@ module _ (bs : List ℕ) where
     words = word-at l 7 (lit< tt) i;
   }
 
-  -- 13, and 14 where 13 has passed
+  -- check 13 is the same on words and on bytes, and so is check 14 where 13 has passed
   length-right : wordsLengthRight ws (length bs) ≡ lengthRight bs
   length-right =
       let whole = words-length bs in
@@ -189,7 +189,7 @@ module _ (bs : List ℕ) where
 
 -- ---- the tables
 
--- k words at a multiple of 4
+-- k words from a byte offset that is a multiple of 4
 pub words-part : (bs : List ℕ) (o k : ℕ) → o ≡ 4 * (o / 4) → o + 4 * k ≤ length bs
     → part (o / 4) (o / 4 + k) (fileWords bs) ≡ numbersOf 4 k (drop o bs)
 words-part bs o k e l =
@@ -197,10 +197,10 @@ words-part bs o k e l =
     ap (λ (j : ℕ). take j (drop (o / 4) (fileWords bs))) size ∙ numbers-part 4 (length bs / 4) (o / 4) k bs (omega arith)
     ∙ ap (λ (j : ℕ). numbersOf 4 k (drop j bs)) (sym e)
 
--- the tables of words, by counts
-abbrev tablesWith : HeaderCounts → List ℕ → Tables
+-- the tables in words, for given counts
+abbrev tablesWith : HeaderCounts → List ℕ → BitTables
 tablesWith c ws =
-    tables (c .n) (c .m)
+    bitTables (c .n) (c .m)
     (wordsAt ws 0 (suc (c .n))) (wordsAt ws 1 (c .entriesP)) (pairsOf (wordsAt ws 2 (2 * c .entriesP))) (pairsOf (wordsAt ws 3 (2 * c .n)))
     (wordsAt ws 4 (suc (c .n))) (wordsAt ws 5 (c .entriesA)) (pairsOf (wordsAt ws 6 (2 * c .entriesA))) (pairsOf (wordsAt ws 7 (2 * c .m)))
     (wordsAt ws 8 (3 * c .cones)) (pairsOf (wordsAt ws 9 (2 * c .alphas))) (c .patterns) (wordsAt ws 10 (c .words))
@@ -233,13 +233,13 @@ module _ (bs : List ℕ) (bytes : Below 256 bs) (ok : shapeFailing bs ≡ 0) whe
       ap pairsOf (stands i (2 * k) l e (omega arith))
       ∙ pairs-numbers k (drop o bs) (omega (arith, inside bs bytes ok i l, length-drop o bs))
 
-  -- where 13 and 14 pass, the words hold the file's tables
+  -- where 13 and 14 pass, the tables in the words are the file's
   pub words-tables : wordTables (fileWords bs) ≡ fileTables bs
   words-tables =
       let c = countsIn h in
       ap (λ (d : HeaderCounts). tablesWith d (fileWords bs)) (counts-words bs long)
       ∙ (λ i.
-      tables (c .n) (c .m)
+      bitTables (c .n) (c .m)
       (stands 0 (suc (c .n)) (lit< tt) (at 0) refl i) (stands 1 (c .entriesP) (lit< tt) (at 1) refl i)
       (doubles 2 (c .entriesP) (lit< tt) (at 2) refl i) (doubles 3 (c .n) (lit< tt) (at 3) refl i)
       (stands 4 (suc (c .n)) (lit< tt) (at 4) refl i) (stands 5 (c .entriesA) (lit< tt) (at 5) refl i)
@@ -247,22 +247,22 @@ module _ (bs : List ℕ) (bytes : Below 256 bs) (ok : shapeFailing bs ≡ 0) whe
       (stands 8 (3 * c .cones) (lit< tt) (at 8) refl i) (doubles 9 (c .alphas) (lit< tt) (at 9) refl i)
       (c .patterns) (stands 10 (c .words) (lit< tt) (at 10) refl i))
 
--- ---- the refusal
+-- ---- the refusal number
 
 -- 13, then 14, then checks 1 to 7
 pub words-in-order : (ws : List ℕ) (n : ℕ) → wordsFailing ws n ≡ orElse (wordShapeFailing ws n) (problemRefusal (problemOf (wordTables ws)))
 words-in-order ws n = failing-append (wordShapeChecks ws n) (problemChecks (problemOf (wordTables ws))) tt
 
--- the words of a file are refused as the file is, 1 to 3 bytes after the last whole word included
+-- the words of a file are refused as the file is, also with 1 to 3 bytes after the last complete word
 pub words-refusal : (bs : List ℕ) → Below 256 bs → wordsFailing (fileWords bs) (length bs) ≡ fileFailing bs
 words-refusal bs bytes =
     let old = problemRefusal (problemOf (fileTables bs)) in
     let new = problemRefusal (problemOf (wordTables (fileWords bs))) in
     words-in-order (fileWords bs) (length bs) ∙ ap (λ (r : ℕ). orElse r new) (shape-words bs)
-    ∙ orElse-same (shapeFailing bs) new old (λ ok. ap (λ (t : Tables). problemRefusal (problemOf t)) (words-tables bs bytes ok))
+    ∙ orElse-same (shapeFailing bs) new old (λ ok. ap (λ (t : BitTables). problemRefusal (problemOf t)) (words-tables bs bytes ok))
     ∙ sym (file-in-order bs)
 
--- and with the rooms
+-- the same with check 11 of the outputs
 pub words-read : (bs rooms : List ℕ) → Below 256 bs → readWordsRefusal (fileWords bs) (length bs) rooms ≡ readRefusal bs rooms
 words-read bs rooms bytes =
     let room : HeaderCounts → ℕ = λ c. cond (roomy (8 ∷ countedLengths c) rooms) 0 11 in
@@ -272,7 +272,7 @@ words-read bs rooms bytes =
 
 -- ---- the round trip
 
--- a file is bytes
+-- every number in a file is a byte
 bytes-small : (w v : ℕ) → Below 256 (bytesOf w v)
 bytes-small zero v = λ i l. absurd (omega arith)
 bytes-small (suc w) v = below-cons 256 (v % 256) (bytesOf w (v / 256)) (omega arith) (bytes-small w (v / 256))
@@ -296,7 +296,7 @@ laid-small a (t ∷ ts) h =
     below-append 256 (replicate (aligned a - a) 0) (t ++ rest) (zeros-small (aligned a - a))
     (below-append 256 t rest (h .0) (laid-small (aligned a + length t) ts (h .1)))
 
-pub file-bytes : (t : Tables) → Below 256 (fileOf t)
+pub file-bytes : (t : BitTables) → Below 256 (fileOf t)
 file-bytes t =
     below-append 256 (tableBytes 4 (headerOf (countsOf t))) (laidFrom 80 (tablesBytes t)) (table-small 4 (headerOf (countsOf t)))
     (laid-small 80 (tablesBytes t) (
@@ -325,8 +325,8 @@ file-bytes t =
       ),
     ))
 
--- what is written reads back by its words as the same tables
-pub words-back : (t : Tables) → Fit t → problemRefusal (problemOf t) ≡ 0
+-- a written file, read by its words, gives the same tables
+pub words-back : (t : BitTables) → Fit t → problemRefusal (problemOf t) ≡ 0
     → (wordTables (fileWords (fileOf t)) ≡ t) × (wordsFailing (fileWords (fileOf t)) (length (fileOf t)) ≡ 0)
 words-back t f ok =
     let (back, accepted) = written-back t f ok in
@@ -335,14 +335,14 @@ words-back t f ok =
       words-refusal (fileOf t) bytes ∙ accepted,
     )
 
--- words are the words of their bytes
+-- words are read back from their bytes
 pub words-of-bytes : (ws : List ℕ) → U32s ws → fileWords (tableBytes 4 ws) ≡ ws
 words-of-bytes ws fit =
     let size : length (tableBytes 4 ws) / 4 ≡ length ws = omega (arith, length-table 4 ws) in
     ap (λ (k : ℕ). numbersOf 4 k (tableBytes 4 ws)) size
     ∙ ap (numbersOf 4 (length ws)) (sym (append-nil (tableBytes 4 ws))) ∙ numbers-back 4 ws [] fit
 
--- words that 13 and 14 let pass are a whole file
+-- words that pass 13 and 14 are a whole file, without further bytes
 pub words-whole : (ws : List ℕ) (n : ℕ) → wordShapeFailing ws n ≡ 0 → n ≡ 4 * length ws
 words-whole ws n ok =
     let c = countsIn ws in
@@ -352,7 +352,7 @@ words-whole ws n ok =
     sym (getD-take 20 ws 19 0 (lit< tt)) ∙ ap (λ (l : List ℕ). getD l 19 0) (numbers-equal (take 20 ws) (headerOf c) right) in
     omega (arith, end-fours c)
 
--- accepted words, written again, are their bytes
+-- the tables in accepted words, written again, give the bytes of the words
 pub words-again : (ws : List ℕ) (n : ℕ) → U32s ws → wordsFailing ws n ≡ 0 → fileOf (wordTables ws) ≡ tableBytes 4 ws
 words-again ws n fit ok =
     let bs : List ℕ = tableBytes 4 ws in

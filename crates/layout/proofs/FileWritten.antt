@@ -1,5 +1,5 @@
--- Problem files on what is written: a file that the writer leaves is read back as the same tables, and an accepted file that is
--- written again has the same bytes, from the promises of the three calls alone.
+-- Problem files on written outputs: a file that the writer wrote is read back as the same tables, and an accepted file that is
+-- written again has the same bytes, from the contracts of the three calls alone.
 use Prim.Native.Nat.{ℕ, suc, _*_, _/_, _<_}
 use native.Mathlib.Omega.{arith}
 use mathlib.Core.Path.{_≡_, refl, sym, ap, ap₂, subst, _∙_}
@@ -9,7 +9,7 @@ use lib.ListN.{length, getD, take}
 use lib.Dec.{lit<}
 use Rattle.layout.specs.Lists.{Below, written}
 use Rattle.layout.specs.Answers.{output, orElse, roomRefusal, roomy, problemRefusal}
-use Rattle.layout.specs.File.{HeaderCounts, countWords, countsIn, countedLengths, tableSizes, Tables, tables, problemOf, Fit, countsOf, fileOf, writeRefusal, fileTables, fileFailing}
+use Rattle.layout.specs.File.{HeaderCounts, countsIn, countedLengths, tableSizes, BitTables, bitTables, problemOf, Fit, countsOf, fileOf, writeRefusal, fileTables, fileFailing}
 use Rattle.layout.specs.FileWords.{fileWords, pairsOf, wordsAt, wordTables, wordShapeFailing, wordsFailing}
 use Rattle.layout.specs.Calls.FileWords.{FileWords}
 use Rattle.layout.specs.Calls.ReadFile.{FileOutputs, fileRooms, ReadFile}
@@ -21,11 +21,11 @@ use Rattle.layout.proofs.File.{written-length, written-again, read-agai
 use Rattle.layout.proofs.FileWords.{words-length, words-tables, words-in-order, words-refusal, words-back}
 use Rattle.layout.proofs.FileWalks.{length-words-at, length-pairs}
 
--- the front of an output, by its length
+-- the prefix of length k of an output that xs is written to
 front : (xs old : List ℕ) {out : List ℕ} (k : ℕ) → length xs ≡ k → out ≡ written xs old → take k out ≡ xs
 front xs old {out} k e h = ap (λ (j : ℕ). take j out) (sym e) ∙ front-read xs old h
 
--- where 13 and 14 pass, the tables of words are as long as the counts say
+-- where 13 and 14 pass, the tables in the words have the lengths that the counts give
 module _ (ws : List ℕ) (n : ℕ) (ok : wordShapeFailing ws n ≡ 0) where
   abbrev c : HeaderCounts
   c = countsIn ws
@@ -47,27 +47,27 @@ module _ (ws : List ℕ) (n : ℕ) (ok : wordShapeFailing ws n ≡ 0) where
         words = length-words-at ws n ok 10 (c .words) (lit< tt) refl i;
       }
 
--- what a reader's 0 says
+-- where the reader returns 0, no check of the words fails
 read-accepted : (ws : List ℕ) (n : ℕ) (b : Bool) → orElse (wordsFailing ws n) (cond b 0 11) ≡ 0 → (wordsFailing ws n ≡ 0) × (wordShapeFailing ws n ≡ 0)
 read-accepted ws n b e =
     let ok = orElse-zero (wordsFailing ws n) (cond b 0 11) .0 e .0 in
     (ok, orElse-zero (wordShapeFailing ws n) (problemRefusal (problemOf (wordTables ws))) .0 (sym (words-in-order ws n) ∙ ok) .0)
 
--- the outputs of a reader that refuses nothing hold the tables
+-- the outputs of a reader that refuses nothing contain the tables
 pub read-front : (ws : List ℕ) (n : ℕ) {before after : FileOutputs} → ReadFile ws n before after 0 → tablesAt after ≡ wordTables ws
 read-front ws n {before} {after} call =
     let c = countsIn ws in
     let t = call .tables in
     let ok = read-accepted ws n (roomy (8 ∷ countedLengths c) (fileRooms before)) (sym (call .number)) .1 in
     let counts : countsIn (after .counts) ≡ c = ap countsIn (t .counts) in
-    let at : HeaderCounts → Tables = λ d.
-    tables (d .n) (d .m)
+    let at : HeaderCounts → BitTables = λ d.
+    bitTables (d .n) (d .m)
     (take (suc (d .n)) (after .pStarts)) (take (d .entriesP) (after .pRows)) (take (d .entriesP) (after .pValues)) (take (d .n) (after .q))
     (take (suc (d .n)) (after .aStarts)) (take (d .entriesA) (after .aRows)) (take (d .entriesA) (after .aValues)) (take (d .m) (after .b))
     (take (3 * d .cones) (after .cones)) (take (d .alphas) (after .alphas)) (d .patterns) (take (d .words) (after .patternWords)) in
     ap at counts
     ∙ (λ i.
-    tables (c .n) (c .m)
+    bitTables (c .n) (c .m)
     (front (wordsAt ws 0 (suc (c .n))) (before .pStarts) (suc (c .n)) (length-words-at ws n ok 0 (suc (c .n)) (lit< tt) refl) (t .pStarts) i)
     (front (wordsAt ws 1 (c .entriesP)) (before .pRows) (c .entriesP) (length-words-at ws n ok 1 (c .entriesP) (lit< tt) refl) (t .pRows) i)
     (front (pairsOf (wordsAt ws 2 (2 * c .entriesP))) (before .pValues) (c .entriesP) (doubles ws n ok 2 (c .entriesP) (lit< tt) refl) (t .pValues) i)
@@ -81,22 +81,22 @@ read-front ws n {before} {after} call =
     (c .patterns)
     (front (wordsAt ws 10 (c .words)) (before .patternWords) (c .words) (length-words-at ws n ok 10 (c .words) (lit< tt) refl) (t .patternWords) i))
 
--- the words that stand at the front are the file's
+-- the prefix of the output is the file's words
 words-front : (file : List ℕ) {before after : List ℕ} → FileWords file before after 0 → take (length file / 4) after ≡ fileWords file
 words-front file {before} call = front (fileWords file) before (length file / 4) (words-length file) (call .out)
 
--- the file that stands at the front, where nothing is refused; its length fits a u32
-file-front : (t : Tables) {before after : List ℕ} → WriteFile t before after 0 → take (length (fileOf t)) after ≡ fileOf t
+-- where the writer refuses nothing, the prefix of its output is the file, and the file's length fits a u32
+file-front : (t : BitTables) {before after : List ℕ} → WriteFile t before after 0 → take (length (fileOf t)) after ≡ fileOf t
 file-front t {before} call = front-read (fileOf t) before (call .out)
 
-pub write-accepted : (t : Tables) {before after : List ℕ} → WriteFile t before after 0 → (problemRefusal (problemOf t) ≡ 0) × (length (fileOf t) < 4294967296)
+pub write-accepted : (t : BitTables) {before after : List ℕ} → WriteFile t before after 0 → (problemRefusal (problemOf t) ≡ 0) × (length (fileOf t) < 4294967296)
 write-accepted t {before} call =
     let ok = orElse-zero (problemRefusal (problemOf t)) (roomRefusal (length (fileOf t)) (length before)) .0 (sym (call .number)) .0 in
     (ok, written-length t ok .1)
 
--- Where the writer answers 0, the reader refuses what it left for want of room alone, and where it answers 0 too, it leaves the same
--- tables.
-pub file-back : (t : Tables) {out₀ out ws₀ ws : List ℕ} {before after : FileOutputs} (r : ℕ) → Fit t → WriteFile t out₀ out 0
+-- Where the writer returns 0, the reader refuses its file only where an output is too short, and where the reader also returns 0, its
+-- outputs contain the same tables.
+pub file-back : (t : BitTables) {out₀ out ws₀ ws : List ℕ} {before after : FileOutputs} (r : ℕ) → Fit t → WriteFile t out₀ out 0
     → let file = take (length (fileOf t)) out in
     FileWords file ws₀ ws 0 → ReadFile (take (length file / 4) ws) (length file) before after r
     → (r ≡ cond (roomy (8 ∷ countedLengths (countsOf t)) (fileRooms before)) 0 11) × (r ≡ 0 → tablesAt after ≡ t)
@@ -115,8 +115,8 @@ file-back t {out₀} {out} {ws₀} {ws} {before} {after} r fit wrote turned call
       λ z. read-front (fileWords (fileOf t)) (length (fileOf t)) (subst (ReadFile (fileWords (fileOf t)) (length (fileOf t)) before after) z read) ∙ back,
     )
 
--- Where the reader answers 0, the writer refuses the tables that it left for want of room alone, and where it answers 0 too, it leaves
--- the same bytes.
+-- Where the reader returns 0, the writer refuses the tables that were read only where its output is too short, and where the writer
+-- also returns 0, its output contains the same bytes.
 pub file-again : (file : List ℕ) {ws₀ ws out₀ out : List ℕ} {before after : FileOutputs} (r : ℕ) → Below 256 file → FileWords file ws₀ ws 0
     → ReadFile (take (length file / 4) ws) (length file) before after 0 → WriteFile (tablesAt after) out₀ out r
     → (r ≡ roomRefusal (length file) (length out₀)) × (r ≡ 0 → take (length file) out ≡ file)
@@ -129,7 +129,7 @@ file-again file {ws₀} {ws} {out₀} {out} {before} {after} r bytes turned call
     let same : tablesAt after ≡ fileTables file =
     read-front (fileWords file) (length file) read ∙ words-tables file bytes (read-passed file accepted .0) in
     let again : fileOf (tablesAt after) ≡ file = ap fileOf same ∙ read-again file bytes accepted in (
-      wrote .number ∙ ap (λ (t : Tables). writeRefusal t (length out₀)) same ∙ written-again file (length out₀) bytes accepted,
+      wrote .number ∙ ap (λ (t : BitTables). writeRefusal t (length out₀)) same ∙ written-again file (length out₀) bytes accepted,
       λ z.
           front file out₀ (length file) refl
           (wrote .out ∙ ap₂ (λ (k : ℕ) (f : List ℕ). output k f out₀) z again),

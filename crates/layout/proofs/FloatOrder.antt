@@ -1,4 +1,4 @@
--- Floats in IEEE's order beside a zero: either zero is the same number, and a value turned from a zero into +0.0 keeps its place in the order.
+-- Floats compared with zeros in IEEE's order: both zeros are the same number, and replacing a zero by +0.0 changes no comparison.
 use Prim.Native.Nat.{ℕ, zero, suc, _+_, _*_, _<_, zero-le, suc-le-suc}
 use native.Mathlib.Nat.{zero-mul, mul-pos, eq-or-lt-of-le, eq-zero-or-pos}
 use native.Mathlib.Omega.{arith}
@@ -35,16 +35,16 @@ nonPositive (fin s m e) = s || eqb m 0
 nothing : (a b : ℕ) → 0 * a * b ≡ 0
 nothing a b = ap (λ (k : ℕ). k * b) (zero-mul a) ∙ zero-mul b
 
--- a scaled significand is zero where the significand is
+-- a scaled significand is zero exactly where the significand is
 scaled : (n a b : ℕ) → 0 < a → 0 < b → ((n ≡ 0) × (n * a * b ≡ 0)) ⊎ ((0 < n) × (0 < n * a * b))
 scaled zero a b A B = inl (refl, nothing a b)
 scaled (suc n) a b A B = inr (suc-le-suc zero-le, mul-pos (mul-pos (suc-le-suc zero-le) A) B)
 
--- either both are zero or both are above it
+-- both are zero, or both are positive
 abbrev Alike : ℕ → ℕ → Type 0
 Alike n N = ((n ≡ 0) × (N ≡ 0)) ⊎ ((0 < n) × (0 < N))
 
--- a zero with the sign s beside N with the sign t
+-- a zero with the sign s is at most N with the sign t exactly where t is the positive sign or N is zero
 zero-first : (s t : Bool) (n N : ℕ) → Alike n N → (below s 0 t N || level s 0 t N) ≡ (not t || eqb n 0)
 zero-first s t n N (inl h) = rw (h .0, h .1) (closed s t)
   where
@@ -81,7 +81,7 @@ zero-level s t n N (inl h) = rw (h .0, h .1) (closed s t)
     closed false false = (refl, refl)
 zero-level s t n N (inr h) = rw (ne-eqb N 0 (omega arith), ne-eqb 0 N (omega arith), ne-eqb n 0 (omega arith)) (refl, refl)
 
--- ---- any value beside a zero
+-- ---- any value compared with a zero
 
 alike : (n : ℕ) (d e : ℤ) → Alike n (n * up d * down e)
 alike n d e = scaled n (up d) (down e) (up-pos d) (down-pos e)
@@ -101,7 +101,7 @@ zero-eq-finite : (s t : Bool) (n : ℕ) (e d : ℤ) → (eq (fin s 0 e) (fin t n
 unfolding eq
 zero-eq-finite s t n e d = rw (nothing (up e) (down d)) (zero-level s t n (n * up d * down e) (alike n d e))
 
--- the zero z is at most what is not negative
+-- a zero is at most y exactly where y is at least zero
 pub zero-le-is : (z y : Float) → T (isZero z) → le z y ≡ nonNegative y
 unfolding le
 zero-le-is nan y h = absurd h
@@ -120,7 +120,7 @@ le-zero-is (inf true) (fin s m e) h = refl
 le-zero-is (inf false) (fin s m e) h = refl
 le-zero-is (fin t n d) (fin s m e) h = ap (λ (z : Float). le (fin t n d) z) (finite-zero s m e h) ∙ finite-le-zero s t n e d
 
--- and equals the zeros
+-- and equals exactly the zeros
 pub zero-eq-is : (z y : Float) → T (isZero z) → (eq z y ≡ isZero y) × (eq y z ≡ isZero y)
 unfolding eq
 zero-eq-is nan y h = absurd h
@@ -133,12 +133,12 @@ zero-eq-is (fin s m e) (fin t n d) h =
 pub eq-zero : (x : Float) → eq x zero64 ≡ isZero x
 eq-zero x = zero-eq-is zero64 x tt .1
 
--- ---- a zero turned into +0.0, as b's values are
+-- ---- a zero replaced by +0.0, as in the augmented b
 
 abbrev pub plusZero : Float → Float
 plusZero x = cond (eq x zero64) zero64 x
 
--- x itself, or both are zero
+-- x is a zero and becomes +0.0, or x stays as it is
 pub plusZero-cases : (x : Float) → (T (isZero x) × (plusZero x ≡ zero64)) ⊎ (plusZero x ≡ x)
 plusZero-cases x = elim (tested (isZero x)) [
   | inl h ↦ inl (h, cond-passed (eq x zero64) zero64 x (subst T (sym (eq-zero x)) h))
@@ -146,7 +146,7 @@ plusZero-cases x = elim (tested (isZero x)) [
 ]
 
 module _ (x y : Float) where
-  -- a test that tells no zero from another
+  -- a test that does not distinguish zeros has the same result after the replacement
   keeps : (test : Float → Bool) → ((z : Float) → T (isZero z) → test z ≡ test zero64) → test (plusZero x) ≡ test x
   keeps test same = elim (plusZero-cases x) [ inl h ↦ ap test (h .1) ∙ sym (same x (h .0)) | inr e ↦ ap test e ]
 
@@ -161,7 +161,7 @@ module _ (x y : Float) where
 
 -- ---- NaN, equality and order
 
--- what the order holds for equals itself
+-- a signed magnitude equals itself
 level-self : (s : Bool) (a : ℕ) → T (level s a s a)
 level-self true a = and-iff (eqb a a) true .1 (eqb-refl a, tt)
 level-self false a = and-iff (eqb a a) true .1 (eqb-refl a, tt)
@@ -177,7 +177,7 @@ pub le-self : (x : Float) → T (not (isNan x)) → T (le x x)
 unfolding le
 le-self x h = or-iff (lt x x) (eq x x) .1 (inr (eq-self x h))
 
--- signed magnitudes, equal or one below the other
+-- a signed magnitude is below or equal to another exactly where the other is not below it
 below-or-level : (s t : Bool) (a b : ℕ) → (below s a t b || level s a t b) ≡ not (below t b s a)
 below-or-level s t a b = elim (lt-or-le a b) [
   | inl l ↦ smaller s t a b l
@@ -202,7 +202,7 @@ below-or-level s t a b = elim (lt-or-le a b) [
     same true false a = elim (eq-zero-or-pos a) [ inl e ↦ rw e | inr h ↦ rw (lt-ltb 0 (a + a) (omega arith)) ]
     same true true a = rw (le-ltb a a (omega arith), eq-eqb a a refl)
 
--- at most means: neither is NaN, and the first is not above the second
+-- `le` holds exactly where neither is NaN and the first is not above the second
 pub le-is : (x y : Float) → le x y ≡ (not (isNan x) && not (isNan y) && not (lt y x))
 unfolding le isNan
 le-is nan y = refl
@@ -219,11 +219,11 @@ le-is (fin s m e) (inf true) = refl
 le-is (fin s m e) (inf false) = refl
 le-is (fin s m e) (fin t n d) = below-or-level s t (m * up e * down d) (n * up d * down e)
 
--- both ends of an order are numbers
+-- two values in order are not NaN
 pub le-numbers : (x y : Float) → T (le x y) → T (not (isNan x)) × T (not (isNan y))
 le-numbers x y h = and-iff (not (isNan x)) (not (isNan y)) .0 (and-iff (not (isNan x) && not (isNan y)) (not (lt y x)) .0 (subst T (le-is x y) h) .0)
 
--- what is between two zeros is zero
+-- a value that is at least and at most zero is zero
 between-zero : (v : Float) → T (nonNegative v) → T (nonPositive v) → T (isZero v)
 between-zero nan h k = h
 between-zero (inf true) h k = h

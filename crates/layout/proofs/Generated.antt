@@ -27,7 +27,7 @@ use Rattle.layout.proofs.Joins.{sum-bound}
 use Rattle.layout.proofs.Starts.{length-starts}
 use Rattle.layout.proofs.Triangles.{triangle-mono}
 use Rattle.layout.proofs.PatternWords.{patterns-of-words}
-use Rattle.layout.specs.Calls.Tables.{Tables, rooms, problemAt}
+use Rattle.layout.specs.Calls.Tables.{Tables, tableRooms, problemAt}
 use Rattle.layout.specs.Calls.Generate.{Generate}
 use Rattle.layout.proofs.Promises.{tables-front}
 use Rattle.layout.proofs.Order.{none-fails, passed as checked}
@@ -69,7 +69,7 @@ no-entries-right m n =
           (λ c l. subst (λ (es : List Entry). T (rises (rowsOf es))) (sym (empty c l)) tt))),
     )
 
--- ---- A and b, for any ordering and any u64
+-- ---- A and b, for any ordering os and any generator state s
 
 module _ (os : List ℕ) (v w n s : ℕ) where
   abbrev covered : List ℕ
@@ -89,7 +89,7 @@ module _ (os : List ℕ) (v w n s : ℕ) where
   row-count : length (bandRows os v w) ≤ triangle v
   row-count = omega (arith, length-keep (λ q. has q covered) (below (triangle v)), length-below (triangle v))
 
-  -- a column's entries stand on the rows, which rise
+  -- a column's entries lie on the covered rows rs, and their row indices strictly increase
   on-rows : (c : ℕ) → c < length cs → (r : ℕ) → T (has r (rowsOf (getD cs c []))) → T (has r rs)
   on-rows c l r h =
       let (t, e) = columns-drawn s rs n c (omega (arith, columns-count s rs n)) in
@@ -112,7 +112,7 @@ module _ (os : List ℕ) (v w n s : ℕ) where
       subst (λ (k : ℕ). T (rowsInOrder (triangle v) k (csc cs))) (columns-count s rs n)
       (csc-in-order cs (triangle v) low (λ c l. rises-never-fall (rowsOf (getD cs c [])) (rising c l)))
 
-  -- no row is repeated
+  -- no row index repeats within a column of A
   alone-A : T (all (λ c. rises (columnRows (csc (drawnColumns s (bandRows os v w) n)) c)) (below n))
   alone-A =
       subst (λ (k : ℕ). T (all (λ c. rises (columnRows (csc cs) c)) (below k))) (columns-count s rs n) (csc-each cs rises rising)
@@ -163,7 +163,7 @@ module _ (seed v w n : ℕ) (ok : T (inRanges seed v w n)) where
   abbrev M : Csc
   M = csc (drawnColumns s (bandRows os v w) n)
 
-  ranges : (2 ≤ v) × (v ≤ 64) × (1 ≤ w) × (w < v) × (1 ≤ n) × (n ≤ 64)
+  pub ranges : (2 ≤ v) × (v ≤ 64) × (1 ≤ w) × (w < v) × (1 ≤ n) × (n ≤ 64)
   ranges = let h = simp (and-iff, leb-iff) at ok in omega arith
 
   few-rows : triangle v ≤ 2080
@@ -172,7 +172,7 @@ module _ (seed v w n : ℕ) (ok : T (inRanges seed v w n)) where
   permutes : T (isPermutation (drawnOrdering seed v)) × (length (drawnOrdering seed v) ≡ v)
   permutes = ordering-permutes seed v (omega (arith, ranges))
 
-  -- the words read back as the pattern
+  -- the pattern's words read back as the pattern
   words-read : readPatterns 1 (patternWordsOf (band (drawnOrdering seed v) v w)) ≡ read (band (drawnOrdering seed v) v w ∷ []) []
   words-read =
       ap (readPatterns 1) (sym (append-nil (patternWordsOf (band os v w))))
@@ -263,16 +263,16 @@ module _ (seed v w n : ℕ) (ok : T (inRanges seed v w n)) where
         le→leb (overlapRows (band os v w) + 0) 131072 (omega (arith, few-overlaps)),
       ))
 
-  -- both routes accept it
+  -- both routes accept the generated problem
   pub generated-accepted : (route : Route) → refusal route (generated seed v w n) ≡ 0
   generated-accepted route = none-fails (checks route p)
       (one, (two, (three, (four, (five, (six, (seven, (nine route, (ten route, tt)))))))))
 
-  -- no row is repeated in a column
+  -- no row index repeats within a column of A
   pub generated-alone : T (withoutRepeats (generated seed v w n))
   generated-alone = alone-A os v w n s
 
-  -- A and b are finite, as stored and, as demand 3 asks, with sums in place
+  -- A and b are finite: as stored and, as demand 3 asks, after repeated entries are summed
   pub generated-stored : StoredFinite (generated seed v w n)
   generated-stored = and-iff (all finite (p .A .values)) (all finite (p .b)) .1 (
     columns-finite s (bandRows os v w) n,
@@ -282,20 +282,20 @@ module _ (seed v w n : ℕ) (ok : T (inRanges seed v w n)) where
   pub generated-finite : AllFinite (generated seed v w n)
   generated-finite = stored-finite p compact (generated-accepted compact) generated-alone .0 generated-stored
 
-  -- the cut takes it where the outputs are long enough
+  -- the cut accepts the generated problem if its outputs are long enough
   pub generated-cut : (route : Route) (rooms : List ℕ) → T (roomy (sizes route (generated seed v w n)) rooms)
       → cutRefusal route (generated seed v w n) rooms ≡ 0
   generated-cut route rooms h = rw (generated-accepted route) (cond-passed (roomy (sizes route p) rooms) 0 11 h)
 
-  -- and its compact equations have exactly its solutions
+  -- its compact equations have exactly the solutions of the original ones (demand 3)
   pub generated-solutions : SameSolutions (generated seed v w n)
   generated-solutions = demand3 p (generated-accepted compact) generated-finite
 
-  -- which are those of its standard ones
+  -- its standard equations have the same solutions as its compact ones (Q-13)
   pub generated-routes : OneProblem (generated seed v w n)
   generated-routes = both-routes p (generated-accepted standard) (generated-accepted compact) generated-alone generated-stored
 
-  -- the lengths of the tables: only the number of entries needs a walk
+  -- the lengths of the tables: only the number k of A's entries depends on the draws
   pub generated-lengths : tableLengths (generated seed v w n) ≡
       let k = sum (map length (drawnColumns (draws (v - 1) seed) (bandRows (drawnOrdering seed v) v w) n)) in
       suc n ∷ 0 ∷ 0 ∷ n ∷ suc n ∷ k ∷ k ∷ triangle v ∷ 3 ∷ 0 ∷ (3 + v + (v - w) * (w + 4)) ∷ []
@@ -312,14 +312,14 @@ module _ (seed v w n : ℕ) (ok : T (inRanges seed v w n)) where
 
 -- ---- what the call writes
 
--- the number by its two checks
+-- refusal number 0 means that checks 15 and 11 passed
 pub generate-done : (seed v w n : ℕ) (rooms : List ℕ) → generateRefusal seed v w n rooms ≡ 0
     → T (inRanges seed v w n) × T (roomy (tableLengths (generated seed v w n)) rooms)
 generate-done seed v w n rooms e =
     let cs : List Check = check 15 (inRanges seed v w n) ∷ check 11 (roomy (tableLengths (generated seed v w n)) rooms) ∷ [] in
     (checked 15 cs tt e, checked 11 cs tt e)
 
--- what holds of the problem that a call with number 0 leaves at the fronts of its outputs
+-- what holds of the problem that a call returning 0 writes to the start of its outputs
 pub record GeneratedWell (p : Problem) : Type 0 where
   pub accepted : (route : Route) → refusal route p ≡ 0
   pub alone : T (withoutRepeats p)
@@ -336,10 +336,10 @@ generated-well seed v w n ok = record {
   routes = generated-routes seed v w n ok;
 }
 
--- the call's contract as the premise: the tables at the fronts, as long as the sizes say, are the generated problem's, and it is well
+-- if a call that keeps its contract returns 0, the problem read from its outputs is the generated one, and `GeneratedWell` holds of it
 pub generated-written : (seed v w n : ℕ) (before after : Tables) (r : ℕ) → Generate seed v w n before after r → r ≡ 0
     → let p = problemAt n (triangle v) 1 (generated seed v w n) after in (p ≡ generated seed v w n) × GeneratedWell p
 generated-written seed v w n before after r h z =
-    let ok = generate-done seed v w n (rooms before) (sym (h .number) ∙ z) .0 in
+    let ok = generate-done seed v w n (tableRooms before) (sym (h .number) ∙ z) .0 in
     let e = tables-front r (generated seed v w n) before after z (h .tables) in
     (e, subst GeneratedWell (sym e) (generated-well seed v w n ok))

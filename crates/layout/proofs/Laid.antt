@@ -1,4 +1,4 @@
--- The rows of a whole problem: the parts lie one after the other, each over the rows of its cone.
+-- The augmented rows of a whole problem: its parts follow one another, each covering the rows of its cone.
 use Prim.Native.Nat.{ℕ, suc, _+_, _<_, zero-le, suc-le-suc}
 use native.Mathlib.Omega.{arith}
 use mathlib.Core.Path.{_≡_, refl, sym, ap, subst, _∙_}
@@ -19,7 +19,12 @@ use Rattle.layout.proofs.Rows.{rows-count}
 use Rattle.layout.proofs.Accepted.{sound-names, sound-cone-rows, sound-patterns, accepted-sound}
 use Rattle.layout.proofs.Moves.{RightRows, nil-rows, kept-rows, append-rows, pattern-rows}
 
--- ---- the rows of parts that are laid
+-- there is one part for each cone
+pub parts-count : (i row k : ℕ) (cs : List Cone) (ps : List Pattern) → length (partsFrom i row k cs ps) ≡ length cs
+parts-count i row k [] ps = refl
+parts-count i row k (c ∷ cs) ps = ap suc (parts-count (suc i) (row + rowCount c) _ cs _)
+
+-- ---- the augmented rows of parts that are `Laid`
 
 pub length-rows : (first row : ℕ) (ps : List Part) → Laid row ps → length (rowsFrom first ps) ≡ blockRowCount ps
 length-rows first row [] h = refl
@@ -67,9 +72,9 @@ laid-rows first row (cut i r k p ∷ ps) h =
     (subst (λ (b : ℕ). RightRows first b (b + n) R) (h .0) (pattern-rows p (h .1) r first))
     (laid-rows (first + blockRows p) (row + n) ps (h .2))
 
--- ---- the parts of an accepted problem are laid
+-- ---- the parts of an accepted problem are `Laid`
 
--- among cones from number i on, the pattern's has a row for each pair of its vertices
+-- the pattern's cone, if it is among the cones cs numbered from i on, has one row for each pair of the pattern's vertices
 abbrev pub Fits : ℕ → List Cone → Pattern → Type 0
 Fits i cs p = (n : ℕ) → n < length cs → p .origIndex ≡ i + n → rowCount (getD cs n noCone) ≡ triangle (p .vertexCount)
 
@@ -80,7 +85,7 @@ after-first : (d : Pattern) (i : ℕ) (c : Cone) (cs : List Cone) (ps : List Pat
     → EveryAt d (RightIn i (c ∷ cs)) ps → EveryAt d (RightIn (suc i) cs) ps
 after-first d i c cs ps h n l = (h n l .0, λ m lm e. h n l .1 (suc m) (suc-le-suc lm) (omega arith))
 
--- the parts are laid, over as many rows as the cones have
+-- the parts are `Laid` from `row` on, and they have as many original rows as the cones
 abbrev pub LaidOver : ℕ → List Cone → List Part → Type 0
 LaidOver row cs ps = Laid row ps × (sum (map coneRows ps) ≡ sum (map rowCount cs))
 
@@ -130,7 +135,7 @@ module _ {m : ℕ} {cones : List ℕ} {count : ℕ} {words : List ℕ} (h : Soun
         (all-at noPattern (namesItsCone (records cones)) (patterns count words) .0 (sound-names h) n l),
   ))
 
-  -- the cones have m rows
+  -- the parts have m original rows in all
   pub sound-total : sum (map coneRows ps) ≡ m
   sound-total = sound-laid .1 ∙ sound-cone-rows h
 
@@ -148,6 +153,6 @@ module _ (route : Route) (p : Problem) (e : refusal route p ≡ 0) where
   pub accepted-count : length (compactRows (layout p)) ≡ blockRowCount (layout p)
   accepted-count = sound-count (accepted-sound route p e)
 
-  -- the rows of a problem that is not refused
+  -- the augmented rows of an accepted problem satisfy `RightRows`
   pub accepted-rows : RightRows 0 0 (p .m) (compactRows (layout p))
   accepted-rows = sound-rows (accepted-sound route p e)

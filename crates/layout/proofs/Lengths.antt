@@ -1,4 +1,4 @@
--- Checks 1 to 7 see of the float tables their lengths only, so a table of patterns is checked as its floats are.
+-- Checks 1 to 7 depend on the float tables only through their lengths, so tables of the floats' bit patterns can be checked instead.
 use Prim.Native.Nat.{ℕ}
 use mathlib.Core.Path.{_≡_, sym, ap, ap₂}
 use mathlib.Core.Bool.{Bool, _&&_}
@@ -46,7 +46,7 @@ refusal-lengths n m pStarts pRows pValues pValues′ q q′ aStarts aRows aValue
     (check 1 (first i) ∷ check 2 (second i) ∷ check 3 (check3 old) ∷ check 4 (fourth i)
     ∷ check 5 (patternsRead cones count words) ∷ check 6 (all treeRight ps) ∷ check 7 (all cliquesRight ps) ∷ [])
 
--- with nothing of them but how many there are
+-- checks 1 to 7 give the same number if every float is replaced by the placeholder of `unvalued`
 pub refusal-unvalued : (n m : ℕ) (pStarts pRows : List ℕ) (pValues q : List Float) (aStarts aRows : List ℕ) (aValues b : List Float)
     (cones : List ℕ) (alphas : List Float) (count : ℕ) (words : List ℕ)
     → problemRefusal (problem n m pStarts pRows pValues q aStarts aRows aValues b cones alphas count words)

@@ -1,4 +1,4 @@
--- Magnitudes of integers: of a negation, of a sum, and of the difference of two integers of one sign.
+-- Magnitudes of integers: of a negation, of a sum, and of the difference of two integers of the same sign.
 use Prim.Native.Nat.{ℕ, zero, suc, _+_, _-_, _≤_, _<_}
 use native.Mathlib.Omega.{arith}
 use mathlib.Core.Path.{_≡_, refl, sym, ap, _∙_}
@@ -34,7 +34,7 @@ pub magnitude-signed : (s : Bool) (w : ℕ) → magnitude (signed s w) ≡ w
 magnitude-signed false w = refl
 magnitude-signed true w = magnitude-neg (pos w)
 
--- ---- two whole numbers
+-- ---- differences of natural numbers
 
 abbrev pub distance : ℕ → ℕ → ℕ
 distance a b = (a - b) + (b - a)
@@ -48,7 +48,7 @@ sub-add a b = simp linear
 neg-sub : (a b : ℤ) → negℤ a -ℤ negℤ b ≡ negℤ (a -ℤ b)
 neg-sub a b = simp linear
 
--- the larger less the smaller
+-- pos a - pos b by the difference of the naturals, for b ≤ a and for a ≤ b
 pub pos-sub : (a b : ℕ) → b ≤ a → pos a -ℤ pos b ≡ pos (a - b)
 pos-sub a b h = let e : a ≡ b + (a - b) = omega arith in ap (λ (x : ℕ). pos x -ℤ pos b) e ∙ add-sub (pos b) (pos (a - b))
 
@@ -66,13 +66,13 @@ pub signed-distance : (s : Bool) (a b : ℕ) → magnitude (signed s a -ℤ sign
 signed-distance false a b = pos-distance a b
 signed-distance true a b = ap magnitude (neg-sub (pos a) (pos b)) ∙ magnitude-neg (pos a -ℤ pos b) ∙ pos-distance a b
 
--- ---- integers by sign and magnitude, added
+-- ---- sums of integers given by sign and magnitude
 
 pub signed-sum : (s : Bool) (a b : ℕ) → signed s a +ℤ signed s b ≡ signed s (a + b)
 signed-sum false a b = refl
 signed-sum true a b = sym (negℤ-+ℤ (pos a) (pos b))
 
--- of unlike signs, the second no larger
+-- with unlike signs, the second magnitude being at most the first
 pub signed-difference : (s : Bool) (a b : ℕ) → b ≤ a → signed s a +ℤ signed (not s) b ≡ signed s (a - b)
 signed-difference false a b h = pos-sub a b h
 signed-difference true a b h = negative (pos a) (pos b) ∙ ap negℤ (pos-sub a b h)

@@ -1,4 +1,4 @@
--- NaNs: the number that differs from itself, and the one whose bits are no other's.
+-- NaNs: a double differs from itself exactly when it is NaN, and no other double has the bits of a NaN.
 use Prim.Native.Nat.{_*_}
 use mathlib.Core.Path.{_≡_, refl, sym, ap, subst, _∙_}
 use mathlib.Core.Bool.{Bool, true, false}
@@ -7,6 +7,7 @@ use lib.Ieee.{Float, nan, inf, fin, binary64, up, down, ne, isNan, fits, toBits,
 use lib.Ieee.Bits.{ofBits-toBits}
 use borrow.Author.Tests.{eq-eqb}
 use Rattle.layout.specs.Answers.{sameBits}
+use Rattle.layout.proofs.Tests.{failed}
 
 pub ne-self : (x : Float) → ne x x ≡ isNan x
 unfolding ne isNan
@@ -21,26 +22,22 @@ pub bits-equal : (x y : Float) → T (fits binary64 x) → T (fits binary64 y) �
 bits-equal x y f g h =
     sym (ofBits-toBits binary64 x f) ∙ ap (ofBits binary64) (eqb→eq (toBits binary64 x) (toBits binary64 y) h) ∙ ofBits-toBits binary64 y g
 
-no : (b : Bool) → (T b → ⊥) → b ≡ false
-no true h = absurd (h tt)
-no false h = refl
-
 pub nan-is : (x : Float) → T (isNan x) → x ≡ nan
 unfolding isNan
 nan-is nan h = refl
 nan-is (inf s) h = absurd h
 nan-is (fin s m e) h = absurd h
 
--- one NaN alone
+-- if exactly one of x and y is NaN, their bits differ
 pub bits-differ : (x y : Float) → T (fits binary64 x) → T (fits binary64 y) → (isNan x ≡ isNan y → ⊥) → sameBits x y ≡ false
-bits-differ x y f g h = no (sameBits x y) (λ s. h (ap isNan (bits-equal x y f g s)))
+bits-differ x y f g h = failed (sameBits x y) (λ s. h (ap isNan (bits-equal x y f g s)))
 
--- two NaNs
+-- two NaNs have the same bits
 pub nans-agree : (x y : Float) → isNan x ≡ true → isNan y ≡ true → sameBits x y ≡ true
 nans-agree x y e g =
     eq-eqb (toBits binary64 x) (toBits binary64 y) (ap (toBits binary64) (nan-is x (subst T (sym e) tt) ∙ sym (nan-is y (subst T (sym g) tt))))
 
--- the bits of a NaN are compared by a test of the other
+-- if x is NaN, x and y have the same bits exactly when y is NaN
 pub nan-compared : (x y : Float) → T (fits binary64 x) → T (fits binary64 y) → ne x x ≡ true → ne y y ≡ sameBits x y
 nan-compared x y f g e = go (isNan y) refl
   where

@@ -1,5 +1,5 @@
--- Whole numbers rounded to p binary digits, to the nearest: off by at most 2 ^ -p of the number, and no further than any number of p digits
--- times a power of two. `round` does this to a count of its format's smallest value.
+-- Rounding a whole number to the nearest number of p binary digits: the relative error is at most 2 ^ -p, and no number of p digits times
+-- a power of two is nearer. `round` does this to a value counted in units of its format's smallest value.
 use Prim.Native.Nat.{ℕ, zero, suc, _+_, _-_, _*_, _/_, _%_, _^_, _≤_, _<_, compare, Ordering, Ordering·lt, Ordering·eq, Ordering·gt}
 use native.Mathlib.Nat.{le-trans, le-of-lt, sub-add-cancel, mul-assoc, mul-comm, mul-le-mul-right, mod-lt, div-add-mod', two-pow-succ}
 use native.Mathlib.Omega.{arith}
@@ -30,7 +30,7 @@ compared a b = go (compare a b) (leb→le a b) (nleb→lt a b) (eqb→eq a b) (�
     go Ordering·eq h k e n = e tt
     go Ordering·gt h k e n = k tt
 
--- the nearest multiple of b to q * b + r is off by r or by b - r, whichever is less
+-- rounding q * b + r to a multiple of b changes it by at most r and at most b - r; first for the tie r * 2 = b
 near-tie : (q x b r : ℕ) → x < 2 → r * 2 ≡ b → (distance ((q + x) * b) (q * b + r) ≤ r) × (distance ((q + x) * b) (q * b + r) ≤ b - r)
 near-tie q zero b r l e = omega arith
 near-tie q (suc zero) b r l e = omega arith
@@ -42,7 +42,7 @@ near q r b Ordering·lt c l = omega arith
 near q r b Ordering·eq c l = near-tie q (q % 2) b r (mod-lt q (omega arith)) c
 near q r b Ordering·gt c l = omega arith
 
--- so no multiple of b is nearer
+-- no multiple of b is nearer to a
 pub closest-nearest : (a b k : ℕ) → 0 < b → distance (closest a b * b) a ≤ distance (k * b) a
 closest-nearest a b k h = subst (λ (x : ℕ). distance (closest a b * b) x ≤ distance (k * b) x) (div-add-mod' a b) (go (lt-or-le (a / b) k))
   where
@@ -59,7 +59,7 @@ closest-nearest a b k h = subst (λ (x : ℕ). distance (closest a b * b) x ≤ 
         below : (x y r : ℕ) → y ≤ x → r ≤ distance y (x + r)
         below x y r g = omega arith
 
--- and it is off by half of b at most
+-- the rounding to a multiple of b changes a by at most half of b
 pub closest-half : (a b : ℕ) → 0 < b → distance (closest a b * b) a * 2 ≤ b
 closest-half a b h =
     subst (λ (x : ℕ). distance (closest a b * b) x * 2 ≤ b) (div-add-mod' a b)
@@ -71,18 +71,18 @@ closest-half a b h =
 
 -- ---- a whole number rounded to p binary digits
 
--- how many digits are dropped
+-- the number of digits dropped
 abbrev pub dropped : ℕ → ℕ → ℕ
 dropped p w = size w - p
 
 abbrev pub rounded : ℕ → ℕ → ℕ
 rounded p w = closest w (2 ^ dropped p w) * 2 ^ dropped p w
 
--- where digits are dropped, w has more than p
+-- if k + 1 digits are dropped, w is at least 2 ^ (p + k)
 reaches : (p w k : ℕ) → dropped p w ≡ suc k → 2 ^ (p + k) ≤ w
 reaches p w k e = size-reaches w (p + k) (omega arith)
 
--- the relative error is 2 ^ -p at most
+-- the relative error is at most 2 ^ -p
 pub rounded-relative : (p w : ℕ) → distance (rounded p w) w * 2 ^ p ≤ w
 rounded-relative p w = go (dropped p w) refl
   where
@@ -127,11 +127,11 @@ rounded-nearest p w q j h l = go (lt-or-le j (dropped p w))
             (subst (λ (x : ℕ). x ≤ 2 ^ (p - 1) * 2 ^ dropped p w) (pow-add 2 p j)
             (subst (λ (x : ℕ). 2 ^ (p + j) ≤ x) (pow-add 2 (p - 1) (dropped p w)) (pow-mono (omega arith))))
 
--- a number of p digits, times a power of two
+-- whether a is a number of p digits times a power of two
 abbrev pub Digits : ℕ → ℕ → Type 0
 Digits p a = (q j : ℕ) × (q < 2 ^ p) × (a ≡ q * 2 ^ j)
 
--- w lies no further than b from a, or from 0
+-- whether w differs by at most b from a or from 0
 abbrev pub Within : ℕ → ℕ → ℕ → Type 0
 Within a b w = (distance a w ≤ b) ⊎ (w ≤ b)
 

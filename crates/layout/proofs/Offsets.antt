@@ -1,8 +1,8 @@
--- Tables at multiples of 8 with zero bytes between: where they stand, read back, and written back.
+-- Tables placed at multiples of 8 bytes with zero bytes in the gaps: their offsets, that they are read back, and that they are written back.
 use Prim.Native.Nat.{ℕ, zero, suc, _+_, _-_, _*_, _≤_, _<_}
 use native.Mathlib.Omega.{arith}
 use mathlib.Core.Path.{_≡_, refl, sym, ap, ap₂, subst, _∙_}
-use mathlib.Core.List.{List, [], _∷_, _++_, map, append-assoc, append-nil}
+use mathlib.Core.List.{List, [], _∷_, _++_, map, append-assoc}
 use lib.ListN.{length, getD, take, drop, replicate, length-append, length-replicate, drop-of-length-le, length-drop, take-append-drop}
 use lib.Seq.{length-take-le, take-at, drop-at, drop-drop}
 use lib.Dec.{T, eqb, eqb→eq}
@@ -12,7 +12,7 @@ use Rattle.layout.proofs.Tests.{and-iff}
 use Rattle.layout.proofs.Members.{all-replicate}
 use Rattle.layout.proofs.Bytes.{below-cons}
 
--- ---- the multiple of 8
+-- ---- rounding up to a multiple of 8
 
 pub aligned-up : (a : ℕ) → a ≤ aligned a
 aligned-up a = omega arith
@@ -26,7 +26,7 @@ pub end-from : (a : ℕ) (ks : List ℕ) → a ≤ endFrom a ks
 end-from a [] = omega arith
 end-from a (k ∷ ks) = omega (arith, aligned-up a, end-from (aligned a + k) ks)
 
--- the gaps take at most 7 bytes for each table
+-- the gaps add at most 7 bytes for each table
 pub end-most : (a : ℕ) (ks : List ℕ) → endFrom a ks ≤ a + sum ks + 7 * length ks
 end-most a [] = omega arith
 end-most a (k ∷ ks) = omega (arith, aligned-low a, end-most (aligned a + k) ks)
@@ -35,7 +35,7 @@ pub end-least : (a : ℕ) (ks : List ℕ) → a + sum ks ≤ endFrom a ks
 end-least a [] = omega arith
 end-least a (k ∷ ks) = omega (arith, aligned-up a, end-least (aligned a + k) ks)
 
--- each table ends by the end
+-- each table ends at or before the end
 pub table-inside : (a : ℕ) (ks : List ℕ) (i : ℕ) → i < length ks → getD (offsetsFrom a ks) i 0 + getD ks i 0 ≤ endFrom a ks
 table-inside a [] i h = absurd (omega arith)
 table-inside a (k ∷ ks) zero h = end-from (aligned a + k) ks
@@ -61,21 +61,9 @@ length-laid a (t ∷ ts) =
       length-laid (aligned a + length t) ts,
     )
 
--- one table more
-pub laid-more : (a : ℕ) (ts : List (List ℕ)) (t : List ℕ)
-    → let e = endFrom a (map length ts) in laidFrom a (ts ++ (t ∷ [])) ≡ laidFrom a ts ++ (replicate (aligned e - e) 0 ++ t)
-laid-more a [] t = ap (λ (l : List ℕ). replicate (aligned a - a) 0 ++ l) (append-nil t)
-laid-more a (s ∷ ts) t =
-    let gap : List ℕ = replicate (aligned a - a) 0 in
-    let rest : List ℕ = laidFrom (aligned a + length s) ts in
-    let e : ℕ = endFrom (aligned a + length s) (map length ts) in
-    let last : List ℕ = replicate (aligned e - e) 0 ++ t in
-    ap (λ (l : List ℕ). gap ++ (s ++ l)) (laid-more (aligned a + length s) ts t)
-    ∙ ap (λ (l : List ℕ). gap ++ l) (sym (append-assoc s rest last)) ∙ sym (append-assoc gap (s ++ rest) last)
+-- ---- tables that were laid out are found at their offsets
 
--- ---- tables that were laid are found at their offsets
-
--- what stands before the tables after the first
+-- the bytes before the second table: `pre`, the gap and the first table t
 abbrev before : List ℕ → ℕ → List ℕ → List ℕ
 before pre a t = (pre ++ replicate (aligned a - a) 0) ++ t
 
@@ -123,9 +111,9 @@ laid-gaps a (t ∷ ts) pre e =
           (laid-gaps (aligned a + length t) ts (before pre a t) (length-before pre a t e .1)),
     )
 
--- ---- tables that were read are laid again
+-- ---- tables that were read and are laid out again give the same bytes
 
--- the bytes of each table
+-- the bytes of each table, for tables of sizes ks from byte a on
 abbrev pub piecesFrom : ℕ → List ℕ → List ℕ → List (List ℕ)
 piecesFrom a [] bs = []
 piecesFrom a (k ∷ ks) bs = take k (drop (aligned a) bs) ∷ piecesFrom (aligned a + k) ks bs

@@ -1,4 +1,4 @@
--- The order of checks: where nothing is refused every check passes, and checks made in groups.
+-- The checking order: refusal number 0 means that every check passes; checks made in groups.
 use Prim.Native.Nat.{ℕ, zero, suc, _+_, _≤_, _<_, zero-le, suc-le-suc}
 use native.Mathlib.Nat.{le-of-suc-le-suc, not-suc-le-zero}
 use native.Mathlib.Omega.{arith}
@@ -13,7 +13,7 @@ use Rattle.layout.specs.Answers.{orElse}
 use Rattle.layout.proofs.Tests.{and-iff, eqb-iff}
 use Rattle.layout.proofs.Members.{has-cons}
 
--- ---- one number or another
+-- ---- `orElse`: the first number that is not 0
 
 pub orElse-zero : (a b : ℕ) → (orElse a b ≡ 0) ↔ ((a ≡ 0) × (b ≡ 0))
 orElse-zero zero b = (λ e. (refl, e), λ h. h .1)
@@ -23,20 +23,20 @@ pub orElse-assoc : (a b c : ℕ) → orElse (orElse a b) c ≡ orElse a (orElse 
 orElse-assoc zero b c = refl
 orElse-assoc (suc a) b c = refl
 
--- only a first number that is 0 lets the second count
+-- the second number matters only where the first is 0
 pub orElse-same : (a b c : ℕ) → (a ≡ 0 → b ≡ c) → orElse a b ≡ orElse a c
 orElse-same zero b c h = h refl
 orElse-same (suc a) b c h = refl
 
 -- ---- checks in order
 
--- no check has the number 0, which stands for nothing refused
+-- whether no check has the number 0, which means that nothing is refused
 abbrev pub numbered : List Check → Bool
 numbered [] = true
 numbered (check zero b ∷ cs) = false
 numbered (check (suc k) b ∷ cs) = numbered cs
 
--- the first check of number k passes, if there is one
+-- whether the first check with number k passes, if there is one
 abbrev pub passing : ℕ → List Check → Bool
 passing k [] = true
 passing k (check j b ∷ cs) = let r = passing k cs in cond (eqb k j) b r
@@ -56,25 +56,25 @@ abbrev pub Passing : List Check → Type 0
 Passing [] = Unit {0}
 Passing (check k b ∷ cs) = T b × Passing cs
 
--- then nothing is refused
+-- if every check passes, the refusal number is 0
 pub none-fails : (cs : List Check) → Passing cs → firstFailing cs ≡ 0
 none-fails [] h = refl
 none-fails (check k true ∷ cs) h = none-fails cs (h .1)
 none-fails (check k false ∷ cs) h = absurd (h .0)
 
--- and where only one check may fail, it decides
+-- if only check k can fail, it alone decides the refusal number
 pub one-fails : (cs : List Check) (k : ℕ) (b : Bool) (ds : List Check) → Passing cs → Passing ds
     → firstFailing (cs ++ (check k b ∷ ds)) ≡ cond b 0 k
 one-fails [] k b ds h g = ap (λ (r : ℕ). cond b r k) (none-fails ds g)
 one-fails (check j true ∷ cs) k b ds h g = one-fails cs k b ds (h .1) g
 one-fails (check j false ∷ cs) k b ds h g = absurd (h .0)
 
--- no check has the number k
+-- whether no check has the number k
 abbrev pub lacks : ℕ → List Check → Bool
 lacks k [] = true
 lacks k (check j b ∷ cs) = not (eqb j k) && lacks k cs
 
--- then it is not given
+-- a number that no check has is not the refusal number
 pub never-given : (k : ℕ) (cs : List Check) → T (lacks (suc k) cs) → firstFailing cs ≡ suc k → ⊥
 never-given k [] h e = absurd (omega arith)
 never-given k (check j true ∷ cs) h e = never-given k cs (and-iff (not (eqb j (suc k))) (lacks (suc k) cs) .0 h .1) e
@@ -84,7 +84,7 @@ never-given k (check j false ∷ cs) h e = go (eqb j (suc k)) refl (and-iff (not
     go true q n = n
     go false q n = absurd (subst T q (eqb-iff j (suc k) .1 e))
 
--- no number above a bound is given
+-- whether no check has a number above `most`
 abbrev pub numbersMost : ℕ → List Check → Bool
 numbersMost most [] = true
 numbersMost most (check k b ∷ cs) = leb k most && numbersMost most cs
@@ -94,7 +94,7 @@ failing-most most [] h = zero-le
 failing-most most (check k true ∷ cs) h = failing-most most cs (and-iff (leb k most) (numbersMost most cs) .0 h .1)
 failing-most most (check k false ∷ cs) h = leb→le k most (and-iff (leb k most) (numbersMost most cs) .0 h .0)
 
--- two groups, one after the other
+-- the refusal number of two groups in order is that of the first or else that of the second
 pub failing-append : (cs ds : List Check) → T (numbered cs)
     → firstFailing (cs ++ ds) ≡ orElse (firstFailing cs) (firstFailing ds)
 failing-append [] ds h = refl
@@ -102,13 +102,13 @@ failing-append (check zero b ∷ cs) ds h = absurd h
 failing-append (check (suc k) true ∷ cs) ds h = failing-append cs ds h
 failing-append (check (suc k) false ∷ cs) ds h = refl
 
--- ---- a group for each number
+-- ---- a group of checks for each number
 
 module _ (f : ℕ → List Check) (right : (k : ℕ) → T (numbered (f k))) where
   group : (k : ℕ) (ks : List ℕ) → firstFailing (join f (k ∷ ks)) ≡ orElse (firstFailing (f k)) (firstFailing (join f ks))
   group k ks = failing-append (f k) (join f ks) (right k)
 
-  -- nothing is refused where no group refuses
+  -- nothing is refused exactly when no group refuses
   pub failing-each : (ks : List ℕ) → (firstFailing (join f ks) ≡ 0) ↔ ((k : ℕ) → T (has k ks) → firstFailing (f k) ≡ 0)
   failing-each [] = (λ e k h. absurd h, λ h. refl)
   failing-each (k ∷ ks) = (
@@ -123,7 +123,7 @@ module _ (f : ℕ → List Check) (right : (k : ℕ) → T (numbered (f k))) whe
         (h k (has-cons k k ks .1 (inl refl)), failing-each ks .1 (λ j l. h j (has-cons j k ks .1 (inr l)))),
   )
 
-  -- and otherwise the number is that of a group before which none refuses
+  -- otherwise the refusal number is that of the first group that refuses
   pub failing-first : (a c : ℕ) → ¬ (firstFailing (join f (upFrom a c)) ≡ 0)
       → (k : ℕ) × (k < c) × (firstFailing (f (a + k)) ≡ firstFailing (join f (upFrom a c)))
       × ((j : ℕ) → j < k → firstFailing (f (a + j)) ≡ 0)
@@ -159,7 +159,7 @@ module _ (f : ℕ → List Check) (right : (k : ℕ) → T (numbered (f k))) whe
       go (suc r) e later =
           (0, suc-le-suc zero-le, at (a + 0) a (front 0 refl) ∙ e ∙ sym (whole (suc r) e), λ j l. absurd (not-suc-le-zero l))
 
-  -- where each group refuses nothing or n by a test, all tests together
+  -- if each group gives 0 or suc n by a test, all groups together give 0 where all tests pass and suc n otherwise
   pub failing-tests : (n : ℕ) (test : ℕ → Bool) (ks : List ℕ) → ((k : ℕ) → T (has k ks) → firstFailing (f k) ≡ cond (test k) 0 (suc n))
       → firstFailing (join f ks) ≡ cond (all test ks) 0 (suc n)
   failing-tests n test [] h = refl

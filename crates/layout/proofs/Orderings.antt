@@ -1,4 +1,5 @@
--- The generator's ordering is a permutation, whatever is drawn: an exchange keeps a list's numbers apart and below its length.
+-- The generator's ordering is a permutation, whatever is drawn: exchanging two entries keeps a list duplicate-free and its numbers below
+-- its length.
 use Prim.Native.Nat.{ℕ, zero, suc, _+_, _-_, _%_, _<_}
 use native.Mathlib.Nat.{mod-lt, zero-lt-suc}
 use native.Mathlib.Numerals.{add-one}
@@ -22,7 +23,7 @@ module _ (i k : ℕ) (xs : List ℕ) (li : i < length xs) (lk : k < length xs) w
   pub length-exchange : length (exchange i k xs) ≡ length xs
   length-exchange = length-set (set xs i (getD xs k 0)) k (getD xs i 0) ∙ length-set xs i (getD xs k 0)
 
-  -- place j has what stood at place o
+  -- after the exchange, index j holds the entry that was at index o
   abbrev From : ℕ → ℕ → Type 0
   From j o = ((j ≡ k) × (o ≡ i)) ⊎ (((j ≡ i) × (o ≡ k) × (j ≡ k → ⊥)) ⊎ ((o ≡ j) × (j ≡ k → ⊥) × (j ≡ i → ⊥)))
 
@@ -81,7 +82,7 @@ module _ (i k : ℕ) (xs : List ℕ) (li : i < length xs) (lk : k < length xs) w
 
 -- ---- the exchanges
 
--- entries k down to 1 of a permutation exchanged with earlier ones
+-- exchanging each entry from k down to 1 of a permutation with one at or before it gives a permutation of the same length
 pub exchanges-permute : (k s : ℕ) (xs : List ℕ) → k < length xs → T (isPermutation xs)
     → T (isPermutation (exchanges k s xs)) × (length (exchanges k s xs) ≡ length xs)
 exchanges-permute zero s xs l h = (h, refl)
@@ -93,7 +94,7 @@ exchanges-permute (suc k) s xs l h =
     let (permutes, many) = exchanges-permute k d (exchange (suc k) o xs) (omega arith) (exchange-permutes (suc k) o xs l lo h) in
     (permutes, many ∙ e)
 
--- what a loop that counts i down has left
+-- the exchanges from i down are the one of entry i, then those from i - 1 down
 pub exchanges-step : (i s : ℕ) (xs : List ℕ) → 0 < i
     → exchanges i s xs ≡ exchanges (i - 1) (draw s) (exchange i (draw s % (i + 1)) xs)
 exchanges-step zero s xs l = absurd (omega arith)

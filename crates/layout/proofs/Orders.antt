@@ -1,5 +1,5 @@
--- Blocks with the last first: how long the result is, that a second turn undoes the first, and what the two routes' rows are to
--- each other.
+-- Reversing the order of blocks: the result's length, that a second reversal restores the order, and how the rows of the two routes
+-- correspond.
 use Prim.Native.Nat.{ℕ, zero, suc, _+_, _≤_, _<_}
 use native.Mathlib.Nat.{zero-add, not-suc-le-zero}
 use native.Mathlib.Omega.{arith}
@@ -7,7 +7,7 @@ use mathlib.Core.Path.{_≡_, refl, sym, ap, ap₂, subst, _∙_}
 use mathlib.Core.Bool.{Bool}
 use mathlib.Core.List.{List, [], _∷_, _++_, map, reverse, append-nil, append-assoc, map-append, map-map, reverse-cons, reverse-reverse}
 use lib.ListN.{length, getD, take, drop, length-append, length-map, length-drop, take-append-drop}
-use lib.Seq.{drop-cons, length-take-le, take-append-le, drop-append-le, take-append-seam, drop-append-seam, drop-append-add, take-take, take-add, drop-drop, take-at, drop-at}
+use lib.Seq.{length-take-le, take-append-le, drop-append-le, take-append-seam, drop-append-seam, drop-append-add, take-take, take-add, drop-drop, take-at, drop-at}
 use lib.Dec.{T}
 use Rattle.layout.specs.Lists.{all, sum, join, below, upFrom}
 use Rattle.layout.specs.Triangle.{triangle}
@@ -20,20 +20,20 @@ use Rattle.layout.proofs.Tests.{and-iff}
 use Rattle.layout.proofs.Walks.{all-append}
 use Rattle.layout.proofs.Members.{all-of-both, has-below, length-upFrom}
 use Rattle.layout.proofs.Joins.{map-same, map-join, map-drop, take-map, drop-map, join-same, length-join}
-use Rattle.layout.proofs.Starts.{join-append, sum-append, sum-take}
+use Rattle.layout.proofs.Starts.{join-append, sum-append}
 use Rattle.layout.proofs.Rows.{block-length, row-original}
 
 sum-reverse : (ks : List ℕ) → sum (reverse ks) ≡ sum ks
 sum-reverse [] = refl
 sum-reverse (k ∷ ks) = ap sum (reverse-cons k ks) ∙ omega (arith, sum-append (reverse ks) (k ∷ []), sum-reverse ks)
 
--- a block and the later ones are among all
+-- block c and the later blocks have at most as many rows as all blocks
 block-fits : (ks : List ℕ) (c : ℕ) → c < length ks → sum (drop (suc c) ks) + getD ks c 0 ≤ sum ks
 block-fits [] c l = absurd (not-suc-le-zero l)
 block-fits (k ∷ ks) zero l = omega arith
 block-fits (k ∷ ks) (suc c) l = omega (arith, block-fits ks c (omega arith))
 
--- ---- one group
+-- ---- one group of blocks
 
 module _ {A : Type 0} where
   pub length-last : (ks : List ℕ) (vs : List A) → sum ks ≤ length vs → length (lastFirst ks vs) ≡ sum ks
@@ -46,7 +46,7 @@ module _ {A : Type 0} where
         length-take-le k vs (omega arith),
       )
 
-  -- values past the last block do not count
+  -- values past the last block are ignored
   pub last-front : (ks : List ℕ) (vs ws : List A) → sum ks ≤ length vs → lastFirst ks (vs ++ ws) ≡ lastFirst ks vs
   last-front [] vs ws l = refl
   last-front (k ∷ ks) vs ws l =
@@ -54,7 +54,7 @@ module _ {A : Type 0} where
       (ap (lastFirst ks) (drop-append-le k vs ws (omega arith)) ∙ last-front ks (drop k vs) ws (omega (arith, length-drop k vs)))
       (take-append-le k vs ws (omega arith))
 
-  -- two lists of blocks, one after the other
+  -- reversing two appended lists of blocks puts the second list's blocks first
   last-append : (ks js : List ℕ) (vs ws : List A) → length vs ≡ sum ks
       → lastFirst (ks ++ js) (vs ++ ws) ≡ lastFirst js ws ++ lastFirst ks vs
   last-append [] js [] ws e = sym (append-nil (lastFirst js ws))
@@ -65,7 +65,7 @@ module _ {A : Type 0} where
       (take-append-le k vs ws (omega arith))
       ∙ append-assoc (lastFirst js ws) (lastFirst ks (drop k vs)) (take k vs)
 
-  -- a second turn, by the lengths from last to first, undoes the first
+  -- a second reversal, by the reversed lengths, restores the order
   last-back : (ks : List ℕ) (vs : List A) → sum ks ≤ length vs → lastFirst (reverse ks) (lastFirst ks vs) ≡ take (sum ks) vs
   last-back [] vs l = refl
   last-back (k ∷ ks) vs l =
@@ -75,24 +75,7 @@ module _ {A : Type 0} where
       ∙ ap₂ _++_ (take-take k k vs (omega arith)) (last-back ks (drop k vs) rest)
       ∙ sym (take-add k (sum ks) vs)
 
-  -- one block more: read from the first on, it is written before the others; read from the last on, after them
-  pub last-more : (ks : List ℕ) (k : ℕ) (vs : List A) → lastFirst (ks ++ (k ∷ [])) vs ≡ take k (drop (sum ks) vs) ++ lastFirst ks vs
-  last-more [] k vs = sym (append-nil (take k vs))
-  last-more (j ∷ ks) k vs =
-      ap (λ (r : List A). r ++ take j vs)
-      (last-more ks k (drop j vs) ∙ ap (λ (r : List A). take k r ++ lastFirst ks (drop j vs)) (drop-drop (sum ks) j vs))
-      ∙ append-assoc (take k (drop (j + sum ks) vs)) (lastFirst ks (drop j vs)) (take j vs)
-
-  pub last-step : (ks : List ℕ) (vs : List A) (c : ℕ) → c < length ks
-      → lastFirst (drop c ks) (drop (sum (take c ks)) vs)
-      ≡ lastFirst (drop (suc c) ks) (drop (sum (take (suc c) ks)) vs) ++ take (getD ks c 0) (drop (sum (take c ks)) vs)
-  last-step ks vs c l =
-      let a : ℕ = sum (take c ks) in
-      ap (λ (js : List ℕ). lastFirst js (drop a vs)) (drop-cons ks c 0 l)
-      ∙ ap (λ (ws : List A). lastFirst (drop (suc c) ks) ws ++ take (getD ks c 0) (drop a vs))
-      (drop-drop (getD ks c 0) a vs ∙ ap (λ (n : ℕ). drop n vs) (sym (sum-take ks c l)))
-
-  -- block c, which has the later blocks before it and had the earlier ones
+  -- block c has the later blocks before it after the reversal, and the earlier ones before the reversal
   last-block : (ks : List ℕ) (vs : List A) (c : ℕ) → sum ks ≤ length vs → c < length ks
       → take (getD ks c 0) (drop (sum (drop (suc c) ks)) (lastFirst ks vs)) ≡ take (getD ks c 0) (drop (sum (take c ks)) vs)
   last-block [] vs c l m = absurd (not-suc-le-zero m)
@@ -109,7 +92,7 @@ module _ {A : Type 0} where
       ∙ last-block ks (drop k vs) c rest (omega arith)
       ∙ ap (take (getD ks c 0)) (drop-drop (sum (take c ks)) k vs)
 
--- lists joined, and joined from last to first
+-- reversing the blocks of a join gives the join from last to first
 last-join : {A B : Type 0} (g : B → List A) (cs : List B) (rest : List A)
     → lastFirst (map (λ c. length (g c)) cs) (join g cs ++ rest) ≡ join g (reverse cs)
 last-join g [] rest = refl
@@ -123,7 +106,7 @@ last-join {A} g (c ∷ cs) rest =
     ∙ sym (ap (join g) (reverse-cons c cs) ∙ join-append g (reverse cs) (c ∷ [])
     ∙ ap (λ (xs : List A). join g (reverse cs) ++ xs) (append-nil (g c)))
 
--- a test of the values
+-- a test that all values pass is passed by all values after the reversal
 module _ {A : Type 0} (q : A → Bool) where
   all-part : (k : ℕ) (vs : List A) → T (all q vs) → T (all q (take k vs)) × T (all q (drop k vs))
   all-part k vs h =
@@ -141,7 +124,7 @@ module _ {A : Type 0} (q : A → Bool) where
       all-of-both q (lastFirst ks vs) (groupsLastFirst kss (drop (sum ks) vs)) (last-all ks vs h)
       (groups-all kss (drop (sum ks) vs) (all-part (sum ks) vs h .1))
 
--- a rule applied to the values
+-- mapping a function over the values commutes with the reversal
 module _ {A B : Type 0} (f : A → B) where
   last-map : (ks : List ℕ) (vs : List A) → lastFirst ks (map f vs) ≡ map f (lastFirst ks vs)
   last-map [] vs = refl
@@ -155,7 +138,7 @@ module _ {A B : Type 0} (f : A → B) where
       ap₂ _++_ (last-map ks vs) (ap (groupsLastFirst kss) (drop-map f (sum ks) vs) ∙ groups-map kss (drop (sum ks) vs))
       ∙ sym (map-append f (lastFirst ks vs) (groupsLastFirst kss (drop (sum ks) vs)))
 
--- ---- group after group
+-- ---- several groups of blocks
 
 module _ {A : Type 0} where
   length-groups : (kss : List (List ℕ)) (vs : List A) → sum (map sum kss) ≤ length vs
@@ -232,7 +215,7 @@ lengths-again [] = refl
 lengths-again (x ∷ ps) =
     ap₂ {C = List (List ℕ)} (λ (ks : List ℕ) (kss : List (List ℕ)). ks ∷ kss) (reverse-reverse (blockLengths x)) (lengths-again ps)
 
--- one part, and the parts after it
+-- the compact order of parts is that of the first part, then that of the parts after it
 pub length-part : {A : Type 0} (x : Part) (vs : List A) → partRows x ≤ length vs → length (lastFirst (blockLengths x) vs) ≡ partRows x
 length-part x vs l = length-last (blockLengths x) vs (omega (arith, sum-lengths x)) ∙ sum-lengths x
 
@@ -240,7 +223,7 @@ pub compact-cons : {A : Type 0} (x : Part) (ps : List Part) (vs : List A)
     → compactOrder (x ∷ ps) vs ≡ lastFirst (blockLengths x) vs ++ compactOrder ps (drop (partRows x) vs)
 compact-cons x ps vs = ap (λ (n : ℕ). lastFirst (blockLengths x) vs ++ compactOrder ps (drop n vs)) (sum-lengths x)
 
--- the first compact row of a clique's block has the rows of the later cliques before it
+-- on the compact route a clique's block starts after the rows of the later cliques
 pub first-row : (i row k : ℕ) (p : Pattern) (first c : ℕ) → firstRow p first c ≡ first + sum (drop (suc c) (blockLengths (cut i row k p)))
 first-row i row k p first c =
     ap (λ (ks : List ℕ). first + sum ks) (sym (drop-map (λ (q : Clique). triangle (blockSize q)) (suc c) (p .cliques)))
@@ -253,7 +236,7 @@ module _ {A : Type 0} (ps : List Part) (vs : List A) (e : length vs ≡ blockRow
   length-standard =
       length-groups (map (λ x. reverse (blockLengths x)) ps) vs (omega (arith, all-lengths-back ps)) ∙ all-lengths-back ps
 
-  -- the two orders undo each other
+  -- the two orders are inverse to each other
   pub standard-compact : standardOrder ps (compactOrder ps vs) ≡ vs
   standard-compact =
       ap (λ (kss : List (List ℕ)). groupsLastFirst kss (compactOrder ps vs)) (sym (lengths-back ps))
@@ -267,12 +250,12 @@ module _ {A : Type 0} (ps : List Part) (vs : List A) (e : length vs ≡ blockRow
 pub compact-map : {A B : Type 0} (f : A → B) (ps : List Part) (vs : List A) → compactOrder ps (map f vs) ≡ map f (compactOrder ps vs)
 compact-map f ps vs = groups-map f (map blockLengths ps) vs
 
--- what holds of every value holds of every value moved
+-- a test that all values pass is passed by all values in compact order
 pub all-compact : {A : Type 0} (q : A → Bool) (ps : List Part) (vs : List A) → T (all q vs) → T (all q (compactOrder ps vs))
 all-compact q ps vs h = groups-all q (map blockLengths ps) vs h
 
--- The block of clique c of a part moves as it is: on the standard route the part's earlier cliques stand before it, on the compact
--- route the later ones.
+-- The block of clique c of a part moves unchanged: on the standard route it comes after the part's earlier cliques, on the compact
+-- route after the later ones.
 pub block-moved : {A : Type 0} (qs : List Part) (x : Part) (rs : List Part) (vs : List A) (c : ℕ)
     → length vs ≡ blockRowCount (qs ++ (x ∷ rs)) → c < length (blockLengths x)
     → take (getD (blockLengths x) c 0) (drop (blockRowCount qs + sum (drop (suc c) (blockLengths x))) (compactOrder (qs ++ (x ∷ rs)) vs))
@@ -289,7 +272,7 @@ block-moved {A} qs x rs vs c e l =
 -- ---- blocks by clique
 
 module _ {A : Type 0} (f : Part → ℕ → List A) where
-  -- f gives the values of each clique's block; a cone that is not decomposed has block 0 alone
+  -- a part's values, cliques from first to last: f gives the values of each clique's block, and an undecomposed cone has only block 0
   abbrev pub firstToLast : Part → List A
   firstToLast (whole i c row) = f (whole i c row) 0
   firstToLast (cut i row k p) = join (f (cut i row k p)) (below (cliqueCount p))
@@ -298,7 +281,7 @@ module _ {A : Type 0} (f : Part → ℕ → List A) where
   lastToFirst (whole i c row) = f (whole i c row) 0
   lastToFirst (cut i row k p) = join (f (cut i row k p)) (reverse (below (cliqueCount p)))
 
-  -- a value for each row of the block
+  -- f gives one value for each row of each block
   abbrev pub Sized : List Part → Type 0
   Sized [] = Unit {0}
   Sized (whole i c row ∷ ps) = (length (f (whole i c row) 0) ≡ rowCount c) × Sized ps
@@ -314,7 +297,7 @@ module _ {A : Type 0} (f : Part → ℕ → List A) where
       (λ c m. h c (has-below c (cliqueCount p) .0 m))
       ∙ sym (map-drop size noClique (p .cliques) 0 (cliqueCount p) (omega arith))
 
-  -- each clique's block of the standard order stands in the compact order as that clique's block
+  -- the compact order of the values with cliques from first to last is the values with cliques from last to first
   pub order-blocks : (ps : List Part) → Sized ps → compactOrder ps (join firstToLast ps) ≡ join lastToFirst ps
   order-blocks [] h = refl
   order-blocks (whole i c row ∷ ps) h =
@@ -336,7 +319,7 @@ module _ {A : Type 0} (f : Part → ℕ → List A) where
 
 -- ---- the original rows of the blocks
 
--- the original row of each row of a block
+-- the original row of each row of clique d's block
 abbrev blockOriginals : Part → ℕ → List ℕ
 blockOriginals (whole i c row) d = upFrom row (rowCount c)
 blockOriginals (cut i row k p) d = map (pairRow row) (block p d)
@@ -352,7 +335,8 @@ pair-original p base first c [] = refl
 pair-original p base first c (pair i j ∷ xs) =
     ap₂ {C = List ℕ} (λ (o : ℕ) (os : List ℕ). o ∷ os) (row-original p base first c i j) (pair-original p base first c xs)
 
-kept-original : (os : List ℕ) → map originalRow (map kept os) ≡ os
+-- kept rows have the original rows that they are made of
+pub kept-original : (os : List ℕ) → map originalRow (map kept os) ≡ os
 kept-original [] = refl
 kept-original (o ∷ os) = ap {B = List ℕ} (λ r. o ∷ r) (kept-original os)
 
@@ -378,7 +362,7 @@ originals-sized row (cut i r k p ∷ ps) h = (
   originals-sized (row + triangle (p .vertexCount)) ps (h .2),
 )
 
--- the rows of H in compact order are the original rows of the compact rows
+-- the original rows of H's columns, put in compact order, are those of the compact route's rows
 pub rows-order : (first row : ℕ) (ps : List Part) → Laid row ps
     → map originalRow (rowsFrom first ps) ≡ compactOrder ps (standardRows ps)
 rows-order first row ps h =

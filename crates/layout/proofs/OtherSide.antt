@@ -1,4 +1,4 @@
--- A problem with another right side: of the compact route's checks only 4, for its length, and 9, for its values, look at b.
+-- A problem with another right side b: of the compact route's checks only check 4 (b's length) and check 9 (b's values) depend on b.
 use Prim.Native.Nat.{ℕ}
 use mathlib.Core.Path.{_≡_, refl, ap, _∙_}
 use mathlib.Core.Bool.{Bool, cond, _&&_}
@@ -14,12 +14,12 @@ use Rattle.layout.proofs.Tests.{and-iff, and-true, eqb-iff, passed}
 use Rattle.layout.proofs.Order.{passing, passed as check-passed, one-fails}
 use Rattle.layout.proofs.Cut.{covered-entries}
 
--- the values of b stand on covered rows
+-- whether every nonzero value of b is on a covered row
 abbrev pub covers : Problem → List Float → Bool
 covers p b = valuesOn (coveredRows (layout p)) (p .m) b
 
 module _ (p : Problem) where
-  -- the results differ in b only
+  -- the results of the cut differ only in b
   pub other-results : (b : List Float) → augmented compact (withB p b) ≡ augmentedWithB (augmented compact p) (compactB (withB p b))
   other-results b = refl
 
@@ -27,14 +27,14 @@ module _ (p : Problem) where
     test : (k : ℕ) → T (passing k (checks compact p))
     test k = check-passed k (checks compact p) tt ok
 
-    -- a right side that is as long passes check 4
+    -- a right side of length m passes check 4
     other-lengths : (b : List Float) → length b ≡ p .m → T (check4 (withB p b))
     other-lengths b e =
         let others : Bool = conesRead (p .m) (p .cones) && alphasAsMany (p .cones) (p .alphas) && eqb (length (p .q)) (p .n) in
         and-iff others (eqb (length b) (p .m)) .1
         (and-iff others (eqb (length (p .b)) (p .m)) .0 (test 4) .0, eqb-iff (length b) (p .m) .1 e)
 
-    -- the refusal of a problem with another right side, where the problem itself is accepted
+    -- the refusal number of an accepted problem with another right side of length m
     pub other-refusal : (b : List Float) → length b ≡ p .m → refusal compact (withB p b) ≡ cond (covers p b) 0 9
     other-refusal b e =
         let entries : Bool = entriesOn (coveredRows (layout p)) (p .A) in

@@ -1,4 +1,4 @@
--- Pattern words: what is read, written again, is the words, and the words of patterns are read as these patterns.
+-- Pattern words: writing what was read gives the words back, and reading the words of patterns gives these patterns.
 use Prim.Native.Nat.{ℕ, zero, suc, _≤_}
 use native.Mathlib.Omega.{arith}
 use mathlib.Core.Path.{_≡_, refl, sym, ap, ap₂, _∙_}
@@ -12,15 +12,15 @@ use Rattle.layout.specs.Patterns.{Read, read, short, andThen, Clique, Pa
 use Rattle.layout.proofs.Tests.{and-iff, eqb-iff, cond-passed}
 use Rattle.layout.proofs.Reading.{orderingFits}
 
--- ---- what was read, and the words after it, are the words
+-- ---- the words are those of what was read, then the words after it
 
 module _ {A : Type 0} where
-  -- what is read, if anything is, and the words after it are P
+  -- P holds of what was read and the words after it, if anything was read
   abbrev pub After : (A → List ℕ → Type 0) → Read A → Type 0
   After P (read a left) = P a left
   After P short = Unit {0}
 
-  -- where the words end with it
+  -- if the words end with what was read, P holds of it with no words after it
   pub after-wholly : (P : A → List ℕ → Type 0) (none : A) (r : Read A) → After P r → T (endsRight r) → P (wholly none r) []
   after-wholly P none (read a []) h e = h
   after-wholly P none (read a (w ∷ ws)) h e = absurd e
@@ -43,7 +43,7 @@ members-after k ws = pick (leb k (length ws)) (leb→le k (length ws))
     pick false h = tt
 
 module _ {A : Type 0} (words : A → List ℕ) where
-  -- one, and k of them, by their words
+  -- ws are the words of a (`OneOf`) or of k elements (`ManyOf`), then the words `left`
   abbrev pub OneOf : List ℕ → A → List ℕ → Type 0
   OneOf ws a left = ws ≡ words a ++ left
 
@@ -58,7 +58,7 @@ module _ {A : Type 0} (words : A → List ℕ) where
       after-then (ManyOf k left) (ManyOf (suc k) ws) (readMany one k left) _ (many-after one h k left) (λ xs end g.
       (e ∙ ap (λ (l : List ℕ). words a ++ l) (g .0) ∙ sym (append-assoc (words a) (join words xs) end), ap suc (g .1))))
 
-  -- words of as many, read back
+  -- the words of a list, read as that many elements, give the list
   pub many-read : (one : List ℕ → Read A) (fits : A → Bool) → ((a : A) (left : List ℕ) → T (fits a) → one (words a ++ left) ≡ read a left)
       → (xs : List A) (left : List ℕ) → T (all fits xs) → readMany one (length xs) (join words xs ++ left) ≡ read xs left
   many-read one fits h [] left k = refl
@@ -98,7 +98,7 @@ pattern-after ws =
     ∙ ap₂ (λ (n : ℕ) (l : List ℕ). h .origIndex ∷ h .vertexCount ∷ n ∷ (h .ordering ++ l)) (sym (g .1)) (g .0)
     ∙ ap (λ (l : List ℕ). h .origIndex ∷ h .vertexCount ∷ length cs ∷ l) (sym (append-assoc (h .ordering) (join cliqueWords cs) left))))
 
--- words that neither end early nor late are those of their patterns, as many as the count says
+-- words that end neither early nor late are the words of their patterns, whose number is `count`
 pub words-of-patterns : (count : ℕ) (ws : List ℕ) → T (endsRight (readPatterns count ws))
     → (ws ≡ join patternWordsOf (patterns count ws)) × (length (patterns count ws) ≡ count)
 words-of-patterns count ws e =
@@ -106,7 +106,7 @@ words-of-patterns count ws e =
     (many-after patternWordsOf readPattern pattern-after count ws) e in
     (same ∙ append-nil (join patternWordsOf (patterns count ws)), many)
 
--- ---- words read back
+-- ---- reading words back
 
 pub members-read : (xs left : List ℕ) → readMembers (length xs) (xs ++ left) ≡ read xs left
 members-read xs left =
@@ -134,7 +134,7 @@ pattern-read p left fits =
       cliques-read (p .cliques) left,
     )
 
--- the words of patterns whose orderings have an entry for each vertex
+-- the words of patterns whose orderings have one entry for each vertex are read as these patterns
 pub patterns-of-words : (ps : List Pattern) → T (all orderingFits ps) → readPatterns (length ps) (join patternWordsOf ps) ≡ read ps []
 patterns-of-words ps fits =
     ap (readPatterns (length ps)) (sym (append-nil (join patternWordsOf ps)))

@@ -1,4 +1,4 @@
--- The patterns and parts of a pool: the first's, then the second's raised.
+-- The patterns and parts of a pool: the first problem's, then the second's with raised numbers.
 use Prim.Native.Nat.{ℕ, suc, _+_, _≤_, _<_}
 use native.Mathlib.Omega.{arith}
 use mathlib.Core.Path.{_≡_, refl, sym, ap, ap₂, subst, _∙_}
@@ -23,14 +23,14 @@ use Rattle.layout.proofs.Accepted.{sound-ends, sound-rise, sound-whole,
 use Rattle.layout.proofs.Reading.{orderingFits, patterns-fit}
 use Rattle.layout.proofs.PatternWords.{words-of-patterns, patterns-of-words}
 
--- ---- parts one after the other
+-- ---- the parts of appended cones and patterns
 
--- the patterns' cones rise from number lo on and stay below hi
+-- whether the patterns' cone numbers strictly increase, are at least lo and are below hi
 abbrev Between : ℕ → ℕ → List Pattern → Type 0
 Between lo hi [] = Unit {0}
 Between lo hi (p ∷ ps) = (lo ≤ p .origIndex) × (p .origIndex < hi) × Between (suc (p .origIndex)) hi ps
 
--- the first pattern's cone has no number below hi
+-- whether the first pattern's cone number is at least hi
 abbrev Behind : ℕ → List Pattern → Type 0
 Behind hi [] = Unit {0}
 Behind hi (q ∷ qs) = hi ≤ q .origIndex
@@ -106,9 +106,9 @@ parts-append i row k hi (c ∷ cs) ds (p ∷ ps) qs e b f =
         above : (o i : ℕ) → i ≤ o → (o ≡ i → ⊥) → suc i ≤ o
         above o i l n = omega arith
 
--- ---- parts behind others
+-- ---- parts that follow others
 
--- a part behind k cones, r rows and t patterns
+-- a part with k cones, r rows and t patterns before it
 abbrev pub raisedPart : ℕ → ℕ → ℕ → Part → Part
 raisedPart k r t (whole i c row) = whole (k + i) c (r + row)
 raisedPart k r t (cut i row j p) = cut (k + i) (r + row) (t + j) (raisedPattern k p)
@@ -118,7 +118,7 @@ module _ (d r t : ℕ) where
   Raised i row k cs ps =
       partsFrom (d + i) (r + row) (t + k) cs (map (raisedPattern d) ps) ≡ map (raisedPart d r t) (partsFrom i row k cs ps)
 
-  -- the parts after the first
+  -- the parts after the first are raised
   after-first : (i row k j : ℕ) (c : Cone) (cs : List Cone) (ps : List Pattern) → j ≡ t + k → Raised (suc i) (row + rowCount c) k cs ps
       → partsFrom (suc (d + i)) (r + row + rowCount c) j cs (map (raisedPattern d) ps)
       ≡ map (raisedPart d r t) (partsFrom (suc i) (row + rowCount c) k cs ps)
@@ -161,14 +161,14 @@ module _ (p q : Problem) (hp : Sound (p .m) (p .cones) (p .patternCount) (p .pat
   abbrev qs : List Pattern
   qs = patterns (q .patternCount) (q .patternWords)
 
-  -- the first's cone count
+  -- the first problem's cone count
   abbrev d : ℕ
   d = length (records (p .cones))
 
   abbrev raisedQs : List Pattern
   raisedQs = map (raisedPattern d) qs
 
-  -- the words read back
+  -- the pool's pattern words read back as the first's patterns, then the second's raised
   pool-read : readPatterns (p .patternCount + q .patternCount) (p .patternWords ++ raisedWords d qs) ≡ read (ps ++ raisedQs) []
   pool-read =
       let (words, many) = words-of-patterns (p .patternCount) (p .patternWords) (sound-ends hp) in
@@ -196,7 +196,7 @@ module _ (p q : Problem) (hp : Sound (p .m) (p .cones) (p .patternCount) (p .pat
   pub pool-records : records (pool p q .cones) ≡ records (p .cones) ++ records (q .cones)
   pool-records = records-append (p .cones) (q .cones) (sound-whole hp)
 
-  -- the pool's parts: the first's, then the second's raised by the first's cones, rows and patterns
+  -- the pool's parts: the first problem's, then the second's raised by the first's numbers of cones, rows and patterns
   pub pool-layout : layout (pool p q)
       ≡ layout p ++ map (raisedPart (length (records (p .cones))) (p .m) (p .patternCount)) (layout q)
   pool-layout =

@@ -1,4 +1,4 @@
--- A pool of two problems that pass checks 1 to 7 with the same n passes them too, but for three bounds of check 1.
+-- A pool of two problems with the same n that pass checks 1 to 7 passes them too, unless it exceeds one of three bounds of check 1.
 use Prim.Native.Nat.{ℕ, zero, suc, _+_, _≤_, _<_}
 use native.Mathlib.Nat.{le-refl}
 use native.Mathlib.Omega.{arith}
@@ -28,13 +28,13 @@ use Rattle.layout.proofs.Records.{whole-append}
 use Rattle.layout.proofs.Accepted.{sound-rise, sound-names, sound-orders, sound-whole, sound-reads, sound-cone-rows, sound-inside}
 use Rattle.layout.proofs.Pool.{pool-ends, pool-patterns, pool-records}
 
--- what checks 1 to 7 can still refuse in a pool of two problems that pass them with the same n: bounds of check 1
+-- whether the pool is within the bounds of check 1 that it can exceed although both problems pass checks 1 to 7 with the same n
 abbrev pub poolBounded : Problem → Problem → Bool
 poolBounded p q =
     leb (p .m + q .m) 65536 && leb (length (p .A .values) + length (q .A .values)) 262144
     && leb (length (records (p .cones)) + length (records (q .cones))) 1024
 
--- ---- the rows of a problem's columns lie inside
+-- ---- the row indices of A are below m
 
 pub rows-inside : (p : Problem) → Checked p → (c r : ℕ) → c < p .n → T (has r (rowsOf (column (p .A) c))) → r < p .m
 rows-inside p h c r l k =
@@ -43,7 +43,7 @@ rows-inside p h c r l k =
     ltb-iff r (p .m) .0 (all-has (λ r. ltb r (p .m)) (rowsOf (column (p .A) c)) .0
     (subst T (sym (all-map (λ r. ltb r (p .m)) (λ (e : Entry). e .row) (column (p .A) c))) inside) r k)
 
--- ---- A over A
+-- ---- one A stacked above the other
 
 pub raised-length : (k : ℕ) (es : List Entry) → length (raisedEntries k es) ≡ length es
 raised-length k es = length-map {B = Entry} es (λ e. record { row = k + e .row; value = e .value })
@@ -76,7 +76,7 @@ module _ (n k : ℕ) (M N : Csc) where
       starts-right n (csc (stackedColumns n k M N))
       (subst (λ (j : ℕ). T (startsRight j (csc (stackedColumns n k M N)))) stacked-count (csc-starts (stackedColumns n k M N)))
 
-  -- a column starts behind what stands before it in both
+  -- a stacked column starts at the sum of its starts in M and in N
   pub stacked-starts : RightStarts n M → RightStarts n N → (c : ℕ) → c ≤ n
       → getD (csc (stackedColumns n k M N) .starts) c 0 ≡ getD (M .starts) c 0 + getD (N .starts) c 0
   stacked-starts rightM rightN zero l = stacked-right .zeroth ∙ omega (arith, rightM .zeroth, rightN .zeroth)
@@ -99,7 +99,7 @@ module _ (n k : ℕ) (M N : Csc) where
 
 -- ---- the checks
 
--- a pattern that names its cone among cs names it among ds, where the cone of number o is the same
+-- a pattern that names its cone in cs also names it in ds, by number o, if the cone of number o in ds is the same
 names-elsewhere : (cs ds : List Cone) (x : Pattern) (o : ℕ)
     → (x .origIndex < length cs → (o < length ds) × (getD ds o noCone ≡ getD cs (x .origIndex) noCone)) → T (namesItsCone cs x)
     → T (namesItsCone ds (record { origIndex = o; vertexCount = x .vertexCount; ordering = x .ordering; cliques = x .cliques }))
@@ -137,7 +137,7 @@ module _ (p q : Problem) (hp : Checked p) (hq : Checked q) (same : p .n ≡ q .n
   abbrev raisedQs : List Pattern
   raisedQs = map (raisedPattern d) qs
 
-  -- the second's rows in the pool
+  -- in the pool, row indices from the second problem are at least the first's m and below the sum of both m
   raised-inside : (c r : ℕ) → c < p .n → T (has r (map (λ r. p .m + r) (rowsOf (column (q .A) c)))) → (p .m ≤ r) × (r < p .m + q .m)
   raised-inside c r l k =
       let (i, li, e) = has-map 0 (λ r. p .m + r) r (rowsOf (column (q .A) c)) .0 k in
@@ -179,7 +179,7 @@ module _ (p q : Problem) (hp : Checked p) (hq : Checked q) (same : p .n ≡ q .n
   three : T (check3 (pool p q))
   three = and-iff (rowsInOrder (p .m + q .m) (p .n) (csc cs)) (rowsRight (p .n) (p .n) (p .P)) .1 (rows-right, hp .rowsP)
 
-  -- a sum over the records of both
+  -- a sum over the cone records of the pool is the sum over both problems' records
   records-sum : (f : Cone → ℕ) → sum (map f (records (p .cones ++ q .cones))) ≡ sum (map f (records (p .cones))) + sum (map f (records (q .cones)))
   records-sum f =
       ap (λ (r : List Cone). sum (map f r)) (pool-records p q (hp .sound) (hq .sound))
@@ -229,7 +229,7 @@ module _ (p q : Problem) (hp : Checked p) (hq : Checked q) (same : p .n ≡ q .n
         eqb-iff (length (p .b ++ q .b)) (p .m + q .m) .1 (omega (arith, length-append (p .b) (q .b), hp .lengthB, hq .lengthB)),
       )
 
-  -- what every pattern of both passes, whatever its orig_index, those of the pool pass
+  -- a test that ignores orig_index and that all patterns of both problems pass is passed by all patterns of the pool
   patterns-all : (f : Pattern → Bool) → ((x : Pattern) → f (raisedPattern d x) ≡ f x) → T (all f ps) → T (all f qs)
       → T (all f (patterns (pool p q .patternCount) (pool p q .patternWords)))
   patterns-all f free h k =
@@ -300,15 +300,12 @@ module _ (p q : Problem) (hp : Checked p) (hq : Checked q) (same : p .n ≡ q .n
   seven : T (all cliquesRight (patterns (pool p q .patternCount) (pool p q .patternWords)))
   seven = patterns-all cliquesRight (λ x. refl) (hp .sound .cliques) (hq .sound .cliques)
 
-  -- ---- what is left
+  -- ---- what can still fail
 
   -- of checks 1 to 7 only check 1 can refuse the pool
   pub pool-refusal : problemRefusal (pool p q) ≡ cond (check1 (pool p q)) 0 1
   pool-refusal =
       one-fails [] 1 (check1 (pool p q)) (drop 1 (problemChecks (pool p q))) tt (two, (three, (four, (five, (six, (seven, tt))))))
-
-  pub pool-checked : T (check1 (pool p q)) → problemRefusal (pool p q) ≡ 0
-  pool-checked h = pool-refusal ∙ ap (λ (b : Bool). cond b 0 1) (passed (check1 (pool p q)) h)
 
   -- ---- check 1
 
@@ -318,17 +315,13 @@ module _ (p q : Problem) (hp : Checked p) (hq : Checked q) (same : p .n ≡ q .n
   pub right-second : RightStarts (p .n) (q .A)
   right-second = subst (λ (n : ℕ). RightStarts n (q .A)) (sym same) (starts-right (q .n) (q .A) (hq .startsA))
 
-  -- a column of the pool's A starts behind what stands before it in both
-  pub pool-starts : (c : ℕ) → c ≤ p .n → getD (pool p q .A .starts) c 0 ≡ getD (p .A .starts) c 0 + getD (q .A .starts) c 0
-  pool-starts c l = stacked-starts (p .n) (p .m) (p .A) (q .A) right-first right-second c l
-
   pub pool-entries : length (pool p q .A .values) ≡ length (p .A .values) + length (q .A .values)
   pool-entries = stacked-entries (p .n) (p .m) (p .A) (q .A) right-first right-second
 
   pub pool-cone-count : length (records (pool p q .cones)) ≡ length (records (p .cones)) + length (records (q .cones))
   pool-cone-count = ap length (pool-records p q (hp .sound) (hq .sound)) ∙ length-append (records (p .cones)) (records (q .cones))
 
-  -- of check 1 only three bounds can refuse it
+  -- of check 1 only three bounds can fail
   pub pool-bounds : check1 (pool p q) ≡ poolBounded p q
   pool-bounds =
       let cones = p .cones ++ q .cones in

@@ -1,4 +1,4 @@
--- What the cuts write of a pool: the first's rows above the second's, its added columns before the second's.
+-- What the cuts write for a pool: the first problem's rows above the second's, and its added columns before the second's.
 use Prim.Native.Nat.{ℕ, suc, _+_, _≤_, _<_}
 use native.Mathlib.Omega.{arith}
 use mathlib.Core.Path.{_≡_, refl, sym, ap, ap₂, subst, fun-ext, _∙_}
@@ -38,15 +38,15 @@ use Rattle.layout.proofs.RowSums.{linkColumn, overlap-columns}
 use Rattle.layout.proofs.Pool.{raisedPart, pool-layout}
 use Rattle.layout.proofs.PoolChecks.{raised-rows, rows-inside, stacked-column}
 
--- ---- rows behind others
+-- ---- rows that follow others
 
--- an augmented row behind r original and a augmented rows
+-- an augmented row with r original and a augmented rows before it
 abbrev pub raisedRow : ℕ → ℕ → Row → Row
 raisedRow r a (kept o) = kept (r + o)
 raisedRow r a (owned o) = owned (r + o)
 raisedRow r a (overlap o q) = overlap (r + o) (a + q)
 
--- the first row of a clique's block, where a rows stand before
+-- with a augmented rows before it, the first row of a clique's block is raised by a
 pub first-row-raised : (p : Pattern) (d a first c : ℕ) → firstRow (raisedPattern d p) (a + first) c ≡ a + firstRow p first c
 first-row-raised p d a first c = omega arith
 
@@ -88,7 +88,7 @@ module _ (d r t a : ℕ) where
       (ap (λ (f : ℕ). rowsFrom f (map (raisedPart d r t) ps)) next ∙ rows-raised (first + blockRows p) ps)
       ∙ sym (map-append (raisedRow r a) (patternRows p row first) (rowsFrom (first + blockRows p) ps))
 
--- the rows of parts one after the other
+-- the rows of appended parts are those of the first list, then those of the second
 pub rows-append : (first : ℕ) (ps qs : List Part) → rowsFrom first (ps ++ qs) ≡ rowsFrom first ps ++ rowsFrom (first + blockRowCount ps) qs
 rows-append first [] qs = ap (λ (f : ℕ). rowsFrom f qs) (omega arith)
 rows-append first (whole i c row ∷ ps) qs =
@@ -106,7 +106,7 @@ rows-append first (cut i row k p ∷ ps) qs =
 
 -- ---- the cone map
 
--- the map of parts one after the other
+-- the cone map of appended parts is that of the first list, then that of the second
 pub map-from-append : (first : ℕ) (ps qs : List Part)
     → mapFrom first (ps ++ qs) ≡ mapFrom first ps ++ mapFrom (first + blockRowCount ps) qs
 map-from-append first [] qs = ap (λ (f : ℕ). mapFrom f qs) (omega arith)
@@ -117,7 +117,7 @@ map-from-append first (x ∷ ps) qs =
     ∙ sym (append-assoc (mapPart first x) (mapFrom (first + partRows x) ps) (mapFrom (first + (partRows x + blockRowCount ps)) qs))
 
 module _ (d r t a : ℕ) where
-  -- and behind others
+  -- the cone map of raised parts has raised entries
   part-raised : (first : ℕ) (x : Part) → mapPart (a + first) (raisedPart d r t x) ≡ map (raisedMapEntry d t a) (mapPart first x)
   part-raised first (whole i c row) = refl
   part-raised first (cut i row k p) =
@@ -137,7 +137,7 @@ module _ (d r t a : ℕ) where
       (ap (λ (f : ℕ). mapFrom f (map (raisedPart d r t) ps)) next ∙ map-from-raised (first + partRows x) ps)
       ∙ sym (map-append (raisedMapEntry d t a) (mapPart first x) (mapFrom (first + partRows x) ps))
 
--- the words of raised entries
+-- the words of raised entries are the raised words
 raised-words : (k t a : ℕ) (es : List MapEntry) → Told es → mapWords (map (raisedMapEntry k t a) es) ≡ raisedMapWords k t a (mapWords es)
 raised-words k t a [] h = refl
 raised-words k t a (wholeCone i first rows ∷ es) h =
@@ -146,7 +146,7 @@ raised-words k t a (blockOf i j c first rows ∷ es) h =
     rw (ne-eqb j noPatternNumber (λ e. omega (arith, h .0)))
     (ap (λ (ws : List ℕ). (k + i) ∷ (t + j) ∷ c ∷ (a + first) ∷ rows ∷ ws) (raised-words k t a es (h .1)))
 
--- ---- repeats added
+-- ---- repeated entries summed
 
 raised-below : (m : ℕ) (fs : List Entry) (o : ℕ) → T (has o (rowsOf (raisedEntries m fs))) → m ≤ o
 raised-below m fs o k =
@@ -177,16 +177,16 @@ summed-inside : (m : ℕ) (es : List Entry) → ((o : ℕ) → T (has o (rowsOf 
 summed-inside m es inside o h =
     inside o (runs-has o (rowsOf es) .0 (subst (λ (rs : List ℕ). T (has o rs)) (summed-rows es) h))
 
--- entries es above fs
+-- summing repeats in es stacked above fs sums them in each of the two
 summed-stacked : (m : ℕ) (es fs : List Entry) → ((o : ℕ) → T (has o (rowsOf es)) → o < m)
     → summed (es ++ raisedEntries m fs) ≡ summed es ++ raisedEntries m (summed fs)
 summed-stacked m es fs inside =
     summed-append es (raisedEntries m fs) (λ x y h k. omega (arith, inside x h, raised-below m fs y k))
     ∙ ap (λ (l : List Entry). summed es ++ l) (summed-raised m fs)
 
--- ---- entries over rows
+-- ---- entries moved to augmented rows
 
--- no entry stands on row o
+-- no entry is on row o
 abbrev Off : ℕ → List Entry → Type 0
 Off o es = T (has o (rowsOf es)) → ⊥
 
@@ -210,7 +210,7 @@ keep-raised k o (e ∷ es) = rw (eqb-shift k (e .row) o, keep-raised k o es) (pi
     pick true = refl
     pick false = refl
 
--- entries that stand on row o, moved to row i: those of one of two lists
+-- moving the entries on row o to row i moves those of one of two appended lists, if the other has none on row o
 moved-first : (o i : ℕ) (es fs : List Entry) → Off o fs → moved o i (es ++ fs) ≡ moved o i es
 moved-first o i es fs n =
     ap (map {B = Entry} (λ e. record { row = i; value = e .value }))
@@ -241,7 +241,7 @@ row-second es fs i (kept o) n = moved-second o i es fs n
 row-second es fs i (owned o) n = moved-second o i es fs n
 row-second es fs i (overlap o q) n = refl
 
--- no entry stands on an original row of R
+-- no entry is on an original row of R
 abbrev AllOff : List Row → List Entry → Type 0
 AllOff R es = (o : ℕ) → T (has o (map originalRow R)) → Off o es
 
@@ -302,7 +302,7 @@ overlaps-append i (x ∷ R) S =
     (overlaps-append (suc i) R S ∙ ap (λ (j : ℕ). overlapColumns (suc i) R ++ overlapColumns j S) next)
     ∙ sym (append-assoc (overlapColumn i x) (overlapColumns (suc i) R) (overlapColumns (i + suc (length R)) S))
 
--- entries es above fs, over the rows R above S: no entry of one moves to a row of the other
+-- entries es stacked above fs, over the rows R above S: no entry of one moves to a row of the other
 pub stacked-augmented : (m a : ℕ) (R S : List Row) (es fs : List Entry) → length R ≡ a
     → ((o : ℕ) → T (has o (map originalRow R)) → o < m) → ((o : ℕ) → T (has o (rowsOf es)) → o < m)
     → augmentedColumn (es ++ raisedEntries m fs) 0 (R ++ map (raisedRow m a) S)
@@ -327,7 +327,7 @@ stacked-augmented m a R S es fs e inside above =
         (subst (λ (rs : List ℕ). T (has o rs)) (map-map originalRow (raisedRow m a) S) k) in
         omega (arith, e, raised-original (getD S i (kept 0)))
 
--- ---- columns given by a rule below n, and others after them
+-- ---- columns below n given by a function, followed by other columns
 
 pub csc-after : (f : ℕ → List Entry) (n : ℕ) (ds : List (List Entry)) (k : ℕ) → length ds ≡ k → columnsFrom n k (csc (map f (below n) ++ ds)) ≡ ds
 csc-after f n ds k e =
@@ -350,7 +350,7 @@ overlap-count {m} {cones} {count} {words} h =
     ap length (overlap-columns 0 rows) ∙ length-map (links 0 rows) linkColumn ∙ links-count 0 rows ∙ sound-overlaps h
 
 module _ (p q : Problem) (hp : Checked p) (hq : Checked q) where
-  -- the first's cone count and augmented rows
+  -- the first problem's cone count and its number of augmented rows
   abbrev d : ℕ
   d = length (records (p .cones))
 
@@ -369,7 +369,7 @@ module _ (p q : Problem) (hp : Checked p) (hq : Checked q) where
   abbrev laid : layout (pool p q) ≡ layout p ++ raisedParts
   laid = pool-layout p q (hp .sound) (hq .sound)
 
-  -- the second's rows start behind the first's: original rows behind its m, augmented ones behind its augmented rows
+  -- the second problem's rows follow the first's: original rows are raised by the first's m, augmented rows by its augmented row count
   pub pool-compact-rows : compactRows (layout (pool p q))
       ≡ compactRows (layout p) ++ map (raisedRow (p .m) (blockRowCount (layout p))) (compactRows (layout q))
   pool-compact-rows =
@@ -378,7 +378,7 @@ module _ (p q : Problem) (hp : Checked p) (hq : Checked q) where
       ∙ ap (λ (X : List Row). R ++ X)
       (ap (λ (i : ℕ). rowsFrom i raisedParts) start ∙ rows-raised d (p .m) (p .patternCount) a 0 (layout q))
 
-  -- what is added up over the parts
+  -- a sum over the pool's parts is the sum over both problems' parts, if raising a part does not change its term
   parts-sum : (f : Part → ℕ) → ((x : Part) → f (raisedPart d (p .m) (p .patternCount) x) ≡ f x)
       → sum (map f (layout (pool p q))) ≡ sum (map f (layout p)) + sum (map f (layout q))
   parts-sum f free =
@@ -387,13 +387,6 @@ module _ (p q : Problem) (hp : Checked p) (hq : Checked q) where
       ∙ ap (λ (xs : List ℕ). sum (map f (layout p)) + sum xs)
       (map-map f (raisedPart d (p .m) (p .patternCount)) (layout q) ∙ ap (λ (g : Part → ℕ). map g (layout q)) (fun-ext free))
 
-  pub pool-row-count : blockRowCount (layout (pool p q)) ≡ blockRowCount (layout p) + blockRowCount (layout q)
-  pool-row-count = parts-sum partRows free
-    where
-      free : (x : Part) → partRows (raisedPart d (p .m) (p .patternCount) x) ≡ partRows x
-      free (whole i c row) = refl
-      free (cut i row k x) = refl
-
   pub pool-overlap-count : overlapCount (layout (pool p q)) ≡ overlapCount (layout p) + overlapCount (layout q)
   pool-overlap-count = parts-sum partOverlaps free
     where
@@ -401,14 +394,14 @@ module _ (p q : Problem) (hp : Checked p) (hq : Checked q) where
       free (whole i c row) = refl
       free (cut i row k x) = refl
 
-  -- what is joined over the parts
+  -- a join over the pool's parts is the join over the first problem's parts, then over the second's raised parts
   parts-joined : {B : Type 0} (f : Part → List B)
       → join f (layout (pool p q)) ≡ join f (layout p) ++ join (λ x. f (raisedPart d (p .m) (p .patternCount) x)) (layout q)
   parts-joined {B} f =
       ap (join f) laid ∙ join-append f (layout p) raisedParts
       ∙ ap (λ (l : List B). join f (layout p) ++ l) (join-map f (raisedPart d (p .m) (p .patternCount)) (layout q))
 
-  -- the cone map: the second's entries follow the first's
+  -- the cone map: the second problem's entries follow the first's, raised
   pub pool-cone-map : coneMap (layout (pool p q))
       ≡ coneMap (layout p)
       ++ map (raisedMapEntry (length (records (p .cones))) (p .patternCount) (blockRowCount (layout p))) (coneMap (layout q))
@@ -442,7 +435,7 @@ module _ (p q : Problem) (hp : Checked p) (hq : Checked q) where
   pub pool-compact-q : compactQ (pool p q) ≡ p .q ++ replicate (overlapCount (layout p) + overlapCount (layout q)) zero64
   pool-compact-q = ap (λ (k : ℕ). p .q ++ replicate k zero64) pool-overlap-count
 
-  -- the first's original rows lie below its m
+  -- the original rows of the first problem's augmented rows are below its m
   covered-inside : (o : ℕ) → T (has o (map originalRow R)) → o < p .m
   covered-inside o k =
       let (i, l, e) = has-map (kept 0) originalRow o R .0 k in
@@ -478,7 +471,7 @@ module _ (p q : Problem) (hp : Checked p) (hq : Checked q) where
       under (overlap o t) = refl
 
   module _ (same : p .n ≡ q .n) where
-    -- the entries of a column of the first, and of the second, over their augmented rows
+    -- column c of the first problem over its augmented rows; `lower`: column c of the second over its own
     abbrev upper : ℕ → List Entry
     upper c = augmentedColumn (summed (column (p .A) c)) 0 R
 
@@ -505,7 +498,7 @@ module _ (p q : Problem) (hp : Checked p) (hq : Checked q) where
         ∙ ap (λ (l : List (List Entry)). overlapColumns 0 R ++ l)
         (ap (λ (i : ℕ). overlapColumns i (map (raisedRow (p .m) a) S)) start ∙ overlaps-raised (p .m) a 0 S))
 
-    -- the first's rows above the second's in each column, then the first's overlap columns, then the second's
+    -- each column has the first's rows above the second's; then come the first's overlap columns, then the second's
     pub pool-compact-A : compactA (pool p q)
         ≡ csc (stackedColumns (p .n) (blockRowCount (layout p)) (compactA p) (compactA q)
         ++ (columnsFrom (p .n) (overlapCount (layout p)) (compactA p)
@@ -529,7 +522,7 @@ module _ (p q : Problem) (hp : Checked p) (hq : Checked q) where
         (columnsFrom (p .n) (overlapCount (layout p)) (compactA p)
         ++ map (raisedEntries a) (columnsFrom (q .n) (overlapCount (layout q)) (compactA q))) c l
 
-    -- the whole cut
+    -- the pool's whole compact cut
     pub pool-compact : augmented compact (pool p q) ≡ pooledCut p q
     pool-compact = λ i. record {
       P = pool-compact-P i;
@@ -553,7 +546,7 @@ module _ (p q : Problem) (hp : Checked p) (hq : Checked q) where
       free (whole i c row) = refl
       free (cut i row k x) = refl
 
--- two passes that the compact route accepts: checks 1 to 7 of each are enough
+-- if the compact route accepts both problems and their n agree, `pooledCut` is the pool's compact cut
 pub accepted-pool : (p q : Problem) → refusal compact p ≡ 0 → refusal compact q ≡ 0 → p .n ≡ q .n
     → augmented compact (pool p q) ≡ pooledCut p q
 accepted-pool p q hp hq same = pool-compact p q (accepted-checked compact p hp) (accepted-checked compact q hq) same

@@ -1,5 +1,5 @@
--- The pool's call as code meets it: the order of its refusals with the pool's checks as three bounds, and each table of the pool
--- as a loop writes it.
+-- The pool call in the form that code uses: the order of its refusals, with the pool's own checks reduced to three bounds, and each table
+-- of the pool as a loop writes it.
 use Prim.Native.Nat.{ℕ, suc, _+_}
 use native.Mathlib.Omega.{arith}
 use mathlib.Core.Path.{_≡_, refl, sym, ap, ap₂, subst, _∙_}
@@ -22,14 +22,14 @@ use Rattle.layout.proofs.Members.{getD-map, has-below, length-below, ge
 use Rattle.layout.proofs.Joins.{join-same, map-join}
 use Rattle.layout.proofs.Starts.{join-map}
 use Rattle.layout.proofs.Accepted.{problem-checked, sound-ends}
-use Rattle.layout.proofs.Columns.{RightStarts, column-rows}
+use Rattle.layout.proofs.Columns.{column-rows}
 use Rattle.layout.proofs.Compressed.{columnValues, column-values}
 use Rattle.layout.proofs.PatternWords.{After, OneOf, pattern-after, words-of-patterns}
 use Rattle.layout.proofs.PoolChecks.{poolBounded, raised-rows, stacked-right, stacked-starts, right-first, right-second, pool-refusal, pool-bounds, pool-entries}
 
 -- ---- refusals
 
--- checks 1 to 7 of the first, then of the second, then 17, three bounds under 1, and the rooms
+-- the refusal number: checks 1 to 7 of the first, then of the second, then 17, three bounds of check 1, and check 11
 pub pool-refusals : (p q : Problem) (rooms : List ℕ)
     → poolRefusal p q rooms
     ≡ orElse (problemRefusal p) (orElse (problemRefusal q) (orElse (cond (eqb (p .n) (q .n)) 0 17)
@@ -60,7 +60,7 @@ pool-refusals p q rooms =
         ap (λ (k : ℕ). orElse k room) (pool-refusal p q hp hq equal ∙ ap (λ (b : Bool). cond b 0 1) (pool-bounds p q hp hq equal))
     last false e hp hq = refl
 
--- what a pool that is not refused says
+-- what holds of two problems whose pool call is not refused
 pub record Pooled (p q : Problem) (rooms : List ℕ) : Type 0 where
   pub first : Checked p
   pub second : Checked q
@@ -89,7 +89,7 @@ pooled p q rooms e =
 
 -- ---- pattern words, pattern by pattern
 
--- the words of the pattern at the front: its orig_index raised, and the others as they stand
+-- raising the words of the first pattern raises its orig_index and leaves its other words unchanged
 pub raised-words-step : (d k : ℕ) (ws rest : List ℕ) (x : Pattern) → readPattern ws ≡ read x rest → T (endsRight (readPatterns k rest))
     → (ws ≡ x .origIndex ∷ (drop 1 (patternWordsOf x) ++ rest))
     × (raisedWords d (patterns (suc k) ws) ≡ (d + x .origIndex) ∷ (drop 1 (patternWordsOf x) ++ raisedWords d (patterns k rest)))
@@ -104,9 +104,9 @@ raised-words-step d k ws rest x e ends = (
     more (read xs (w ∷ ws)) h = absurd h
     more short h = absurd h
 
--- ---- A over A, column by column
+-- ---- one A stacked above the other, column by column
 
--- one field of the entries
+-- one field of the stacked entries (row or value), column by column
 stacked-field : {X : Type 0} (field : Entry → X) (n k : ℕ) (M N : Csc)
     → map field (join (λ c. c) (stackedColumns n k M N))
     ≡ join (λ c. map field (column M c) ++ map field (raisedEntries k (column N c))) (below n)
@@ -117,19 +117,13 @@ stacked-field field n k M N =
     (λ c h. map-append field (column M c) (raisedEntries k (column N c)))
 
 module _ (p q : Problem) (hp : Checked p) (hq : Checked q) (same : p .n ≡ q .n) where
-  right-p : RightStarts (p .n) (p .A)
-  right-p = right-first p q hp hq same
-
-  right-q : RightStarts (p .n) (q .A)
-  right-q = right-second p q hp hq same
-
   pub pool-A-starts : pool p q .A .starts ≡ map (λ c. getD (p .A .starts) c 0 + getD (q .A .starts) c 0) (below (suc (p .n)))
   pool-A-starts =
       let sums : ℕ → ℕ = λ c. getD (p .A .starts) c 0 + getD (q .A .starts) c 0 in
       let count = stacked-right (p .n) (p .m) (p .A) (q .A) .count in
       let many = length-map (below (suc (p .n))) sums ∙ length-below (suc (p .n)) in
       ext-getD 0 (pool p q .A .starts) (map sums (below (suc (p .n)))) (count ∙ sym many) (λ i l.
-      stacked-starts (p .n) (p .m) (p .A) (q .A) right-p right-q i (omega (arith, count))
+      stacked-starts (p .n) (p .m) (p .A) (q .A) (right-first p q hp hq same) (right-second p q hp hq same) i (omega (arith, count))
       ∙ sym (getD-map sums (below (suc (p .n))) i 0 0 (omega (arith, count, length-below (suc (p .n))))
       ∙ ap sums (getD-below (suc (p .n)) i 0 (omega (arith, count)))))
 
@@ -140,8 +134,8 @@ module _ (p q : Problem) (hp : Checked p) (hq : Checked q) (same : p .n ≡ q .n
       ∙ join-same (λ c. rowsOf (column (p .A) c) ++ rowsOf (raisedEntries (p .m) (column (q .A) c)))
       (λ c. columnRows (p .A) c ++ map (λ r. p .m + r) (columnRows (q .A) c)) (below (p .n)) (λ c h.
       let l = has-below c (p .n) .0 h in
-      ap₂ _++_ (column-rows (p .n) (p .A) right-p c l)
-      (raised-rows (p .m) (column (q .A) c) ∙ ap (map (λ r. p .m + r)) (column-rows (p .n) (q .A) right-q c l)))
+      ap₂ _++_ (column-rows (p .n) (p .A) (right-first p q hp hq same) c l)
+      (raised-rows (p .m) (column (q .A) c) ∙ ap (map (λ r. p .m + r)) (column-rows (p .n) (q .A) (right-second p q hp hq same) c l)))
 
   pub pool-A-values : pool p q .A .values ≡ join (λ c. columnValues (p .A) c ++ columnValues (q .A) c) (below (p .n))
   pool-A-values =
@@ -149,9 +143,9 @@ module _ (p q : Problem) (hp : Checked p) (hq : Checked q) (same : p .n ≡ q .n
       ∙ join-same (λ c. map (λ (e : Entry). e .value) (column (p .A) c) ++ map (λ (e : Entry). e .value) (raisedEntries (p .m) (column (q .A) c)))
       (λ c. columnValues (p .A) c ++ columnValues (q .A) c) (below (p .n)) (λ c h.
       let l = has-below c (p .n) .0 h in
-      ap₂ _++_ (column-values (p .n) (p .A) right-p c l)
+      ap₂ _++_ (column-values (p .n) (p .A) (right-first p q hp hq same) c l)
       (map-map (λ (e : Entry). e .value) (λ (e : Entry). record { row = p .m + e .row; value = e .value }) (column (q .A) c)
-      ∙ column-values (p .n) (q .A) right-q c l))
+      ∙ column-values (p .n) (q .A) (right-second p q hp hq same) c l))
 
   -- ---- lengths
 
@@ -174,7 +168,7 @@ module _ (p q : Problem) (hp : Checked p) (hq : Checked q) (same : p .n ≡ q .n
       let right = stacked-right (p .n) (p .m) (p .A) (q .A) in
       let values = pool-entries p q hp hq same in
       let rows : length (pool p q .A .rows) ≡ length (p .A .rows) + length (q .A .rows) =
-      omega (arith, right .even, values, right-p .even, right-q .even) in
+      omega (arith, right .even, values, (right-first p q hp hq same) .even, (right-second p q hp hq same) .even) in
       let b : length (p .b ++ q .b) ≡ p .m + q .m = omega (arith, length-append (p .b) (q .b), hp .lengthB, hq .lengthB) in
       let d = length (records (p .cones)) in
       let qs = patterns (q .patternCount) (q .patternWords) in

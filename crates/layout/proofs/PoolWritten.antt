@@ -1,5 +1,5 @@
--- The pool on what is written: what the cut of a pool leaves, by what the cuts of the two problems leave, from the promises of the
--- pool and of the three cuts alone.
+-- The pool in terms of written outputs: what the cut of a pool writes, given what the cuts of the two problems write. Only the contracts
+-- of the pool call and of the three cuts are used.
 use Prim.Native.Nat.{ℕ, _+_}
 use mathlib.Core.Path.{_≡_, refl, sym, ap, ap₂, _∙_}
 use mathlib.Core.List.{_∷_, _++_}
@@ -9,7 +9,7 @@ use Rattle.layout.specs.Standard.{standardCones}
 use Rattle.layout.specs.Answers.{Augmented, lengths, augmented, routeOf}
 use Rattle.layout.specs.Pool.{pool, pooledOf}
 use Rattle.layout.specs.Calls.Cut.{Cut, frontOn}
-use Rattle.layout.specs.Calls.Tables.{Tables, rooms}
+use Rattle.layout.specs.Calls.Tables.{Tables, tableRooms}
 use Rattle.layout.specs.Calls.Pool.{Pool}
 use Rattle.layout.specs.PoolWritten.{poolAt, cutAt}
 use Rattle.layout.proofs.Buffers.{front-read}
@@ -17,7 +17,7 @@ use Rattle.layout.proofs.Promises.{taken, tables-front}
 use Rattle.layout.proofs.PoolCuts.{accepted-pool, pool-standard-cones}
 use Rattle.layout.proofs.PoolTables.{Pooled, pooled}
 
--- the outputs of a cut that is not refused hold the cut
+-- the outputs of a cut that returns 0 start with the tables of the cut
 pub cut-front : (k : ℕ) (p : Problem) {before after : Augmented} → Cut k p before after 0 → cutAt (routeOf k) p after ≡ augmented (routeOf k) p
 cut-front k p {before} {after} cut =
     let new = augmented (routeOf k) p in
@@ -42,14 +42,14 @@ cut-front k p {before} {after} cut =
     }
 
 module _ (one two : Problem) {tables₀ tables : Tables} (call : Pool one two tables₀ tables 0) where
-  accepted : Pooled one two (rooms tables₀)
-  accepted = pooled one two (rooms tables₀) (sym (call .number))
+  accepted : Pooled one two (tableRooms tables₀)
+  accepted = pooled one two (tableRooms tables₀) (sym (call .number))
 
-  -- the pool stands at the fronts
+  -- the outputs of the pool call start with the tables of the pool
   pub pool-front : poolAt one two tables ≡ pool one two
   pool-front = tables-front 0 (pool one two) tables₀ tables refl (call .tables)
 
-  -- Where the pool and the compact cuts of both problems and of the pool answer 0, the last leaves the first's rows above the second's.
+  -- If the pool call and the compact cuts of both problems and of the pool return 0, the last writes the first's rows above the second's.
   pub pool-written : {before before2 before3 after after2 after3 : Augmented}
       → Cut 1 one before after 0 → Cut 1 two before2 after2 0 → Cut 1 (poolAt one two tables) before3 after3 0
       → cutAt compact (poolAt one two tables) after3 ≡ pooledOf one two (cutAt compact one after) (cutAt compact two after2)

@@ -1,5 +1,5 @@
--- The program's output: its length before the cut is made, the numbers that it can print, and that a reader takes its file as
--- the compact problem.
+-- The program's output: the file's length known before the cut is made, the refusal numbers that it can print, and that a reader reads
+-- its file as the compact problem.
 use Prim.Native.Nat.{ℕ, zero, suc, _*_, _≤_, _<_}
 use native.Mathlib.Omega.{arith}
 use mathlib.Core.Path.{_≡_, sym, ap, subst, _∙_}
@@ -15,7 +15,7 @@ use Rattle.layout.specs.Patterns.{patterns}
 use Rattle.layout.specs.Blocks.{overlapCount}
 use Rattle.layout.specs.Checks.{Checked, layout, sizesBounded, startsRight, Check, check, checks, refusal, check1, conesBounded}
 use Rattle.layout.specs.Answers.{orElse, sizes, augmented, problemRefusal}
-use Rattle.layout.specs.File.{tableBytes, widths, products, endFrom, bits, HeaderCounts, countsIn, tableSizes, Tables, U32s, U64s, Fit, floats, problemOf, fileOf, header, fileTables, shapeChecks, shapeFailing, fileFailing, compactProblem, compactTables, compactFile, programChecks, programRefusal, programOutput, answer, ProblemFiles}
+use Rattle.layout.specs.File.{tableBytes, widths, products, endFrom, bits, HeaderCounts, countsIn, tableSizes, BitTables, U32s, U64s, Fit, floats, problemOf, fileOf, header, fileTables, shapeChecks, shapeFailing, fileFailing, compactProblem, compactTables, compactFile, programChecks, programRefusal, programOutput, answer, ProblemFiles}
 use Rattle.layout.proofs.Tests.{and-iff, leb-iff}
 use Rattle.layout.proofs.Members.{all-at}
 use Rattle.layout.proofs.Records.{record-count}
@@ -32,7 +32,7 @@ use Rattle.layout.proofs.Sizes.{compact-sizes}
 use Rattle.layout.proofs.CompactCones.{new-few, cones-right}
 use Rattle.layout.proofs.CompactProblem.{records-are, compact-passes}
 
--- ---- the length of the compact file, from what `sizes` gives: the cone map is left out, and there are no pattern words
+-- ---- the length of the compact file, from the lengths that `sizes` gives, without the cone map and with no pattern words
 
 bits-size : (vs : List Float) → length (tableBytes 8 (bits vs)) ≡ 8 * length vs
 bits-size vs = length-table 8 (bits vs) ∙ ap (λ (k : ℕ). 8 * k) (length-map vs (toBits binary64))
@@ -40,7 +40,7 @@ bits-size vs = length-table 8 (bits vs) ∙ ap (λ (k : ℕ). 8 * k) (length-map
 floats-size : (xs : List ℕ) → length (tableBytes 8 xs) ≡ 8 * length (floats xs)
 floats-size xs = length-table 8 xs ∙ ap (λ (k : ℕ). 8 * k) (sym (length-map xs (ofBits binary64)))
 
-pub compact-length : (t : Tables)
+pub compact-length : (t : BitTables)
     → length (fileOf (compactTables t)) ≡ endFrom 80 (products widths (take 10 (sizes compact (problemOf t)) ++ (0 ∷ [])))
 compact-length t =
     let p = problemOf t in
@@ -53,9 +53,9 @@ compact-length t =
     ∷ length-table 4 (a .A .starts) i ∷ length-table 4 (a .A .rows) i ∷ bits-size (a .A .values) i ∷ bits-size (a .b) i
     ∷ length-table 4 (a .cones) i ∷ floats-size (t .alphas) i ∷ 0 ∷ [])
 
--- ---- the numbers
+-- ---- the refusal numbers
 
--- in order, as a program goes
+-- the refusal number by groups of checks, in the order in which the program makes them
 pub program-in-order : (bs : List ℕ) → programRefusal bs ≡
     orElse (cond (leb (length bs) 8192) 0 1)
     (orElse (shapeFailing bs)
@@ -68,11 +68,11 @@ program-in-order bs =
     ∙ ap (orElse (cond (leb (length bs) 8192) 0 1))
     (failing-append (shapeChecks bs) (checks compact p ++ last) tt ∙ ap (orElse (shapeFailing bs)) (failing-append (checks compact p) last tt))
 
--- so a printed number has one or two digits
+-- a refusal number is at most 14, so it prints as one or two digits
 pub program-most : (bs : List ℕ) → programRefusal bs ≤ 14
 program-most bs = failing-most 14 (programChecks bs) tt
 
--- ---- a file that the program writes is accepted, and stands for the compact problem
+-- ---- a file that the program writes is accepted and represents the compact problem
 
 kind-few : (k a c : ℕ) → T (sizesFit (kindOf k) a c) → k < 7
 kind-few zero a c h = omega arith
@@ -105,7 +105,7 @@ rows-fit : (m : ℕ) (M : Csc) → T (all (λ r. ltb r m) (M .rows)) → m ≤ 6
 rows-fit m M inside few i l =
     omega (arith, ltb→lt (getD (M .rows) i 0) m (all-at 0 (λ r. ltb r m) (M .rows) .0 inside i l))
 
--- tables of a problem that checks 1 to 7 let pass fit, given its pattern words do
+-- the tables of a problem that passes checks 1 to 7 fit u32 and u64, if its floats and pattern words fit
 pub checked-fit : (p : Problem) → Checked p → FloatsFit p → U32s (p .patternWords) → Fit (tablesOf p)
 checked-fit p h f words =
     record {
@@ -123,8 +123,8 @@ checked-fit p h f words =
       patternWords = words;
     }
 
--- the tables of the compact problem fit where those given do
-pub compact-fit : (t : Tables) → Fit t → Checked (compactProblem (problemOf t)) → Fit (compactTables t)
+-- the tables of the compact problem fit u32 and u64 if the given tables do
+pub compact-fit : (t : BitTables) → Fit t → Checked (compactProblem (problemOf t)) → Fit (compactTables t)
 compact-fit t f h =
     let p = problemOf t in
     let k = overlapCount (layout p) in
@@ -145,7 +145,7 @@ compact-fit t f h =
     }
 
 module _ (bs : List ℕ) (bytes : Below 256 bs) (ok : programRefusal bs ≡ 0) where
-  abbrev t : Tables
+  abbrev t : BitTables
   t = fileTables bs
 
   abbrev p : Problem
@@ -167,7 +167,7 @@ module _ (bs : List ℕ) (bytes : Below 256 bs) (ok : programRefusal bs ≡ 0) w
   accepted : refusal compact p ≡ 0
   accepted = program-passed .2
 
-  -- a file of 8,192 bytes holds few cones and cliques
+  -- an input file of at most 8,192 bytes gives at most 1,024 new cones
   few-new : length (records (compactProblem p .cones)) ≤ 1024
   few-new =
       let s = accepted-sound compact p accepted in
@@ -186,7 +186,7 @@ module _ (bs : List ℕ) (bytes : Below 256 bs) (ok : programRefusal bs ≡ 0) w
         leb→le (length bs) 8192 (program-passed .0),
       )
 
-  -- and one of 65,536 bytes few columns, rows and entries
+  -- an output file of at most 65,536 bytes has few enough columns, rows and entries for check 1
   bounded : T (check1 (compactProblem p))
   bounded =
       let q = compactProblem p in
@@ -225,6 +225,6 @@ module _ (bs : List ℕ) (bytes : Below 256 bs) (ok : programRefusal bs ≡ 0) w
         ap (λ (o : List ℕ). problemOf (fileTables o)) out ∙ ap problemOf back ∙ stands,
       )
 
--- what Q-2 asks
+-- what Q-2 asks to be proved
 pub problem-files : ProblemFiles
 problem-files = record { back = written-back; again = read-again; program = program-read }

@@ -1,5 +1,5 @@
--- The promises of the calls: a refused call keeps every output, said once for each promise; a cut that is not refused accepts its
--- problem and has the room for it.
+-- The contracts of the calls: a refused call leaves every output unchanged, stated once for each contract; a cut that is not refused
+-- accepts its problem, and its outputs are long enough.
 use Prim.Native.Nat.{ℕ, zero, suc, _≤_}
 use native.Mathlib.Omega.{arith}
 use mathlib.Core.Path.{_≡_, refl, ap, _∙_}
@@ -12,7 +12,7 @@ use Rattle.layout.specs.Checks.{refusal}
 use Rattle.layout.specs.Answers.{Augmented, lengths, output, orElse, onRoute, routeOf, roomy, sizes, cutRefusal}
 use Rattle.layout.specs.Calls.Cut.{Objective, HoldsObjective, Constrained, HoldsConstrained, Cut}
 use Rattle.layout.specs.Calls.Join.{Rejoined, HoldsRejoined}
-use Rattle.layout.specs.Calls.Tables.{Tables, tablesOf, rooms, problemAt, HoldsTables}
+use Rattle.layout.specs.Calls.Tables.{Tables, tablesOf, tableRooms, problemAt, HoldsTables}
 use Rattle.layout.proofs.Tests.{and-iff, leb-iff}
 use Rattle.layout.proofs.Buffers.{output-kept, front-read}
 
@@ -70,7 +70,7 @@ taken (suc (suc k)) p rooms h = absurd (omega arith)
 
 -- ---- a problem's tables
 
--- each output has room for its table
+-- each output is long enough for its table
 pub record TablesFit (p : Problem) (t : Tables) : Type 0 where
   pub p-starts : length (p .P .starts) ≤ length (t .P .starts)
   pub p-rows : length (p .P .rows) ≤ length (t .P .rows)
@@ -84,7 +84,7 @@ pub record TablesFit (p : Problem) (t : Tables) : Type 0 where
   pub alphas : length (p .alphas) ≤ length (t .alphas)
   pub patternWords : length (p .patternWords) ≤ length (t .patternWords)
 
-pub tables-fit : (p : Problem) (t : Tables) → T (roomy (tableLengths p) (rooms t)) → TablesFit p t
+pub tables-fit : (p : Problem) (t : Tables) → T (roomy (tableLengths p) (tableRooms t)) → TablesFit p t
 tables-fit p t h =
     let each = simp (and-iff, leb-iff) at h in record {
       p-starts = omega arith;
@@ -100,11 +100,11 @@ tables-fit p t h =
       patternWords = omega arith;
     }
 
--- the front of an output that a call with number 0 has written
+-- an output written by a call that returns 0 starts with `new`
 at-front : {A : Type 0} (r : ℕ) (new old out : List A) → r ≡ 0 → out ≡ output r new old → take (length new) out ≡ new
 at-front r new old out z e = front-read new old (e ∙ ap (λ (k : ℕ). output k new old) z)
 
--- where a call has written a problem's tables, they stand at the fronts
+-- if a call has written a problem's tables, the problem read from the start of its outputs is that problem
 pub tables-front : (r : ℕ) (p : Problem) (before after : Tables) → r ≡ 0 → HoldsTables r (tablesOf p) before after
     → problemAt (p .n) (p .m) (p .patternCount) p after ≡ p
 tables-front r p before after z h =

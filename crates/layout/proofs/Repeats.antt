@@ -1,4 +1,4 @@
--- Repeated rows of a column added: the rows that are left, how many, and what each row holds; and A with the sums in place.
+-- Repeated entries of a column summed: the rows that are left, their number, and the value on each row; A with its repeats summed.
 use Prim.Native.Nat.{ℕ, suc, _+_, _≤_, _<_}
 use native.Mathlib.Nat.{eq-or-lt-of-le}
 use native.Mathlib.Omega.{arith}
@@ -9,7 +9,7 @@ use mathlib.Core.List.{List, [], _∷_, _++_, map, map-map}
 use lib.ListN.{length, getD, length-map}
 use lib.Dec.{T, eqb, leb, ltb, eqb→eq, leb→le, le→leb, lt→ltb, ltb→lt}
 use lib.Ieee.{Float, add, binary64}
-use Rattle.layout.specs.Lists.{has, all, below, keep, rises, sum}
+use Rattle.layout.specs.Lists.{has, all, below, keep, rises}
 use Rattle.layout.specs.Problem.{Problem, Csc, Route}
 use Rattle.layout.specs.Blocks.{compactRows}
 use Rattle.layout.specs.Checks.{layout, refusal, neverFalls, columnRows, startsRight, rowsInOrder, rowsRight}
@@ -19,11 +19,11 @@ use Rattle.layout.proofs.Tests.{and-iff, eqb-iff, cond-failed, either-i
 use Rattle.layout.proofs.Members.{has-cons, getD-map, getD-below, length-below, has-below, all-has, all-so}
 use Rattle.layout.proofs.Joins.{map-same}
 use Rattle.layout.proofs.Accepted.{accepted-checked}
-use Rattle.layout.proofs.Columns.{column-csc, entry-count, starts-right, RightStarts, column-rows, column-all, rows-never-fall, right-A}
+use Rattle.layout.proofs.Columns.{column-csc, starts-right, RightStarts, column-rows, column-all, rows-never-fall, right-A}
 use Rattle.layout.proofs.Compressed.{csc-starts, csc-rows, csc-all, own-columns}
 pub use Rattle.layout.specs.Runs.{runsFrom, runs, leftSum}
 
--- ---- the rows: each run of equal ones once
+-- ---- the row indices: one for each run of equal ones
 
 from-rows : (e : Entry) (es : List Entry) → rowsOf (summedFrom e es) ≡ runsFrom (e .row) (rowsOf es)
 from-rows e [] = refl
@@ -39,7 +39,7 @@ pub summed-rows : (es : List Entry) → rowsOf (summed es) ≡ runs (rowsOf es)
 summed-rows [] = refl
 summed-rows (e ∷ es) = from-rows e es
 
--- a further row starts a run where it differs from the one before it
+-- a further row index starts a run where it differs from the one before it
 pub run-more : (r s : ℕ) (rs : List ℕ) → length (runsFrom r (s ∷ rs)) ≡ cond (eqb r s) 0 1 + length (runsFrom s rs)
 run-more r s rs = go (eqb r s) (eqb→eq r s)
   where
@@ -60,13 +60,13 @@ pub runs-few : (rs : List ℕ) → length (runs rs) ≤ length rs
 runs-few [] = omega arith
 runs-few (r ∷ rs) = from-few r rs
 
--- as many entries are left as there are runs
+-- summing leaves one entry for each run
 pub summed-count : (es : List Entry) → length (summed es) ≡ length (runs (rowsOf es))
 summed-count es = sym (length-map (summed es) (λ (e : Entry). e .row)) ∙ ap length (summed-rows es)
 
--- ---- rows that never fall strictly rise once repeats are added
+-- ---- non-decreasing row indices strictly increase once repeats are summed
 
--- the first row is at most the second, and below it where they differ
+-- the first row index is at most the second, and below it if they differ
 next-row : (r s : ℕ) (rs : List ℕ) → T (neverFalls (r ∷ s ∷ rs)) → T (neverFalls (s ∷ rs)) × ((r ≡ s → ⊥) → r < s)
 next-row r s rs h =
     let (l, k) = and-iff (leb r s) (neverFalls (s ∷ rs)) .0 h in
@@ -98,7 +98,7 @@ runs-rise (r ∷ rs) h = from-rises r rs h
 pub summed-rises : (es : List Entry) → T (neverFalls (rowsOf es)) → T (rises (rowsOf (summed es)))
 summed-rises es h = subst (λ (rs : List ℕ). T (rises rs)) (sym (summed-rows es)) (runs-rise (rowsOf es) h)
 
--- rows that rise never fall
+-- strictly increasing row indices are non-decreasing
 pub rises-never-fall : (rs : List ℕ) → T (rises rs) → T (neverFalls rs)
 rises-never-fall [] h = tt
 rises-never-fall (r ∷ []) h = tt
@@ -106,14 +106,14 @@ rises-never-fall (r ∷ s ∷ rs) h =
     let (l, k) = and-iff (ltb r s) (rises (s ∷ rs)) .0 h in
     and-iff (leb r s) (neverFalls (s ∷ rs)) .1 (le→leb r s (omega (arith, ltb→lt r s l)), rises-never-fall (s ∷ rs) k)
 
--- so what passes check 3 of P passes that of A
+-- a matrix that passes check 3's test of P also passes its test of A
 pub right-in-order : (m n : ℕ) (M : Csc) → T (rowsRight m n M) → T (rowsInOrder m n M)
 right-in-order m n M h =
     let (inside, rising) = and-iff (all (λ r. ltb r m) (M .rows)) (all (λ c. rises (columnRows M c)) (below n)) .0 h in
     and-iff (all (λ r. ltb r m) (M .rows)) (all (λ c. neverFalls (columnRows M c)) (below n)) .1
     (inside, all-so (λ c. rises (columnRows M c)) (λ c. neverFalls (columnRows M c)) (λ c. rises-never-fall (columnRows M c)) (below n) rising)
 
--- ---- a column without repeats is as it was
+-- ---- a column without repeats is unchanged
 
 from-alone : (e : Entry) (es : List Entry) → T (rises (rowsOf (e ∷ es))) → summedFrom e es ≡ e ∷ es
 from-alone e [] h = refl
@@ -127,9 +127,9 @@ pub summed-alone : (es : List Entry) → T (rises (rowsOf es)) → summed es ≡
 summed-alone [] h = refl
 summed-alone (e ∷ es) h = from-alone e es h
 
--- ---- what holds of each row of a column
+-- ---- properties of each row of a column
 
--- no row is lost, and none is added
+-- summing loses no row and adds none
 from-has : (x r : ℕ) (rs : List ℕ) → T (has x (runsFrom r rs)) ↔ T (has x (r ∷ rs))
 from-has x r [] = Iff·rfl
 from-has x r (s ∷ rs) = go (eqb r s) (eqb→eq r s) (from-has x r rs) (from-has x s rs)
@@ -166,7 +166,7 @@ summed-all p (e ∷ es) h =
     let (here, rest) = and-iff (p (e .row)) (all (λ (e : Entry). p (e .row)) es) .0 h in
     from-all p e es here rest
 
--- ---- columns one after the other
+-- ---- entries appended
 
 from-append : (e : Entry) (es fs : List Entry) → ((x y : ℕ) → T (has x (rowsOf (e ∷ es))) → T (has y (rowsOf fs)) → x < y)
     → summedFrom e (es ++ fs) ≡ summedFrom e es ++ summed fs
@@ -194,15 +194,15 @@ from-append e (g ∷ es) fs apart =
     go true h k = h
     go false h k = ap {B = List Entry} (λ l. e ∷ l) k
 
--- entries on rows above those of others: a run never goes on from one to the other
+-- if all row indices of es are less than those of fs, summing es ++ fs is summing es and fs separately
 pub summed-append : (es fs : List Entry) → ((x y : ℕ) → T (has x (rowsOf es)) → T (has y (rowsOf fs)) → x < y)
     → summed (es ++ fs) ≡ summed es ++ summed fs
 summed-append [] fs apart = refl
 summed-append (e ∷ es) fs apart = from-append e es fs apart
 
--- ---- what stands on one row: the sum of its run
+-- ---- the value on one row: the sum of its run
 
--- none for no value, and otherwise the sum
+-- no value for an empty list, otherwise its one sum from left to right
 abbrev pub leftSums : List Float → List Float
 leftSums [] = []
 leftSums (v ∷ vs) = leftSum v vs ∷ []
@@ -221,7 +221,7 @@ values-cons o e es = go (eqb (e .row) o)
     go true = refl
     go false = refl
 
--- none where rows from above o on never fall
+-- there are no values on row o if the row indices are non-decreasing from r on and o < r
 none-at : (o : ℕ) (es : List Entry) (r : ℕ) → o < r → T (neverFalls (r ∷ rowsOf es)) → valuesAt o es ≡ []
 none-at o [] r l h = refl
 none-at o (e ∷ es) r l h =
@@ -243,13 +243,13 @@ from-values o e (f ∷ es) h =
     vs : List Float
     vs = valuesAt o es
 
-    -- a repeat on row o or on another
+    -- a repeated entry, on row o or on another row
     repeated : (b : Bool) → leftSums (cond b (add binary64 (e .value) (f .value) ∷ vs) vs)
         ≡ leftSums (cond b (e .value ∷ cond b (f .value ∷ vs) vs) (cond b (f .value ∷ vs) vs))
     repeated true = refl
     repeated false = refl
 
-    -- e is alone on its row
+    -- an entry e that is alone on its row
     alone : (b : Bool) (W : List Float) → (T b → W ≡ []) → cond b (e .value ∷ leftSums W) (leftSums W) ≡ leftSums (cond b (e .value ∷ W) W)
     alone true W n = rw (n tt)
     alone false W n = refl
@@ -272,21 +272,21 @@ from-values o e (f ∷ es) h =
         (and-iff (leb (f .row) (f .row)) (neverFalls (rowsOf (f ∷ es))) .1 (le→leb (f .row) (f .row) (omega arith), d .0)))
         ∙ ap leftSums (sym (values-cons o e (f ∷ es)))
 
--- row o holds the sum of its run
+-- after summing, row o holds the sum of its run
 pub summed-values : (o : ℕ) (es : List Entry) → T (neverFalls (rowsOf es)) → valuesAt o (summed es) ≡ leftSums (valuesAt o es)
 summed-values o [] h = refl
 summed-values o (e ∷ es) h = from-values o e es h
 
--- and that is what moves with it
+-- after summing, the entry moved from row o to row q holds the sum of row o's run
 pub moved-sum : (o q : ℕ) (es : List Entry) → T (neverFalls (rowsOf es))
     → moved o q (summed es) ≡ map (λ v. record { row = q; value = v }) (leftSums (valuesAt o es))
 moved-sum o q es h =
     sym (map-map (λ (v : Float). record { row = q; value = v }) (λ (e : Entry). e .value) (keep (λ (e : Entry). eqb (e .row) o) (summed es)))
     ∙ ap (map (λ (v : Float). record { row = q; value = v })) (summed-values o es h)
 
--- ---- A with the sums in place
+-- ---- A with its repeats summed
 
--- the problem with them
+-- the problem with A's repeats summed
 abbrev pub withSums : Problem → Problem
 withSums p = record {
   n = p .n;
@@ -316,7 +316,7 @@ module _ (p : Problem) where
   pub summed-column : (c : ℕ) → c < p .n → column (summedA p) c ≡ summed (column (p .A) c)
   summed-column c l = column-csc columns c (omega (arith, many)) ∙ here c l
 
-  -- check 2
+  -- check 2 of the summed A
   pub right-summed : RightStarts (p .n) (summedA p)
   right-summed = starts-right (p .n) (summedA p) (subst (λ (n : ℕ). T (startsRight n (summedA p))) many (csc-starts columns))
 
@@ -324,14 +324,14 @@ module _ (p : Problem) where
     never-fall : (c : ℕ) → c < p .n → T (neverFalls (rowsOf (column (p .A) c)))
     never-fall c l = rows-never-fall (p .m) (p .n) (p .A) (right-A route p ok) (accepted-checked route p ok .rowsA) c l
 
-    -- what holds of each row of A
+    -- a test that all row indices of A pass is passed by all row indices of the summed A
     pub summed-each : (f : ℕ → Bool) → T (all f (p .A .rows)) → T (all f (summedA p .rows))
     summed-each f h = csc-all columns f (λ c l.
         let k : c < p .n = omega (arith, many) in
         subst (λ (es : List Entry). T (all f (rowsOf es))) (sym (here c k))
         (summed-all f (column (p .A) c) (column-all (p .n) (p .A) (right-A route p ok) c k f h)))
 
-    -- check 3 as P has to pass it: rows strictly rise
+    -- the summed A passes check 3 as P has to: row indices strictly increase
     pub rows-summed : T (rowsRight (p .m) (p .n) (summedA p))
     rows-summed = subst (λ (n : ℕ). T (rowsRight (p .m) n (summedA p))) many (csc-rows columns (p .m) inside rising)
       where
@@ -350,15 +350,7 @@ module _ (p : Problem) where
             let k : c < p .n = omega (arith, many) in
             subst (λ (es : List Entry). T (rises (rowsOf es))) (sym (here c k)) (summed-rises (column (p .A) c) (never-fall c k))
 
-    -- as many entries as there are runs, from the starts and the rows alone
-    pub summed-entries : length (summedA p .values) ≡ sum (map (λ c. length (runs (columnRows (p .A) c))) (below (p .n)))
-    summed-entries =
-        entry-count columns ∙ ap sum (map-map length (λ c. summed (column (p .A) c)) (below (p .n))
-        ∙ map-same (λ c. length (summed (column (p .A) c))) (λ c. length (runs (columnRows (p .A) c))) (below (p .n)) (λ c h.
-        summed-count (column (p .A) c)
-        ∙ ap (λ (rs : List ℕ). length (runs rs)) (column-rows (p .n) (p .A) (right-A route p ok) c (has-below c (p .n) .0 h))))
-
-    -- the compact cut is that of the problem with the sums in place
+    -- summing A's repeats first does not change the compact cut's A
     pub sums-first : compactA (withSums p) ≡ compactA p
     sums-first =
         let R = compactRows (layout p) in
@@ -371,7 +363,7 @@ module _ (p : Problem) where
             ap summed (summed-column c l)
             ∙ summed-alone (summed (column (p .A) c)) (summed-rises (column (p .A) c) (never-fall c l))
 
-    -- without repeats nothing changes: no column, and not A
+    -- without repeats, summing changes neither a column nor A
     module _ (alone : T (withoutRepeats p)) where
       pub column-alone : (c : ℕ) → c < p .n → summed (column (p .A) c) ≡ column (p .A) c
       column-alone c l = summed-alone (column (p .A) c)

@@ -1,4 +1,4 @@
--- Check 11 of several outputs: its test place by place.
+-- Check 11 of several outputs, tested output by output.
 use Prim.Native.Nat.{ℕ, _+_, _≤_, _<_}
 use native.Mathlib.Numerals.{add-one}
 use mathlib.Core.Path.{_≡_}
@@ -9,7 +9,7 @@ use lib.Seq.{drop-cons}
 use borrow.Author.Tests.{le-leb, lt-leb}
 use Rattle.layout.specs.Answers.{roomy}
 
--- the test, from place i on
+-- the test from output i on
 
 module _ (ks rs : List ℕ) (i : ℕ) (l : i < length ks) where
   pub room-step : i < length rs → getD ks i 0 ≤ getD rs i 0 → roomy (drop i ks) (drop i rs) ≡ roomy (drop (i + 1) ks) (drop (i + 1) rs)

@@ -1,5 +1,5 @@
--- One rounded addition of doubles, over counts of 2 ^ -1074: its error is at most 2 ^ -53 of the exact sum, and at most the magnitude of
--- either term, since the other term is itself a double. Sums that are subnormal are exact, so neither bound has a term for them.
+-- One rounded addition of doubles, in counts of 2 ^ -1074: its error is at most 2 ^ -53 times the exact sum, and at most the magnitude of
+-- either term, since the other term is itself a double. Subnormal sums are exact, so neither bound has an extra term for them.
 use Prim.Native.Nat.{ℕ, suc, _+_, _-_, _*_, _/_, _^_, _≤_, _<_}
 use native.Mathlib.Nat.{le-of-lt, add-mul, mul-assoc, mul-comm, mul-right-comm, mul-pos, mul-le-mul-right, le-of-mul-le-mul-right, mul-div-cancel}
 use native.Mathlib.Omega.{arith}
@@ -19,10 +19,10 @@ use Rattle.layout.proofs.Counts.{count-exact, count-value, count-digits
 use Rattle.layout.proofs.Magnitudes.{distance, magnitude-signed, signed-distance, signed-sum, signed-difference}
 use Rattle.layout.proofs.Nearest.{dropped, rounded, rounded-relative, Within, within}
 
--- ---- w of a format's smallest values, rounded
+-- ---- w units of a format's smallest value, rounded
 
 module _ (f : Format) where
-  -- x is w of them, rounded, with the sign s
+  -- whether x is w units of the smallest value, rounded, with the sign s
   abbrev Rounds : Float → Bool → ℕ → Type 0
   Rounds x s w = HasValue x s (rounded (prec f) w) (2 ^ low f)
 
@@ -53,7 +53,7 @@ module _ (f : Format) where
       let k = dropped (prec f) w in
       subst (λ (x : Float). Rounds x s w) (sym same) (units-value s (closest w (2 ^ k)) k (subst (λ (x : Float). T (finite x)) same h))
 
--- a / c is A of the smallest values and b / c is B of them: the two are in the same order, and their difference is too
+-- let a / c be A units of the smallest value and b / c be B units: if a ≤ b then A ≤ B, and (b - a) / c is B - A units
 in-order : (a b l c A B : ℕ) → 0 < c → a * l ≡ A * c → b * l ≡ B * c → a ≤ b → A ≤ B
 in-order a b l c A B h e g i = le-of-mul-le-mul-right (omega (arith, mul-le-mul-right l i)) h
 
@@ -70,7 +70,7 @@ difference a b l c A B h e g i =
 
 -- ---- the sum of ±a / c and ±b / c
 
--- x is ±a and ±b of the smallest values, added and rounded: the exact sum has the sign and the size that x is the rounding of
+-- x is the rounded sum of ±a and ±b units of the smallest value: `sign` and `size` are those of the exact sum, which x rounds
 pub record RoundedSum (f : Format) (x : Float) (s : Bool) (a : ℕ) (t : Bool) (b : ℕ) : Type 0 where
   pub sign : Bool
   pub size : ℕ
@@ -158,15 +158,15 @@ finite-second (fin s m e) nan r = r
 finite-second (fin s m e) (inf t) r = r
 finite-second (fin s m e) (fin t n d) r = tt
 
--- the counts a and b of two doubles, and c of their rounded sum
+-- the error of one addition: a and b are the counts of two doubles, c is the count of their rounded sum
 pub record AdditionError (a b c : ℤ) : Type 0 where
-  -- at most the unit roundoff times the exact sum
+  -- the error is at most the unit roundoff times the magnitude of the exact sum
   pub relative : 2 ^ 53 * magnitude (c -ℤ (a +ℤ b)) ≤ magnitude (a +ℤ b)
-  -- at most the magnitude of either term
+  -- the error is at most the magnitude of either term
   pub first : magnitude (c -ℤ (a +ℤ b)) ≤ magnitude a
   pub second : magnitude (c -ℤ (a +ℤ b)) ≤ magnitude b
 
--- a count by its sign and its size
+-- the magnitude of the count of the double m * 2 ^ e
 abbrev unitsOf : ℕ → ℤ → ℕ
 unitsOf m e = m * up e * 2 ^ low binary64 / down e
 
@@ -186,7 +186,7 @@ added s m e t n d h k r =
     (over-left (m * up e) (2 ^ low binary64) (unitsOf m e) (down e) (down d) (count-exact s m e h .1))
     (over-right (n * up d) (2 ^ low binary64) (unitsOf n d) (down e) (down d) (count-exact t n d k .1)) s t r
 
--- a sum of which the size w is known up to its rounding
+-- the error bounds of a sum whose exact size is w and whose rounding is c
 error-of : (a b c : ℤ) (s : Bool) (w : ℕ) → a +ℤ b ≡ signed s w → c ≡ signed s (rounded 53 w)
     → distance (rounded 53 w) w ≤ magnitude a → distance (rounded 53 w) w ≤ magnitude b → AdditionError a b c
 error-of a b c s w e g first second =

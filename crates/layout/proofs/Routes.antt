@@ -1,4 +1,4 @@
--- A route by its number.
+-- The route of a route number: 0 is the standard route, any other number the compact one.
 use Prim.Native.Nat.{ℕ, zero, suc}
 use mathlib.Core.Path.{_≡_, refl, ap}
 use Rattle.layout.specs.Problem.{standard, compact}

@@ -1,5 +1,5 @@
--- The terms at an original row: how many there are, that they are doubles, and their exact sum, which moves by as much as one of them and is
--- the sum of slacks of the exact reading.
+-- The terms added at an original row: their number, that they are doubles, and their exact sum, which changes by as much as one of them
+-- changes and is the sum of the slacks in the exact reading.
 use Prim.Native.Nat.{ℕ, zero, suc, _≤_, _<_, zero-le, suc-le-suc}
 use native.Mathlib.Nat.{le-of-suc-le-suc, not-suc-le-zero}
 use native.Mathlib.Omega.{arith}
@@ -7,7 +7,7 @@ use mathlib.Core.Path.{_≡_, refl, sym, ap, subst, _∙_}
 use mathlib.Core.Logic.{_⊎_, inl, inr}
 use mathlib.Core.Bool.{Bool, true, false, not, cond}
 use mathlib.Core.List.{List, [], _∷_, map}
-use lib.ListN.{length, getD, set, replicate, length-set, length-replicate, getD-replicate}
+use lib.ListN.{length, getD, set, length-set}
 use lib.Seq.{getD-set-same, getD-set-other}
 use lib.Dec.{T, T-not, eqb, eqb→eq}
 use lib.IntN.{ℤ, pos, _+ℤ_, _-ℤ_, +ℤ-idl, +ℤ-idr, +ℤ-assoc}
@@ -23,7 +23,7 @@ use Rattle.layout.proofs.Integers.{linear}
 use Rattle.layout.proofs.Moves.{rowAt}
 use Rattle.layout.proofs.Slacks.{exact-length}
 
--- ---- a row and original row o
+-- ---- rows that add to or copy to original row o
 
 pub adds-there : (o : ℕ) (x : Row) → T (adds o x) → originalRow x ≡ o
 adds-there o (kept q) h = absurd h
@@ -35,7 +35,7 @@ copies-there o (kept q) h = ap kept (eqb→eq q o h)
 copies-there o (owned q) h = absurd h
 copies-there o (overlap q r) h = absurd h
 
--- a value written at q, read at o
+-- the entry at index o after index q is set
 pub set-read : {A : Type 0} (ws : List A) (q o : ℕ) (u w d : A) → o < length ws → (q ≡ o → u ≡ w)
     → getD (set ws q u) o d ≡ cond (eqb q o) w (getD ws o d)
 set-read {A} ws q o u w d l same = go (tested (eqb q o))
@@ -49,7 +49,7 @@ set-read {A} ws q o u w d l same = go (tested (eqb q o))
 
 -- ---- the terms
 
--- there is a term for each block, at most
+-- there is at most one term for each block
 pub terms-few : (o : ℕ) (R : List Row) (s : List Float) → length (termsAt o R s) ≤ blocksAt o R
 terms-few o [] s = zero-le
 terms-few o (x ∷ R) [] = zero-le
@@ -71,7 +71,7 @@ terms-fit o (x ∷ R) (v ∷ s) h =
     pick true f g = and-iff (fits binary64 v) (all (fits binary64) (termsAt o R s)) .1 (f, g)
     pick false f g = g
 
--- with v in the place of one value
+-- doubles remain doubles after one value is set to the double v
 pub doubles-set : (s : List Float) (r : ℕ) (v : Float) → Doubles s → T (fits binary64 v) → Doubles (set s r v)
 doubles-set s r v h k = all-at nan (fits binary64) (set s r v) .1 (λ i l.
     let inside : i < length s = omega (arith, length-set s r v) in
@@ -80,7 +80,7 @@ doubles-set s r v h k = all-at nan (fits binary64) (set s r v) .1 (λ i l.
 
 -- ---- the exact sum
 
--- it moves by as much as a value of a row that adds to o
+-- the exact sum changes by as much as the value of a row that adds to o changes
 slide : (u e f : ℤ) → (u +ℤ f) -ℤ (u +ℤ e) ≡ f -ℤ e
 slide u e f = simp linear
 
@@ -103,7 +103,7 @@ sum-moves o (x ∷ R) (u ∷ s) (suc r) v l m h =
     pick true e = slide (count u) (exactSum (termsAt o R s)) (exactSum (termsAt o R (set s r v))) ∙ e
     pick false e = e
 
--- it is what the slacks of the exact reading sum to
+-- the exact sum is the sum of the slacks in the exact reading
 exact-at : (o : ℕ) (x : Row) (v : ℤ) (ws : List ℤ) → o < length ws → T (not (copies o x))
     → at (addExact x v ws) o ≡ cond (adds o x) (at ws o +ℤ v) (at ws o)
 exact-at o (kept q) v ws l h = set-read ws q o v v (pos 0) l (λ e. refl) ∙ cond-failed (eqb q o) v (at ws o) (T-not (eqb q o) h)
@@ -124,10 +124,3 @@ slacks-from o (x ∷ R) (v ∷ s) ws l h =
         ≡ at ws o +ℤ exactSum (cond b (v ∷ termsAt o R s) (termsAt o R s))
     pick true = +ℤ-assoc (at ws o) (count v) (exactSum (termsAt o R s))
     pick false = refl
-
-pub exact-slacks : (m o : ℕ) (R : List Row) (s : List Float) → o < m → T (decomposed o R)
-    → exactSum (termsAt o R s) ≡ at (addSlacks R (map count s) (replicate m (pos 0))) o
-exact-slacks m o R s l h =
-    sym (slacks-from o R s (replicate m (pos 0)) (omega (arith, length-replicate m (pos 0))) h
-    ∙ ap (λ (z : ℤ). z +ℤ exactSum (termsAt o R s)) (getD-replicate m o (pos 0) (pos 0) l)
-    ∙ +ℤ-idl (exactSum (termsAt o R s)))

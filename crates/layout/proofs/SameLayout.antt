@@ -1,4 +1,4 @@
--- Two problems with the same layout: what is compared is equal, checks 1 to 7 read little besides, and where a route accepts both, the
+-- Two problems with the same layout: what is compared is equal, checks 1 to 7 read little else, and if a route accepts both, the
 -- augmented problems agree in all but values.
 use Prim.Native.Nat.{ℕ, zero, suc}
 use mathlib.Core.Path.{_≡_, refl, sym, ap, subst, _∙_}
@@ -59,7 +59,7 @@ module _ (p q : Problem) (same : T (sameLayout p q)) where
   α-count : length (p .alphas) ≡ length (q .alphas)
   α-count = same-at sameBits nan (p .alphas) (q .alphas) .0 (compared .4) .0
 
-  -- as many patterns and values are all that checks 1 to 7 read besides
+  -- besides what is compared, checks 1 to 7 read only the pattern count and the lengths of the float tables
   pub checked-alike : p .patternCount ≡ q .patternCount → length (p .P .values) ≡ length (q .P .values) → length (p .q) ≡ length (q .q)
       → length (p .A .values) ≡ length (q .A .values) → length (p .b) ≡ length (q .b) → problemRefusal p ≡ problemRefusal q
   checked-alike count valuesP costs valuesA sides =
@@ -70,7 +70,7 @@ module _ (p q : Problem) (same : T (sameLayout p q)) where
       ∙ (λ i. problemRefusal (problem (e .0 i) (e .1 i) (e .6 .0 i) (e .6 .1 i) (q .P .values) (q .q) (e .5 .0 i) (e .5 .1 i)
       (q .A .values) (q .b) (e .2 i) (q .alphas) (count i) (e .3 i)))
 
--- words that end right have one count of patterns
+-- pattern words end neither early nor late for at most one pattern count
 ends : {A B : Type 0} (f : A → B) (r : Read A) → T (endsRight (andThen r (λ a left. read (f a) left))) → T (endsRight r)
 ends f (read a []) h = tt
 ends f (read a (w ∷ ws)) h = absurd h
@@ -112,7 +112,7 @@ module _ (route : Route) (p q : Problem) (same : T (sameLayout p q)) (okp : refu
   pub same-parts : layout p ≡ layout q
   same-parts = λ i. parts (records (compared p q same .2 i)) (patterns (counts i) (compared p q same .3 i))
 
-  -- as many entries: check 2 asks for as many values as rows
+  -- both problems have equally many entries, as check 2 requires as many values as rows
   entries : (length (p .A .values) ≡ length (q .A .values)) × (length (p .P .values) ≡ length (q .P .values))
   entries = (
     sym (right-A route p okp .even) ∙ ap length (compared p q same .5 .1) ∙ right-A route q okq .even,
@@ -123,7 +123,7 @@ module _ (route : Route) (p q : Problem) (same : T (sameLayout p q)) (okp : refu
   summed-entries =
       sym (right-summed p .even) ∙ ap length (summed-same p q (compared p q same .0) (compared p q same .5) .1) ∙ right-summed q .even
 
-  -- P with as many empty columns more
+  -- P extended by equally many empty columns has equal starts and rows
   extended-same : (k : List Part → ℕ) → SamePlaces (extendedP (k (layout p)) (p .P)) (extendedP (k (layout q)) (q .P))
   extended-same k = (λ i. compared p q same .6 .0 i ++ replicate (k (same-parts i)) (entries .1 i), compared p q same .6 .1)
 

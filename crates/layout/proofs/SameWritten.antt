@@ -1,4 +1,5 @@
--- Same layout on what is written: what the outputs of two cuts have in common, from the promises of same layout and of the cuts alone.
+-- Same layout in terms of written outputs: what the outputs of two cuts have in common. Only the contracts of same layout and of the cuts
+-- are used.
 use Prim.Native.Nat.{ℕ}
 use native.Mathlib.Omega.{arith}
 use mathlib.Core.Path.{_≡_, sym, ap, subst, _∙_}
@@ -18,7 +19,7 @@ use Rattle.layout.proofs.Buffers.{front-read}
 use Rattle.layout.proofs.Promises.{taken}
 use Rattle.layout.proofs.SameLayout.{same-augmented}
 
--- the answer 1 says that the layouts agree
+-- the written number 1 means that the layouts agree
 told : (b : Bool) (k : ℕ) → k ≡ cond b 1 0 → k ≡ 1 → T b
 told true k e f = tt
 told false k e f = absurd (omega (arith, e, f))
@@ -26,7 +27,7 @@ told false k e f = absurd (omega (arith, e, f))
 pub layouts-told : (p q : Problem) {before after : List ℕ} → SameLayout p q before after 0 → getD after 0 0 ≡ 1 → T (sameLayout p q)
 layouts-told p q {before} {after} same one = told (sameLayout p q) (getD after 0 0) (ap (λ (ws : List ℕ). getD ws 0 0) (same .out)) one
 
--- the fronts of two outputs that hold equal tables
+-- two outputs to which equal tables were written agree in what was written
 both-fronts : {A : Type 0} (new new2 old old2 : List A) {out out2 : List A} → out ≡ written new old → out2 ≡ written new2 old2 → new ≡ new2
     → take (length new) out ≡ take (length new2) out2
 both-fronts new new2 old old2 w w2 e = front-read new old w ∙ e ∙ sym (front-read new2 old2 w2)
@@ -58,7 +59,7 @@ module _ (route : Route) (p q : Problem) (same : T (sameLayout p q)) (okp : refu
         rooms = same-rooms;
       }
 
--- Where same layout answers 0 and writes 1, and both cuts on one route answer 0, their outputs agree.
+-- If same layout returns 0 and writes 1, and both cuts on one route return 0, their outputs agree.
 pub same-written : (route : ℕ) (p q : Problem) {answer₀ answer : List ℕ} → SameLayout p q answer₀ answer 0 → getD answer 0 0 ≡ 1
     → {before before2 after after2 : Augmented} → Cut route p before after 0 → Cut route q before2 after2 0
     → SameWritten (routeOf route) p q after after2

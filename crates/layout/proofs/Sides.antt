@@ -1,11 +1,12 @@
--- The cut of many right sides gives what the compact cuts of the sides give one by one, and refuses what the first of them that is refused gives.
+-- The cut of many right sides gives what the compact cuts of the sides give one by one; if a side is refused, it returns the refusal number
+-- of the first such side.
 use Prim.Native.Nat.{ℕ, zero, suc, _+_, _-_, _*_, _≤_, _<_}
 use native.Mathlib.Nat.{zero-mul, mul-le-mul-right, le-of-suc-le-suc, not-suc-le-zero}
 use native.Mathlib.Omega.{arith}
 use mathlib.Core.Path.{_≡_, refl, sym, ap, ap₂, _∙_}
 use mathlib.Core.Logic.{_↔_}
 use mathlib.Core.Bool.{Bool, true, false, cond, _&&_}
-use mathlib.Core.List.{List, [], _∷_, _++_, append-nil}
+use mathlib.Core.List.{List, [], _∷_, _++_}
 use lib.ListN.{length, getD, set, take, drop, length-append, length-map, length-drop}
 use lib.Seq.{take-at, length-take-le, drop-append-add}
 use lib.Dec.{T, leb, eqb}
@@ -21,12 +22,10 @@ use Rattle.layout.specs.Answers.{orElse, roomy, problemRefusal, augmente
 use Rattle.layout.specs.Sides.{side, withSide, OneByOne, firstSideChecks, sidesFailing, sidesB, augmentedSides, sidesRefusal}
 use Rattle.layout.proofs.Tests.{and-iff, leb-iff, eqb-iff, failed}
 use Rattle.layout.proofs.Members.{has-upFrom, has-below}
-use Rattle.layout.proofs.Starts.{join-append}
-use Rattle.layout.proofs.Keeps.{below-more}
 use Rattle.layout.proofs.Order.{orElse-zero, orElse-same, passing, passed as check-passed, failing-append, failing-each, failing-first, failing-tests}
 use Rattle.layout.proofs.OtherSide.{covers, other-results, other-refusal}
 
--- ---- runs of equal length
+-- ---- joined lists of equal length
 
 module _ {A : Type 0} (g : ℕ → List A) (n : ℕ) (even : (i : ℕ) → length (g i) ≡ n) where
   pub length-runs : (a c : ℕ) → length (join g (upFrom a c)) ≡ c * n
@@ -46,13 +45,13 @@ module _ {A : Type 0} (g : ℕ → List A) (n : ℕ) (even : (i : ℕ) → lengt
 
 -- ---- the refusals
 
--- what 1 and 4 ask, as facts: 1 to 64 sides of m values
+-- what checks 1 and 4 require of the right sides: 1 to 64 sides of m values each
 pub record SidesFit (m count : ℕ) (sides : List Float) : Type 0 where
   pub some : 1 ≤ count
   pub few : count ≤ 64
   pub filled : length sides ≡ count * m
 
--- Checks 1 to 7 give r, made at once. With another test under 4 before: r if it is at most 3, then this, then r.
+-- Let checks 1 to 7 together give r. With a further test `long` in check 4: r if it is at most 3, else 4 if `long` fails, else r.
 in-order : (one two three long four five six seven : Bool) (cs : List Check)
     → let r = firstFailing (check 1 one ∷ check 2 two ∷ check 3 three ∷ check 4 four ∷ check 5 five ∷ check 6 six ∷ check 7 seven ∷ []) in
     firstFailing (check 1 one ∷ check 2 two ∷ check 3 three ∷ check 4 (long && four) ∷ check 5 five ∷ check 6 six ∷ check 7 seven ∷ cs)
@@ -71,7 +70,7 @@ in-order true true true false true true false seven cs = refl
 in-order true true true false true false six seven cs = refl
 in-order true true true false false five six seven cs = refl
 
--- the first side, and any side as a part of the list
+-- side 0 is the first m values, and any side is a part of the list
 pub side-first : (m : ℕ) (sides : List Float) → side m 0 sides ≡ take m sides
 side-first m sides = ap (λ (t : ℕ). take m (drop t sides)) (zero-mul m)
 
@@ -80,7 +79,7 @@ side-part m k sides =
     let e : m ≡ k * m + m - k * m = omega arith in
     ap (λ (t : ℕ). take t (drop (k * m) sides)) e
 
--- a side is m values
+-- a side has m values
 pub side-length : (m count : ℕ) (sides : List Float) → length sides ≡ count * m → (k : ℕ) → k < count → length (side m k sides) ≡ m
 side-length m count sides e k l =
     length-take-le m (drop (k * m) sides) (omega (arith, length-drop (k * m) sides, mul-le-mul-right m l))
@@ -98,7 +97,7 @@ module _ (p : Problem) (count : ℕ) (sides : List Float) where
   abbrev further : List Check
   further = join each (upFrom 1 (count - 1))
 
-  -- the first side's checks, as a program goes: the count, checks 1 to 3, the length of the list, then checks 4 to 10
+  -- the first side's checks in the order in which code makes them: the count, checks 1 to 3, the length of the list, then checks 4 to 10
   pub first-in-order : let r = problemRefusal (withSide p sides 0) in
       firstFailing (firstSideChecks p count sides) ≡
       orElse (cond (leb 1 count && leb count 64) 0 1)
@@ -121,11 +120,11 @@ module _ (p : Problem) (count : ℕ) (sides : List Float) where
       go true one two three long four five six seven = in-order one two three long four five six seven (routeChecks compact first)
       go false one two three long four five six seven = refl
 
-  -- with a right count and a right length they are those of the first side alone
+  -- with a right count and a right length, the first side's checks are those of the compact route for that side
   pub first-right : SidesFit (p .m) count sides → firstFailing (firstSideChecks p count sides) ≡ refusal compact (withSide p sides 0)
   first-right h = rw (le-leb 1 count (h .some), le-leb count 64 (h .few), eq-eqb (length sides) (count * p .m) (h .filled))
 
-  -- what they say where none fails
+  -- what holds if none of the first side's checks fails
   pub first-passed : firstFailing (firstSideChecks p count sides) ≡ 0
       → SidesFit (p .m) count sides × (refusal compact (withSide p sides 0) ≡ 0)
   first-passed e = (right, sym (first-right right) ∙ e)
@@ -142,29 +141,29 @@ module _ (p : Problem) (count : ℕ) (sides : List Float) where
             filled = eqb-iff (length sides) (count * p .m) .0 (and-iff (eqb (length sides) (count * p .m)) (check4 first) .0 (test 4) .0);
           }
 
-  -- a wrong count is refused as 1
+  -- a wrong count is refused under number 1
   pub first-count : ¬ ((1 ≤ count) × (count ≤ 64)) → firstFailing (firstSideChecks p count sides) ≡ 1
   first-count n =
       first-in-order
       ∙ rw (failed counted (λ t. let h = and-iff (leb 1 count) (leb count 64) .0 t in n (leb-iff 1 count .0 (h .0), leb-iff count 64 .0 (h .1))))
 
-  -- a wrong length as 4, unless one of checks 1 to 3 gives its number
+  -- a wrong length is refused under number 4, unless one of checks 1 to 3 fails
   pub first-length : 1 ≤ count → count ≤ 64 → ¬ (length sides ≡ count * p .m)
       → let r = problemRefusal (withSide p sides 0) in firstFailing (firstSideChecks p count sides) ≡ orElse (cond (leb r 3) r 0) 4
   first-length some few n = first-in-order ∙ rw (le-leb 1 count some, le-leb count 64 few, ne-eqb (length sides) (count * p .m) n)
 
-  -- the first side's checks, then those of the others
+  -- the first side's checks come first, then those of the further sides
   groups : sidesFailing p count sides ≡ orElse (firstFailing (firstSideChecks p count sides)) (firstFailing further)
   groups = failing-append (firstSideChecks p count sides) further tt
 
-  -- a further side's refusal, where the first side is accepted
+  -- a further side's refusal number, if the first side is accepted
   further-refusal : firstFailing (firstSideChecks p count sides) ≡ 0 → (k : ℕ) → k < count
       → refusal compact (withSide p sides k) ≡ cond (covers p (side (p .m) k sides)) 0 9
   further-refusal e k l =
       let (right, ok) = first-passed e in
       other-refusal first ok (side (p .m) k sides) (side-length (p .m) count sides (right .filled) k l)
 
-  -- Where count and length are right, the checks are those of each side, wholly before the next.
+  -- If count and length are right, the checks are those of each side, all of them before those of the next side.
   pub sides-in-order : SidesFit (p .m) count sides
       → sidesFailing p count sides ≡ firstFailing (join (λ k. checks compact (withSide p sides k)) (below count))
   sides-in-order h =
@@ -172,7 +171,7 @@ module _ (p : Problem) (count : ℕ) (sides : List Float) where
       groups ∙ ap (λ (r : ℕ). orElse r (firstFailing further)) (first-right h)
       ∙ sym (failing-append (each 0) further tt) ∙ ap (λ (c : ℕ). firstFailing (join each (below c))) (sym e)
 
-  -- So a number is that of a side that is refused, and all before it are accepted.
+  -- If count and length are right, a number other than 0 is that of a refused side, and all sides before it are accepted.
   pub sides-first : SidesFit (p .m) count sides → ¬ (sidesFailing p count sides ≡ 0)
       → (k : ℕ) × (k < count) × (refusal compact (withSide p sides k) ≡ sidesFailing p count sides)
       × ((j : ℕ) → j < k → refusal compact (withSide p sides j) ≡ 0)
@@ -184,7 +183,7 @@ module _ (p : Problem) (count : ℕ) (sides : List Float) where
       at : (k : ℕ) → refusal compact (withSide p sides k) ≡ firstFailing (each (0 + k))
       at k = ap (λ (i : ℕ). firstFailing (each i)) (omega arith)
 
-  -- Only check 9 looks at the values of a further side.
+  -- Of a further side only the values matter, in check 9.
   pub sides-by-values : sidesFailing p count sides ≡
       orElse (firstFailing (firstSideChecks p count sides)) (cond (all (λ k. covers p (side (p .m) k sides)) (upFrom 1 (count - 1))) 0 9)
   sides-by-values =
@@ -193,7 +192,7 @@ module _ (p : Problem) (count : ℕ) (sides : List Float) where
       (λ e. failing-tests each (λ k. tt) 8 (λ k. covers p (side (p .m) k sides)) (upFrom 1 (count - 1))
       (λ k h. further-refusal e k (omega (arith, has-upFrom k 1 (count - 1) .0 h))))
 
-  -- Nothing is refused exactly where count and length are right and every side is accepted.
+  -- Nothing is refused exactly when count and length are right and every side is accepted.
   pub sides-iff : (sidesFailing p count sides ≡ 0) ↔ (SidesFit (p .m) count sides × ((k : ℕ) → k < count → refusal compact (withSide p sides k) ≡ 0))
   sides-iff = (
     λ e.
@@ -205,18 +204,18 @@ module _ (p : Problem) (count : ℕ) (sides : List Float) where
 
   -- ---- the results
 
-  -- the augmented rows of any side
+  -- the number of augmented rows, which is the same for every side
   abbrev rows : ℕ
   rows = length (compactRows (layout p))
 
   even : (k : ℕ) → length (compactB (withSide p sides k)) ≡ length (compactRows (layout p))
   even k = length-map (compactRows (layout p)) (rowValue (side (p .m) k sides))
 
-  -- b is count times as long as for one side
+  -- the written b is `count` times as long as for one side
   pub length-sidesB : length (sidesB p count sides) ≡ count * length (compactRows (layout p))
   length-sidesB = length-runs (λ k. compactB (withSide p sides k)) rows even 0 count
 
-  -- and its k-th run is the k-th side's
+  -- the k-th run of the written b is the k-th side's augmented b
   pub sidesB-run : (k : ℕ) → k < count → side (length (compactRows (layout p))) k (sidesB p count sides) ≡ compactB (withSide p sides k)
   sidesB-run k l =
       run-at (λ k. compactB (withSide p sides k)) rows even 0 count k l ∙ ap (λ (j : ℕ). compactB (withSide p sides j)) (omega arith)
@@ -230,20 +229,14 @@ module _ (p : Problem) (count : ℕ) (sides : List Float) where
         ∙ sym (other-results (withSide p sides 0) (side (p .m) k sides));
   }
 
-  -- the room that is needed: that of the first side's cut, with count times its b
+  -- the output lengths needed: those of the first side's cut, with `count` times the length of its b
   pub sides-sizes : let ks = sizes compact (withSide p sides 0) in lengths (augmentedSides p count sides) ≡ set ks 7 (count * getD ks 7 0)
   sides-sizes =
       ap (λ (j : ℕ). set (sizes compact (withSide p sides 0)) 7 j) (length-sidesB ∙ ap (λ (j : ℕ). count * j) (sym (even 0)))
 
-  -- The whole call, as a program goes: the first side wholly, of each further side its values, then the room.
+  -- The whole call's number, in the order in which code makes the checks: all of the first side, the values of each further side, check 11.
   pub sides-whole : (rooms : List ℕ) → let ks = sizes compact (withSide p sides 0) in
       sidesRefusal p count sides rooms ≡
       orElse (orElse (firstFailing (firstSideChecks p count sides)) (cond (all (λ k. covers p (side (p .m) k sides)) (upFrom 1 (count - 1))) 0 9))
       (cond (roomy (set ks 7 (count * getD ks 7 0)) rooms) 0 11)
   sides-whole rooms = ap₂ (λ (r : ℕ) (ks : List ℕ). orElse r (cond (roomy ks rooms) 0 11)) sides-by-values sides-sizes
-
--- one side more
-pub sidesB-more : (p : Problem) (k : ℕ) (sides : List Float) → sidesB p (k + 1) sides ≡ sidesB p k sides ++ compactB (withSide p sides k)
-sidesB-more p k sides =
-    let f : ℕ → List Float = λ j. compactB (withSide p sides j) in
-    ap (join f) (below-more k) ∙ join-append f (below k) (k ∷ []) ∙ ap (λ (r : List Float). join f (below k) ++ r) (append-nil (f k))

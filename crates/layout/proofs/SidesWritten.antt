@@ -1,31 +1,28 @@
--- Many right sides on what is written, from the promises of their cut and of the single cuts alone.
+-- Many right sides in terms of written outputs. Only the contracts of their cut and of the single cuts are used.
 use Prim.Native.Nat.{ℕ, zero, suc, _<_}
 use mathlib.Core.Path.{_≡_, refl, sym, ap, _∙_}
 use mathlib.Core.Logic.{_⊎_, inl, inr}
 use mathlib.Core.Bool.{Bool, true, false, cond}
-use mathlib.Core.List.{List}
 use lib.ListN.{length, take}
-use lib.Ieee.{Float}
-use Rattle.layout.specs.Problem.{Problem, compact}
+use Rattle.layout.specs.Problem.{Problem}
 use Rattle.layout.specs.Compact.{compactB}
 use Rattle.layout.specs.Answers.{Augmented, lengths, orElse, roomy}
 use Rattle.layout.specs.Sides.{side, withSide, sidesFailing, sidesB, augmentedSides}
-use Rattle.layout.specs.Calls.Cut.{Cut, frontOn}
 use Rattle.layout.specs.Calls.CutMany.{CutMany}
-use Rattle.layout.specs.SidesWritten.{runWritten, SideWritten, FirstRefused}
+use Rattle.layout.specs.SidesWritten.{SideWritten, FirstRefused}
 use Rattle.layout.proofs.Buffers.{front-read}
 use Rattle.layout.proofs.Order.{orElse-zero}
 use Rattle.layout.proofs.Sides.{SidesFit, one-by-one, sides-first, sides-iff}
 use Rattle.layout.proofs.BetweenWritten.{same-but-b}
 
--- a number that is not 0: the first, or 11
+-- a number that is not 0 is the first one or, if that is 0, 11
 split : (a : ℕ) (t : Bool) (r : ℕ) → r ≡ orElse a (cond t 0 11) → ¬ (r ≡ 0) → ((a ≡ 0) × (r ≡ 11)) ⊎ (¬ (a ≡ 0) × (r ≡ a))
 split zero true r e n = absurd (n e)
 split zero false r e n = inl (refl, e)
 split (suc a) t r e n = inr (λ z. n (e ∙ z), e)
 
 module _ (count : ℕ) (p : Problem) {before after : Augmented} where
-  -- where nothing is refused
+  -- if the call returns 0, every side is accepted, and the results agree with its own cut
   module _ (call : CutMany count p before after 0) where
     accepted-sides : sidesFailing p count (p .b) ≡ 0
     accepted-sides = orElse-zero (sidesFailing p count (p .b)) (cond (roomy (lengths (augmentedSides p count (p .b))) (lengths before)) 0 11) .0 (sym (call .number)) .0
@@ -45,7 +42,7 @@ module _ (count : ℕ) (p : Problem) {before after : Augmented} where
               ∙ ap (side (length (compactB (withSide p (p .b) k))) k) (sym all-read);
         }
 
-  -- where it is, with a right count and a right length
+  -- if the call refuses, with a right count and a right length: its number is the first refused side's, or 11 with every side accepted
   pub first-refused : {r : ℕ} → CutMany count p before after r → SidesFit (p .m) count (p .b) → ¬ (r ≡ 0) → FirstRefused count p r
   first-refused {r} call fit n = elim (split (sidesFailing p count (p .b)) (roomy (lengths (augmentedSides p count (p .b))) (lengths before)) r (call .number) n) [
     | inl (ok, e) ↦ inr (e, sides-iff p count (p .b) .0 ok .1)

@@ -1,4 +1,4 @@
--- The sizes of the cut's outputs in closed form, for a problem that the route accepts.
+-- The lengths of the cut's outputs in closed form, for a problem that the route accepts.
 use Prim.Native.Nat.{ℕ, suc, _+_, _*_}
 use native.Mathlib.Nat.{le-refl}
 use native.Mathlib.Omega.{arith}
@@ -52,19 +52,19 @@ standard-part (whole i c row) = refl
 standard-part (cut i row k p) =
     omega (arith, words-length (λ c. blockSize (cliqueAt p c)) (below (cliqueCount p)), length-upFrom 0 (cliqueCount p))
 
--- an entry for each of its new cones
+-- a part has one cone map entry for each of its new cones
 pub map-part : (first : ℕ) (x : Part) → length (mapPart first x) ≡ partCones x
 map-part first (whole i c row) = refl
 map-part first (cut i row k p) =
     length-map (reverse (below (cliqueCount p))) (blockEntry i k p first) ∙ down-count (cliqueCount p)
 
--- and in all
+-- the cone map has one entry for each new cone
 pub map-count : (first : ℕ) (ps : List Part) → length (mapFrom first ps) ≡ coneCount ps
 map-count first [] = refl
 map-count first (x ∷ ps) =
     omega (arith, length-append (mapPart first x) (mapFrom (first + partRows x) ps), map-part first x, map-count (first + partRows x) ps)
 
--- five words an entry
+-- a cone map entry has five words
 pub entries-length : (es : List MapEntry) → length (mapWords es) ≡ 5 * length es
 entries-length [] = refl
 entries-length (wholeCone i first rows ∷ es) = omega (arith, entries-length es)
@@ -72,7 +72,7 @@ entries-length (blockOf i k c first rows ∷ es) = omega (arith, entries-length 
 
 -- ---- entries
 
--- the columns of number below n, and others after them
+-- the entry count of the columns below n and of the columns ds after them
 two-parts : (f : ℕ → List Entry) (n : ℕ) (ds : List (List Entry))
     → sum (map length (map f (below n) ++ ds)) ≡ sum (map (λ c. length (f c)) (below n)) + sum (map length ds)
 two-parts f n ds =
@@ -119,7 +119,7 @@ standard-count row (cut i r k p ∷ ps) h =
       standard-count (row + triangle (p .vertexCount)) ps (h .2),
     )
 
--- the columns' entries are the matrix's
+-- the entry counts of the columns sum to the entry count of the matrix
 column-entries : (n : ℕ) (M : Csc) → RightStarts n M → sum (map (λ c. length (column M c)) (below n)) ≡ length (M .values)
 column-entries n M right = columns-sum n M right n (le-refl n) ∙ right .last ∙ right .even
 
@@ -159,7 +159,8 @@ module _ (p : Problem) (ok : refusal compact p ≡ 0) where
   compact-rows : length (compactA p .rows) ≡ length (summedA p .values) + 2 * k
   compact-rows = even (compactColumns p) ∙ compact-entries
 
-  compact-b : length (compactB p) ≡ blockRowCount (layout p)
+  -- the augmented b has one value for each block row
+  pub compact-b : length (compactB p) ≡ blockRowCount (layout p)
   compact-b = length-map R (rowValue (p .b)) ∙ accepted-count compact p ok
 
   compact-p : length (compactP p .starts) ≡ suc (p .n + k)
@@ -168,7 +169,7 @@ module _ (p : Problem) (ok : refusal compact p ≡ 0) where
   compact-map : length (mapWords (coneMap (layout p))) ≡ 5 * coneCount (layout p)
   compact-map = omega (arith, map-count 0 (layout p), entries-length (coneMap (layout p)))
 
--- from n, the entries of P and of A with its repeats added, the number of α and the parts
+-- the compact cut's output lengths, from n, the entry counts of P and of A with its repeats summed, the number of α and the parts
 abbrev pub compactSizes : ℕ → ℕ → ℕ → ℕ → List Part → List ℕ
 compactSizes n entriesP entriesA alphas ps =
     let added = overlapCount ps in
@@ -220,7 +221,7 @@ module _ (p : Problem) (ok : refusal standard p ≡ 0) where
   standard-cones : length (standardCones p) ≡ 3 * suc (coneCount (layout p))
   standard-cones = omega (arith, parts-length standardPart 3 standard-part (layout p))
 
--- from n, m, the entries of P and of A, the number of α and the parts
+-- the standard cut's output lengths, from n, m, the entry counts of P and of A, the number of α and the parts
 abbrev pub standardSizes : ℕ → ℕ → ℕ → ℕ → ℕ → List Part → List ℕ
 standardSizes n m entriesP entriesA alphas ps =
     let added = blockRowCount ps in

@@ -20,7 +20,7 @@ module _ (p : Pattern) (tree : CliqueTree p) where
         | inr below ↦ below
       ]
 
-  -- u along the way from c, one step up and then i more
+  -- if u is in c and in the ancestors of c's parent up to k steps, it is in the ancestors of c up to k + 1 steps
   step : (c k u : ℕ) → In p c u → ((i : ℕ) → i ≤ k → In p (ancestor p i (parentOf p c)) u) → (i : ℕ) → i ≤ suc k → In p (ancestor p i c) u
   step c k u h up zero l = h
   step c k u h up (suc i) l = up i (le-of-suc-le-suc l)

@@ -1,5 +1,5 @@
--- Recursive summation: terms added one after the other, each sum rounded. The error of k terms from +0.0 is at most k - 1 units of roundoff
--- times the sum of the terms' magnitudes, for any k: an addition is off by a unit of roundoff of its sum, but never by more than its term
+-- Recursive summation: terms are added one after another, each sum rounded. From +0.0 the error of k terms is at most k - 1 units of roundoff
+-- times the sum of the terms' magnitudes, for any k: an addition's error is at most a unit of roundoff times its sum, and at most its term
 -- (Jeannerod and Rump, Improved error bounds for inner products in floating-point arithmetic, 2013).
 use Prim.Native.Nat.{ℕ, suc, _+_, _-_, _*_, _^_, _≤_, _<_, zero-le}
 use native.Mathlib.Nat.{le-trans, le-of-lt, mul-left-comm, mul-le-mul-left, mul-le-mul-right, le-of-mul-le-mul-left}
@@ -23,7 +23,7 @@ use Rattle.layout.proofs.Magnitudes.{magnitude-add}
 use Rattle.layout.proofs.Repeats.{leftSum}
 use Rattle.layout.proofs.Roundoff.{AdditionError, addition-error, finite-first, finite-second}
 
--- an infinity and a NaN stay: a finite result has finite sums on the way, and finite terms
+-- infinities and NaNs persist: if the result is finite, so are all intermediate sums and all terms
 finite-from : (a : Float) (ts : List Float) → T (finite (leftSum a ts)) → T (finite a)
 finite-from a [] h = h
 finite-from a (t ∷ ts) h = finite-first a t (finite-from (add binary64 a t) ts h)
@@ -35,7 +35,7 @@ finite-terms a (t ∷ ts) h =
 
 -- ---- one more term
 
--- an error of D in a sum of magnitudes S, a term of magnitude t, and an error of r in the addition, whose exact sum is x
+-- one more term: D is the error so far, S the sum of magnitudes so far, t the term's magnitude, r the addition's error, x its exact sum
 step : (U k S D t r x : ℕ) → 0 < U → U * D ≤ k * S → U * r ≤ x → x ≤ S + D + t → r ≤ t → U * (D + r) ≤ suc k * (S + t)
 step U k S D t r x u before relative size term = go (lt-or-le S (U * t))
   where
@@ -47,14 +47,14 @@ step U k S D t r x u before relative size term = go (lt-or-le S (U * t))
         omega arith
     go (inr small) = omega (arith, mul-le-mul-left U term)
 
--- the error so far, and what the addition adds to it
+-- the total error is the error so far plus the error of the addition
 split : (c a e t : ℤ) → c -ℤ (e +ℤ t) ≡ (a -ℤ e) +ℤ (c -ℤ (a +ℤ t))
 split c a e t = simp linear
 
 restore : (a e t : ℤ) → a +ℤ t ≡ (e +ℤ (a -ℤ e)) +ℤ t
 restore a e t = simp linear
 
--- a is off by at most k units of roundoff of S from e
+-- a differs from e by at most k units of roundoff times S
 abbrev Off : ℕ → ℕ → ℤ → ℤ → Type 0
 Off k S a e = 2 ^ 53 * magnitude (a -ℤ e) ≤ k * S
 
@@ -94,7 +94,7 @@ more-terms k S a e (t ∷ ts) fit all-fit fin small off =
     subst (λ (z : ℕ). 2 ^ 53 * magnitude (count (leftSum b ts) -ℤ (e +ℤ (count t +ℤ exactSum ts))) ≤ z) same
     (subst (λ (z : ℤ). Off (suc k + length ts) (S + T′ + magnitudes ts) (count (leftSum b ts)) z) (+ℤ-assoc e (count t) (exactSum ts)) rest)
 
--- from +0.0: the first addition is exact
+-- from +0.0, k terms give at most k - 1 units of roundoff, since the first addition is exact
 pub summation-sharp : (ts : List Float) → Doubles ts → T (finite (leftSum zero64 ts))
     → 2 ^ 53 * magnitude (count (leftSum zero64 ts) -ℤ exactSum ts) ≤ (length ts - 1) * magnitudes ts
 summation-sharp [] fit fin = lit≤ tt

@@ -1,4 +1,4 @@
--- Values added by row: their order does not matter, and both routes' exact totals are such sums.
+-- Sums of values by row: their order does not matter, and both routes' exact totals are such sums.
 use Prim.Native.Nat.{ℕ, zero, suc, _+_, _≤_, _<_}
 use native.Mathlib.Nat.{not-suc-le-zero, le-of-suc-le-suc}
 use native.Mathlib.Omega.{arith}
@@ -40,7 +40,7 @@ total-append (q ∷ os) qs (v ∷ vs) ws o e =
     ap (λ (z : ℤ). onRow q o v +ℤ z) (total-append os qs vs ws o (omega arith))
     ∙ sym (+ℤ-assoc (onRow q o v) (rowTotal os vs o) (rowTotal qs ws o))
 
--- no value stands on row o
+-- the sum at row o is 0 if no value has row o
 pub total-none : (os : List ℕ) (vs : List ℤ) (o : ℕ) → (T (has o os) → ⊥) → rowTotal os vs o ≡ pos 0
 total-none [] vs o n = refl
 total-none (q ∷ os) [] o n = refl
@@ -48,7 +48,7 @@ total-none (q ∷ os) (v ∷ vs) o n =
     ap₂ _+ℤ_ (onRow-other q o v (λ e. n (has-cons o q os .1 (inl (sym e)))))
     (total-none os vs o (λ h. n (has-cons o q os .1 (inr h))))
 
--- a row for each value, in order
+-- if the values have the rows a, a + 1, .., the sum at row a + k is value k
 pub total-up : (a n k : ℕ) (vs : List ℤ) → length vs ≡ n → k < n → rowTotal (upFrom a n) vs (a + k) ≡ at vs k
 total-up a zero k vs e l = absurd (not-suc-le-zero l)
 total-up a (suc n) k [] e l = absurd (omega arith)
@@ -63,7 +63,7 @@ total-up a (suc n) (suc k) (v ∷ vs) e l =
     ∙ ap₂ _+ℤ_ (onRow-other a (suc a + k) v (omega arith)) (total-up (suc a) n k vs (omega arith) (le-of-suc-le-suc l))
     ∙ +ℤ-idl (at vs k)
 
--- ---- blocks with the last first
+-- ---- blocks in reversed order
 
 total-last : (ks : List ℕ) (os : List ℕ) (vs : List ℤ) (o : ℕ) → length os ≡ length vs → sum ks ≤ length os
     → rowTotal (lastFirst ks os) (lastFirst ks vs) o ≡ rowTotal (take (sum ks) os) (take (sum ks) vs) o
@@ -96,12 +96,12 @@ total-groups (ks ∷ kss) os vs o e l =
     (length-take-le (sum ks) os (omega arith) ∙ sym (length-take-le (sum ks) vs (omega arith))))
     ∙ ap₂ (λ (qs : List ℕ) (ws : List ℤ). rowTotal qs ws o) (take-append-drop (sum ks) os) (take-append-drop (sum ks) vs)
 
--- rows and values in compact order have the totals that they have in standard order
+-- rows and values in compact order have the same sum at each row as in standard order
 total-order : (ps : List Part) (os : List ℕ) (vs : List ℤ) (o : ℕ) → length os ≡ blockRowCount ps → length vs ≡ blockRowCount ps
     → rowTotal (compactOrder ps os) (compactOrder ps vs) o ≡ rowTotal os vs o
 total-order ps os vs o e f = total-groups (map blockLengths ps) os vs o (e ∙ sym f) (e ∙ sym (all-lengths ps))
 
--- ---- the totals that the joinings form
+-- ---- the totals that the joinings compute
 
 total-added : (R : List Row) (vs : List ℤ) (o : ℕ) → length vs ≡ length R → added R (at vs) o ≡ rowTotal (map originalRow R) vs o
 total-added [] vs o e = refl
@@ -121,9 +121,9 @@ walk-at (q ∷ os) (v ∷ vs) ws o h =
 walk-length : (os : List ℕ) (vs ws : List ℤ) → length (walk addExactAt os vs ws) ≡ length ws
 walk-length os vs ws = length-walk addExactAt (λ q v us. length-set us q (at us q +ℤ v)) os vs ws
 
--- ---- the two routes' totals of laid parts
+-- ---- both routes' totals for parts that are `Laid`
 
--- blocks moved are no new members
+-- reordering blocks adds no members
 has-part : (k q : ℕ) (vs : List ℕ) → T (has q (take k vs)) ⊎ T (has q (drop k vs)) → T (has q vs)
 has-part k q vs h = subst (λ (ws : List ℕ). T (has q ws)) (take-append-drop k vs) (has-append q (take k vs) (drop k vs) .1 h)
 
@@ -151,7 +151,7 @@ module _ (m : ℕ) (ps : List Part) (laid : Laid 0 ps) (right : RightRows 0 0 m 
   count-compact : length (compactRows ps) ≡ blockRowCount ps
   count-compact = length-rows 0 0 ps laid
 
-  -- the rows of H are original rows
+  -- the row indices of H are below m
   pub h-inside : (q : ℕ) → T (has q (standardRows ps)) → q < m
   h-inside q h =
       let back : standardOrder ps (map originalRow (compactRows ps)) ≡ os =
@@ -161,7 +161,7 @@ module _ (m : ℕ) (ps : List Part) (laid : Laid 0 ps) (right : RightRows 0 0 m 
       let (r, l, e) = has-map (kept 0) originalRow q (compactRows ps) .0 moved in
       omega (arith, e, right .inside r l)
 
-  -- both routes' totals at an original row, from a value for each column of H
+  -- the total at an original row on either route is the sum by row of the values for the columns of H
   pub standard-total : (vs : List ℤ) (o : ℕ) → at (standardTotals m ps vs) o ≡ rowTotal (standardRows ps) vs o
   standard-total vs o =
       walk-at os vs (replicate m (pos 0)) o (λ q h. omega (arith, h-inside q h, length-replicate m (pos 0)))
@@ -176,7 +176,7 @@ module _ (m : ℕ) (ps : List Part) (laid : Laid 0 ps) (right : RightRows 0 0 m 
       ∙ ap (λ (qs : List ℕ). rowTotal qs (compactOrder ps vs) o) (rows-order 0 0 ps laid)
       ∙ total-order ps os vs o count-standard e
 
-  -- the totals are the same
+  -- both routes have the same totals
   pub same-totals : (vs : List ℤ) → length vs ≡ blockRowCount ps → compactTotals m ps (compactOrder ps vs) ≡ standardTotals m ps vs
   same-totals vs e =
       ext-getD (pos 0) (compactTotals m ps (compactOrder ps vs)) (standardTotals m ps vs)

@@ -1,4 +1,4 @@
--- How many cliques, patterns and pattern words an accepted problem has.
+-- Bounds on the numbers of cliques, patterns and pattern words of an accepted problem.
 use Prim.Native.Nat.{ℕ, suc, _*_, _≤_, _<_}
 use native.Mathlib.Nat.{mul-comm}
 use native.Mathlib.Omega.{arith}
@@ -28,14 +28,14 @@ module _ {A : Type 0} where
   join-most d f most xs h =
       omega (arith, length-join f xs, sum-bound d (λ x. length (f x)) most xs h, mul-comm most (length xs))
 
--- no list is empty, so the joined list is as long as there are lists
+-- if no list is empty, the joined list is at least as long as the number of lists
 join-long : (f : Clique → List ℕ) (cs : List Clique) → EveryAt noClique (λ c. ¬ (length (f c) ≡ 0)) cs → length cs ≤ length (join f cs)
 join-long f [] h = omega arith
 join-long f (c ∷ cs) h =
     omega (arith, h 0 (omega arith), length-append (f c) (join f cs), join-long f cs (λ i l. h (suc i) (omega arith)))
 
 module _ (p : Pattern) (ok : RightPattern p) where
-  -- no more cliques than vertices
+  -- a pattern has no more cliques than vertices
   pub cliques-few : cliqueCount p ≤ p .vertexCount
   cliques-few =
       let right = cliques-right p (ok .cliques) in
@@ -61,7 +61,7 @@ module _ (p : Pattern) (ok : RightPattern p) where
         join-most noClique cliqueWords 259 (p .cliques) (λ c l. omega (arith, clique-size c l, length-append (cliqueAt p c .snode) (cliqueAt p c .separator))),
       )
 
--- a clique has three words at least
+-- a clique has at least three words
 cliques-least : (cs : List Clique) → 3 * length cs ≤ length (join cliqueWords cs)
 cliques-least [] = omega arith
 cliques-least (c ∷ cs) = omega (arith, length-append (cliqueWords c) (join cliqueWords cs), cliques-least cs)
@@ -90,7 +90,7 @@ module _ {m : ℕ} {cones : List ℕ} {count : ℕ} {words : List ℕ} (h : Soun
   named : EveryAt noPattern (λ p. T (namesItsCone cs p)) ps
   named = all-at noPattern (namesItsCone cs) ps .0 (sound-names h)
 
-  -- a pattern's cone is PSD, so it has at most 256 vertices
+  -- a pattern has at most 256 vertices, as its cone is PSD
   pub vertices-few : (i : ℕ) → i < length ps → getD ps i noPattern .vertexCount ≤ 256
   vertices-few i l =
       let p = getD ps i noPattern in
@@ -104,7 +104,7 @@ module _ {m : ℕ} {cones : List ℕ} {count : ℕ} {words : List ℕ} (h : Soun
         | inr k ↦ omega (arith, leb→le (c .first) 256 k)
       ]
 
-  -- patterns name cones of rising number
+  -- there are no more patterns than cones, as patterns name cones of strictly increasing number
   pub patterns-few : length ps ≤ length cs
   patterns-few =
       let origins : List ℕ = map (λ p. p .origIndex) ps in

@@ -1,4 +1,4 @@
--- What each public call of document 01 answers: its refusal, and what its outputs hold. A refused call's outputs hold what they held.
+-- What each public call of document 01 returns: its refusal number and the contents of its outputs. A refused call leaves its outputs unchanged.
 use Prim.Native.Nat.{ℕ, zero, suc, _+_}
 use mathlib.Core.Bool.{Bool, true, false, cond, _&&_}
 use mathlib.Core.List.{List, [], _∷_, map}
@@ -17,21 +17,21 @@ use Rattle.layout.specs.Compact.{coneMap, mapWords, compactA, compactB, 
 use Rattle.layout.specs.Standard.{standardA, standardB, standardP, standardQ, standardCones}
 use Rattle.layout.specs.Reverse.{compactReverse, standardReverse}
 
--- what an output holds after a call: written to its front where nothing is refused, and kept otherwise
+-- an output's contents after a call: `new` at its start where the refusal number is 0, unchanged otherwise
 abbrev pub output : {A : Type 0} → ℕ → List A → List A → List A
 output zero new old = written new old
 output (suc k) new old = old
 
--- the second number where the first is 0
+-- the first number, or the second where the first is 0
 abbrev pub orElse : ℕ → ℕ → ℕ
 orElse zero b = b
 orElse (suc a) b = suc a
 
--- check 11 of one output: what is to be written, and the room that there is
+-- check 11 of one output: it needs `need` elements and has `room`
 abbrev pub roomRefusal : ℕ → ℕ → ℕ
 roomRefusal need room = cond (leb need room) 0 11
 
--- check 11 of several
+-- check 11 of several outputs: whether each has at least as many elements as it needs
 abbrev pub roomy : List ℕ → List ℕ → Bool
 roomy [] rooms = true
 roomy (k ∷ ks) [] = false
@@ -59,7 +59,7 @@ inverse xs = map (λ w. placeOf w xs) (below (length xs))
 abbrev pub inverseRefusal : List ℕ → ℕ → ℕ
 inverseRefusal xs room = orElse (cond (isPermutation xs) 0 5) (roomRefusal (length xs) room)
 
--- ---- renumbering of one pattern: its orig_index is free, and so is its vertex count
+-- ---- renumbering of one pattern: its orig_index and its vertex count are not compared with a cone
 
 abbrev pub onlyPattern : List ℕ → Pattern
 onlyPattern ws = wholly noPattern (readPattern ws)
@@ -75,7 +75,7 @@ renumberRefusal ws room =
 abbrev pub renumbered : List ℕ → List ℕ
 renumbered ws = patternWordsOf (renumber (onlyPattern ws))
 
--- ---- the cut: a whole problem over the augmented rows, and the cone map, which the standard route lacks
+-- ---- the cut: the augmented problem and the cone map, which is empty on the standard route
 
 pub record Augmented : Type 0 where
   pub P : Csc
@@ -106,7 +106,7 @@ augmented compact p = record {
   map = mapWords (coneMap (layout p));
 }
 
--- the results with another b
+-- the same results with another b
 abbrev pub augmentedWithB : Augmented → List Float → Augmented
 augmentedWithB a b = record { P = a .P; q = a .q; A = a .A; b = b; cones = a .cones; alphas = a .alphas; map = a .map }
 
@@ -123,7 +123,7 @@ sizes route p = lengths (augmented route p)
 abbrev pub sizesRefusal : Route → Problem → ℕ → ℕ
 sizesRefusal route p room = orElse (refusal route p) (roomRefusal 11 room)
 
--- with the room of each output, in the same order
+-- the refusal number of the cut; `rooms` has the length of each output, in the same order
 abbrev pub cutRefusal : Route → Problem → List ℕ → ℕ
 cutRefusal route p rooms = orElse (refusal route p) (cond (roomy (sizes route p) rooms) 0 11)
 
@@ -148,13 +148,13 @@ mapRight compact ps ws = sameNumbers ws (mapWords (coneMap ps))
 abbrev pub joinBounded : ℕ → ℕ → List ℕ → Bool
 joinBounded n m cones = leb n 65536 && leb m 65536 && conesBounded cones
 
--- check 12 of a joining, beside `mapRight`
+-- check 12 of a joining, apart from the cone map (`mapRight`)
 abbrev pub solutionFits : Route → ℕ → ℕ → List Part → Solution → Bool
 solutionFits route n m ps sol =
     eqb (length (sol .x)) (n + addedCount route ps) && eqb (length (sol .s)) (slackCount route m ps)
     && eqb (length (sol .z)) (slackCount route m ps)
 
--- checks 1 to 10 of a joining, which lacks the inputs of 2, 3 and 9
+-- checks 1 to 10 of a joining, which has no inputs for 2, 3 and 9
 abbrev pub joinChecks : Route → ℕ → ℕ → List ℕ → ℕ → List ℕ → ℕ
 joinChecks route n m cones count words =
     let pats = patterns count words in
@@ -163,7 +163,7 @@ joinChecks route n m cones count words =
     ∷ check 5 (patternsRead cones count words) ∷ check 6 (all treeRight pats) ∷ check 7 (all cliquesRight pats)
     ∷ check 10 (check10 route m (joinedParts cones count words)) ∷ [])
 
--- with the cone map's words, and the room of x, s, z and the two scalars
+-- the refusal number of a joining; `entries` is the cone map's words, `rooms` the lengths of x, s, z and the two scalars
 abbrev pub joinRefusal : Route → ℕ → ℕ → List ℕ → ℕ → List ℕ → Solution → List ℕ → List ℕ → ℕ
 joinRefusal route n m cones count words sol entries rooms =
     let ps = joinedParts cones count words in
@@ -186,22 +186,22 @@ problemRefusal p = firstFailing (problemChecks p)
 abbrev pub sameLayoutRefusal : Problem → Problem → ℕ → ℕ
 sameLayoutRefusal p q room = orElse (problemRefusal p) (orElse (problemRefusal q) (roomRefusal 1 room))
 
--- the same double bit by bit: +0.0 and -0.0 differ, and one NaN is not told from another
+-- whether two doubles agree bit by bit: +0.0 and -0.0 differ, and all NaNs count as one
 abbrev pub sameBits : Float → Float → Bool
 sameBits x y = eqb (toBits binary64 x) (toBits binary64 y)
 
--- the same starts and rows: a matrix's values are not compared
+-- whether two matrices have the same starts and rows: their values are not compared
 abbrev pub samePlaces : Csc → Csc → Bool
 samePlaces M N = sameNumbers (M .starts) (N .starts) && sameNumbers (M .rows) (N .rows)
 
--- the pattern counts need not be compared: words that pass check 5 have one count
+-- the pattern counts need not be compared: words that pass check 5 have only one count
 abbrev pub sameLayout : Problem → Problem → Bool
 sameLayout p q =
     eqb (p .n) (q .n) && eqb (p .m) (q .m) && sameNumbers (p .cones) (q .cones)
     && sameNumbers (p .patternWords) (q .patternWords)
     && sameBy sameBits (p .alphas) (q .alphas) && samePlaces (p .A) (q .A) && samePlaces (p .P) (q .P)
 
--- what the cuts of two problems with the same layout have in common, where a route accepts both
+-- what the cuts of two problems with the same layout share, where a route accepts both
 pub record SameAugmented (a c : Augmented) : Type 0 where
   pub starts : a .A .starts ≡ c .A .starts
   pub rows : a .A .rows ≡ c .A .rows
@@ -210,13 +210,13 @@ pub record SameAugmented (a c : Augmented) : Type 0 where
   pub map : a .map ≡ c .map
   pub startsP : a .P .starts ≡ c .P .starts
   pub rowsP : a .P .rows ≡ c .P .rows
-  -- all outputs are equally long
+  -- corresponding outputs have equal lengths
   pub lengths : lengths a ≡ lengths c
 
 abbrev pub sameLayoutWords : Problem → Problem → List ℕ
 sameLayoutWords p q = cond (sameLayout p q) 1 0 ∷ []
 
--- ---- a route's number: 0 standard, 1 compact; any other is refused as 1 before anything else
+-- ---- a route's number: 0 standard, 1 compact; any other number is refused with 1 before all checks
 
 abbrev pub onRoute : ℕ → (Route → ℕ) → ℕ
 onRoute zero f = f standard

@@ -1,4 +1,4 @@
--- A right side known only within limits: a low and a high list of m values for b, and one compact cut of both. Definitions only.
+-- A right side known only within limits (document 02, Q-8): lists low and high of m values for b, in one compact cut. Definitions only.
 use Prim.Native.Nat.{ℕ}
 use mathlib.Core.Bool.{Bool, cond, _&&_}
 use mathlib.Core.List.{List, [], _∷_, _++_}
@@ -13,21 +13,21 @@ use Rattle.layout.specs.Compact.{compactB}
 use Rattle.layout.specs.Equations.{Doubles}
 use Rattle.layout.specs.Answers.{orElse, roomy, augmented, augmentedWithB, sizes}
 
--- as long, and place by place at most the other's value; a NaN is neither at most nor at least any value
+-- whether the lists have equal length and xs is at most ys at every index; NaN is neither at most nor at least any value
 abbrev pub atMost : List Float → List Float → Bool
 atMost xs ys = sameBy le xs ys
 
--- each value of b is between its low and its high
+-- whether each value of b is between its low and its high
 abbrev pub between : List Float → List Float → List Float → Bool
 between low b high = atMost low b && atMost b high
 
--- as long, and place by place the same number: the two zeros are one number, and a NaN is none
+-- whether the lists have equal length and equal numbers at every index: +0.0 and -0.0 are equal, and NaN equals nothing
 abbrev pub asNumbers : List Float → List Float → Bool
 asNumbers xs ys = sameBy eq xs ys
 
 -- ---- the refusals
 
--- checks 1 to 10, 4 and 9 with low and with high, and 16 after 4: a low is above its high, or one of them is NaN
+-- checks 1 to 10, with 4 and 9 made for low and for high, and 16 after 4: no low is above its high, and none of them is NaN
 abbrev pub limitsChecks : Problem → List Float → List Float → List Check
 limitsChecks p low high =
     tableChecks p
@@ -45,27 +45,27 @@ limitsSizes p low high =
     let ks = sizes compact (withB p low) in
     take 8 ks ++ (length (compactB (withB p high)) ∷ drop 8 ks)
 
--- the whole call, with the room of each of the twelve outputs
+-- the call's refusal number; `rooms` has the length of each of the twelve outputs
 abbrev pub limitsRefusal : Problem → List Float → List Float → List ℕ → ℕ
 limitsRefusal p low high rooms = orElse (limitsFailing p low high) (cond (roomy (limitsSizes p low high) rooms) 0 11)
 
--- ---- what the call promises, where limitsFailing is 0
+-- ---- what holds for the call's results, where limitsFailing is 0
 
--- b is between the limits, and its augmentation is v as numbers
+-- b is between the limits, and its augmentation equals v as numbers
 abbrev pub AugmentsTo : Problem → List Float → List Float → List Float → List Float → Type 0
 AugmentsTo p low high v b = T (between low b high) × T (asNumbers (compactB (withB p b)) v)
 
 pub record CarriesLimits (p : Problem) (low high : List Float) : Type 0 where
-  -- low and high are between themselves
+  -- low and high are themselves between the limits
   pub ends : T (between low low high) × T (between low high high)
-  -- every b between them is accepted by the compact route
+  -- every b between the limits is accepted by the compact route
   pub accepted : (b : List Float) → T (between low b high) → refusal compact (withB p b) ≡ 0
-  -- and augmented into something between the results
+  -- its augmentation is between those of low and high
   pub carried : (b : List Float) → T (between low b high)
       → T (between (compactB (withB p low)) (compactB (withB p b)) (compactB (withB p high)))
-  -- and everything but b is the same
+  -- everything but b is the same as in the cut with low
   pub others : (b : List Float) → T (between low b high)
       → augmented compact (withB p b) ≡ augmentedWithB (augmented compact (withB p low)) (compactB (withB p b))
-  -- every vector between the results is, as numbers, the augmentation of exactly one b between them, of doubles where it is of doubles
+  -- every vector between the results is, as numbers, the augmentation of exactly one b between the limits, of doubles if the vector is
   pub reached : (v : List Float) → T (between (compactB (withB p low)) v (compactB (withB p high)))
       → (b : List Float) × AugmentsTo p low high v b × ((c : List Float) → AugmentsTo p low high v c → T (asNumbers c b)) × (Doubles v → Doubles b)

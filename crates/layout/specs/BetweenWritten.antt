@@ -1,4 +1,4 @@
--- Limits of a right side, in terms of what the cut with limits and the cuts of single right sides leave at the front of their outputs.
+-- Limits of a right side: the outputs of the cut with limits compared with those of the cuts of single right sides.
 use Prim.Native.Nat.{ℕ}
 use mathlib.Core.Path.{_≡_}
 use mathlib.Core.List.{List}
@@ -26,7 +26,7 @@ pub record SameButB (p p2 : Problem) (a c : Augmented) : Type 0 where
   pub alphas : frontOn compact p 9 (a .alphas) ≡ frontOn compact p2 9 (c .alphas)
   pub map : frontOn compact p 10 (a .map) ≡ frontOn compact p2 10 (c .map)
 
--- the two that are written for b
+-- the two augmented right sides that are written, of low and of high
 abbrev pub lowWritten : Problem → List Float → Limits → List Float
 lowWritten p low a = frontOn compact (withB p low) 7 (a .cut .b)
 
@@ -34,16 +34,16 @@ abbrev pub highWritten : Problem → List Float → Limits → List Float
 highWritten p high a = frontOn compact (withB p high) 7 (a .high)
 
 pub record BetweenWritten (p : Problem) (low high : List Float) (after : Limits) : Type 0 where
-  -- every b between the lists is accepted by the compact route
+  -- every b between low and high is accepted by the compact route
   pub accepted : (b : List Float) → T (between low b high) → refusal compact (withB p b) ≡ 0
-  -- the b that its own cut writes lies between the two written here
+  -- the b that a cut with this b alone writes is between the two written here
   pub carried : (b : List Float) → T (between low b high) → {lent own : Augmented} → Cut 1 (withB p b) lent own 0
       → T (between (lowWritten p low after) (frontOn compact (withB p b) 7 (own .b)) (highWritten p high after))
-  -- and everything else that it writes stands here too
+  -- everything else that it writes is also written here
   pub others : (b : List Float) → T (between low b high) → {lent own : Augmented} → Cut 1 (withB p b) lent own 0
       → SameButB (withB p b) (withB p low) own (after .cut)
-  -- every vector between the two is, as numbers, the augmentation of exactly one b between the lists, of doubles where it is of doubles
+  -- every vector between the two is, as numbers, the augmentation of exactly one b between low and high, of doubles if the vector is
   pub reached : (v : List Float) → T (between (lowWritten p low after) v (highWritten p high after))
       → (b : List Float) × AugmentsTo p low high v b × ((c : List Float) → AugmentsTo p low high v c → T (asNumbers c b)) × (Doubles v → Doubles b)
-  -- the augmentation of a b is what its own cut writes
+  -- the augmentation of a b is what a cut with this b writes
   pub written : (b : List Float) → {lent own : Augmented} → Cut 1 (withB p b) lent own 0 → frontOn compact (withB p b) 7 (own .b) ≡ compactB (withB p b)

@@ -1,4 +1,4 @@
--- Both routes mean one problem: the standard equations in exact numbers, beside the compact ones. Definitions only.
+-- Both routes state the same problem (document 02, Q-13): the standard equations in exact numbers, and the compact ones. Definitions only.
 use Prim.Native.Nat.{ℕ, _+_, _<_}
 use mathlib.Core.Path.{_≡_}
 use mathlib.Core.Logic.{_↔_}
@@ -16,24 +16,24 @@ use Rattle.layout.specs.Standard.{standardA, standardB}
 use Rattle.layout.specs.Equations.{finite, at, count, unit, columnsTerm, MeetsOriginal, MeetsAugmented, slackSums, ExactlyOne}
 use Rattle.layout.specs.Orders.{standardOrder}
 
--- the standard equations: the A and b of the standard cut, after x the added unknowns y, one for each column of H
+-- the standard equations: the A and b of the standard cut, with the added unknowns y after x, one for each column of H
 abbrev pub MeetsStandard : Problem → ℕ → List ℤ → List ℤ → List ℤ → Type 0
 MeetsStandard p d x y s =
     (r : ℕ) → r < p .m + blockRowCount (layout p)
     → (columnsTerm count r (standardA p) 0 x +ℤ columnsTerm unit r (standardA p) (p .n) y) +ℤ at s r
     ≡ pos d *ℤ count (getD (standardB p) r nan)
 
--- standard slacks of compact ones: the first m are zero, then the same blocks in standard order
+-- the standard slacks of the compact slacks t: m zeros, then the same blocks in standard order
 abbrev pub standardSlacks : Problem → List ℤ → List ℤ
 standardSlacks p t = replicate (p .m) (pos 0) ++ standardOrder (layout p) t
 
--- the standard equations of a problem without repeated entries, for slacks t in compact order, the first m slacks being zero
+-- the standard equations of a problem without repeated entries, for slacks t in compact order, where the first m slacks are zero
 pub record StandardSolutions (p : Problem) : Type 0 where
-  -- the added unknowns can only be the blocks themselves
+  -- the added unknowns are necessarily the blocks themselves
   pub forced : (d : ℕ) → 0 < d → (x t : List ℤ) → length x ≡ p .n → length t ≡ blockRowCount (layout p)
       → (y : List ℤ) → length y ≡ blockRowCount (layout p) → MeetsStandard p d x y (standardSlacks p t)
       → y ≡ standardOrder (layout p) t
-  -- exactly one choice meets them where x and the sums of t meet the original equations, and none does elsewhere
+  -- exactly one choice of y meets them where x and the sums of t meet the original equations, and none does otherwise
   pub solved : (d : ℕ) → 0 < d → (x t : List ℤ) → length x ≡ p .n → length t ≡ blockRowCount (layout p)
       → MeetsOriginal p d x (slackSums p t)
       → ExactlyOne (blockRowCount (layout p)) (λ y. MeetsStandard p d x y (standardSlacks p t))
@@ -49,7 +49,7 @@ OneProblem p =
     → ExactlyOne (blockRowCount (layout p)) (λ y. MeetsStandard p d x y (standardSlacks p t))
     ↔ ExactlyOne (overlapCount (layout p)) (λ y. MeetsAugmented p d x y t)
 
--- the rows of A's columns strictly rise: no row is repeated
+-- whether the row indices of each column of A strictly increase: no row is repeated
 abbrev pub withoutRepeats : Problem → Bool
 withoutRepeats p = all (λ c. rises (columnRows (p .A) c)) (below (p .n))
 
@@ -57,6 +57,6 @@ withoutRepeats p = all (λ c. rises (columnRows (p .A) c)) (below (p .n))
 abbrev pub StoredFinite : Problem → Type 0
 StoredFinite p = T (all finite (p .A .values) && all finite (p .b))
 
--- what request Q-13 asks to be proved of every problem
+-- Q-13: what has to be proved of every problem
 abbrev pub BothRoutes : Type 0
 BothRoutes = (p : Problem) → refusal standard p ≡ 0 → refusal compact p ≡ 0 → T (withoutRepeats p) → StoredFinite p → OneProblem p

@@ -1,4 +1,4 @@
--- The change of route: a standard solution as a compact one, its refusal, and s in exact totals by original row. Definitions only.
+-- The change of route (document 02, Q-12): a standard solution as a compact one, and exact totals of s by original row. Definitions only.
 use Prim.Native.Nat.{ℕ, suc, _+_, _<_}
 use mathlib.Core.Path.{_≡_}
 use mathlib.Core.List.{List, [], _∷_, _++_, map}
@@ -14,7 +14,7 @@ use Rattle.layout.specs.Equations.{finite, at, count, compactTotals}
 use Rattle.layout.specs.Orders.{blockLengths, compactOrder}
 use Rattle.layout.specs.Answers.{orElse, roomy, joinedParts, addedCount, slackCount, solutionFits, joinChecks}
 
--- the first n of x and +0.0 for each overlap; s and z after their first m, block by block in compact order; τ and κ
+-- the first n of x, then +0.0 for each overlap; s and z after their first m, block by block in compact order; τ and κ copied
 abbrev pub changed : ℕ → ℕ → List Part → Solution → Solution
 changed n m ps sol = record {
   x = take n (sol .x) ++ replicate (addedCount compact ps) zero64;
@@ -24,11 +24,11 @@ changed n m ps sol = record {
   kappa = sol .kappa;
 }
 
--- the length of x, s, z and the two scalars that the call gives
+-- the lengths of the call's outputs: x, s, z and the two scalars
 abbrev pub changedSizes : ℕ → ℕ → List Part → List ℕ
 changedSizes n m ps = (n + addedCount compact ps) ∷ slackCount compact m ps ∷ slackCount compact m ps ∷ 2 ∷ []
 
--- checks 1 to 10 of a standard joining, then 10 of the compact route, the room of x, s, z and the two scalars, and the solution's lengths
+-- the refusal number: checks 1 to 10 of a standard joining, 10 of the compact route, 11 for the outputs, 12 for the solution's lengths
 abbrev pub changeRefusal : ℕ → ℕ → List ℕ → ℕ → List ℕ → Solution → List ℕ → ℕ
 changeRefusal n m cones k words sol rooms =
     let ps = joinedParts cones k words in
@@ -38,28 +38,28 @@ changeRefusal n m cones k words sol rooms =
 
 -- ---- s by original row in exact sums, as the joinings form it
 
--- finite values as whole counts
+-- finite doubles as whole counts
 abbrev pub counts : List Float → List ℤ
 counts vs = map count vs
 
--- v added to the value at o
+-- the list ws with v added to its value at index o
 abbrev pub addExactAt : ℕ → ℤ → List ℤ → List ℤ
 addExactAt o v ws = set ws o (at ws o +ℤ v)
 
--- on the standard route, from a value for each column of H; on the compact one they are `compactTotals`
+-- on the standard route, from a value for each column of H; `compactTotals` is the same for the compact route
 abbrev pub standardTotals : ℕ → List Part → List ℤ → List ℤ
 standardTotals m ps vs = walk addExactAt (standardRows ps) vs (replicate m (pos 0))
 
 -- ---- what Q-12 asks to be proved
 
--- Of a standard solution and the compact one of the same problem that a change of route gives.
+-- What holds for a standard solution `sol` and the compact solution `given` that a change of route gives.
 pub record RouteChanged (n m : ℕ) (ps : List Part) (sol given : Solution) : Type 0 where
-  -- as long as a compact joining asks
+  -- its lengths are those that a compact joining asks for
   pub fits : T (solutionFits compact n m ps given)
   -- the first n unknowns are copied, and each added one is +0.0
   pub unknowns : given .x ≡ take n (sol .x) ++ replicate (overlapCount ps) zero64
-  -- The block of clique c of a part, k values of s and of z, moves bit for bit. Before it stand the part's earlier cliques on the
-  -- standard route, and its later ones on the compact route.
+  -- The block of clique c of a part, k values of s and of z, is moved bit for bit. Within the part, the earlier cliques' blocks come
+  -- before it on the standard route, and the later cliques' blocks on the compact route.
   pub blocks : (qs : List Part) (x : Part) (rs : List Part) (c : ℕ) → ps ≡ qs ++ (x ∷ rs) → c < length (blockLengths x)
       → let k = getD (blockLengths x) c 0 in
       let from = m + (blockRowCount qs + sum (take c (blockLengths x))) in

@@ -13,7 +13,7 @@ use Rattle.layout.specs.Patterns.{Pattern, cliqueAt, cliqueCount, blockS
 use Rattle.layout.specs.Blocks.{Part, whole, cut, Row, kept, owned, overlap, firstRow, compactRows, partRows, overlapCount}
 use Rattle.layout.specs.Checks.{layout}
 
--- a stored entry: its row and its value
+-- a stored entry: its row index and its value
 pub record Entry : Type 0 where
   pub row : ℕ
   pub value : Float
@@ -28,7 +28,7 @@ entriesFrom a k M = map (λ t. record { row = getD (M .rows) t 0; value = getD (
 abbrev pub column : Csc → ℕ → List Entry
 column M c = entriesFrom (getD (M .starts) c 0) (getD (M .starts) (suc c) 0 - getD (M .starts) c 0) M
 
--- compressed columns of a list of columns
+-- the compressed columns of a list of columns
 abbrev pub csc : List (List Entry) → Csc
 csc cs = record {
   starts = startsFrom 0 (map length cs);
@@ -36,11 +36,11 @@ csc cs = record {
   values = map (λ (e : Entry). e .value) (join (λ c. c) cs);
 }
 
--- an entry with the value of a repeat added
+-- entry e with the value of f, a repeat of its row, added
 abbrev pub plus : Entry → Entry → Entry
 plus e f = record { row = e .row; value = add binary64 (e .value) (f .value) }
 
--- e and the entries after it, repeats of a row added from left to right: an entry alone keeps its value
+-- e and the entries after it, repeats of a row added from left to right: an entry without repeats keeps its value
 abbrev pub summedFrom : Entry → List Entry → List Entry
 summedFrom e [] = e ∷ []
 summedFrom e (f ∷ es) =
@@ -53,11 +53,11 @@ abbrev pub summed : List Entry → List Entry
 summed [] = []
 summed (e ∷ es) = summedFrom e es
 
--- A with the rounded sums in place
+-- A with each run of repeats replaced by its rounded sum
 abbrev pub summedA : Problem → Csc
 summedA p = csc (map (λ c. summed (column (p .A) c)) (below (p .n)))
 
--- the entries of a column that stand on original row o, moved to row r
+-- the entries of a column in original row o, moved to row r
 abbrev pub moved : ℕ → ℕ → List Entry → List Entry
 moved o r es = map (λ (e : Entry). record { row = r; value = e .value }) (keep (λ (e : Entry). eqb (e .row) o) es)
 
@@ -66,12 +66,12 @@ rowEntries es r (kept o) = moved o r es
 rowEntries es r (owned o) = moved o r es
 rowEntries es r (overlap o q) = []
 
--- a column of A over the augmented rows, numbered from r
+-- a column of A over the augmented rows, which are numbered from r
 abbrev pub augmentedColumn : List Entry → ℕ → List Row → List Entry
 augmentedColumn es r [] = []
 augmentedColumn es r (x ∷ xs) = rowEntries es r x ++ augmentedColumn es (suc r) xs
 
--- an overlap's column: -1 in the parent's row, which comes first, and +1 in its own
+-- an overlap's column: -1 in the parent's row, which comes first, and +1 in its own row
 abbrev pub overlapColumn : ℕ → Row → List (List Entry)
 overlapColumn r (kept o) = []
 overlapColumn r (owned o) = []
@@ -81,7 +81,7 @@ abbrev pub overlapColumns : ℕ → List Row → List (List Entry)
 overlapColumns r [] = []
 overlapColumns r (x ∷ xs) = overlapColumn r x ++ overlapColumns (suc r) xs
 
--- A's columns with their repeats added, then the overlaps'
+-- A's columns with their repeats added, then the overlap columns
 abbrev pub compactColumns : Problem → List (List Entry)
 compactColumns p =
     let rows = compactRows (layout p) in
@@ -90,7 +90,7 @@ compactColumns p =
 abbrev pub compactA : Problem → Csc
 compactA p = csc (compactColumns p)
 
--- b's value on a row: a zero of either sign becomes +0.0
+-- b's value in an augmented row: a zero of either sign becomes +0.0, and an overlap has +0.0
 abbrev pub rowValue : List Float → Row → Float
 rowValue b (kept o) = let v = getD b o nan in cond (eq v zero64) zero64 v
 rowValue b (owned o) = let v = getD b o nan in cond (eq v zero64) zero64 v
@@ -99,7 +99,7 @@ rowValue b (overlap o q) = zero64
 abbrev pub compactB : Problem → List Float
 compactB p = map (rowValue (p .b)) (compactRows (layout p))
 
--- P with k empty columns and rows more, and q with k zeros
+-- P with k empty columns and rows added
 abbrev pub extendedP : ℕ → Csc → Csc
 extendedP k P = record { starts = P .starts ++ replicate k (length (P .values)); rows = P .rows; values = P .values }
 
@@ -109,7 +109,7 @@ compactP p = extendedP (overlapCount (layout p)) (p .P)
 abbrev pub compactQ : Problem → List Float
 compactQ p = p .q ++ replicate (overlapCount (layout p)) zero64
 
--- the cones' records: a cut cone gives a PSD cone for each clique, from last to first
+-- the cone records: a decomposed cone becomes one PSD cone for each clique, from last to first
 abbrev pub coneWords : Cone → List ℕ
 coneWords c = c .kind ∷ c .first ∷ c .second ∷ []
 
@@ -131,7 +131,7 @@ pub data MapEntry : Type 0 where
   -- cone, pattern, clique, first row, row count
   blockOf : ℕ → ℕ → ℕ → ℕ → ℕ → MapEntry
 
--- the entry of clique c, where the pattern's rows start at first
+-- the entry of clique c, where the pattern's rows start at `first`
 abbrev pub blockEntry : ℕ → ℕ → Pattern → ℕ → ℕ → MapEntry
 blockEntry i k p first c = blockOf i k c (firstRow p first c) (triangle (blockSize (cliqueAt p c)))
 
@@ -139,7 +139,7 @@ abbrev pub mapPart : ℕ → Part → List MapEntry
 mapPart first (whole i c row) = wholeCone i first (rowCount c) ∷ []
 mapPart first (cut i row k p) = map (blockEntry i k p first) (reverse (below (cliqueCount p)))
 
--- parts whose rows start at first
+-- the entries of parts whose rows start at `first`
 abbrev pub mapFrom : ℕ → List Part → List MapEntry
 mapFrom first [] = []
 mapFrom first (x ∷ ps) = mapPart first x ++ mapFrom (first + partRows x) ps
@@ -147,7 +147,7 @@ mapFrom first (x ∷ ps) = mapPart first x ++ mapFrom (first + partRows x) ps
 abbrev pub coneMap : List Part → List MapEntry
 coneMap ps = mapFrom 0 ps
 
--- an entry's words: its cone, its pattern or the mark for none, its clique or 0, its first row, its row count
+-- an entry's words: its cone, its pattern or the no-pattern mark, its clique or 0, its first row, its row count
 abbrev pub noPatternNumber : ℕ
 noPatternNumber = 4294967295
 

@@ -1,5 +1,5 @@
 -- A problem as a file (document 02, Q-2): little-endian, a header of 20 u32, then eleven tables. Definitions only.
--- A byte is a number below 256. The float tables stand as 64-bit patterns, so that a NaN keeps its payload.
+-- A byte is a number below 256. Float tables are given as 64-bit patterns, so that a NaN keeps its payload.
 use Prim.Native.Nat.{ℕ, zero, suc, _+_, _-_, _*_, _/_, _%_}
 use mathlib.Core.Bool.{Bool, true, cond, _&&_}
 use mathlib.Core.List.{List, [], _∷_, _++_, map}
@@ -23,7 +23,7 @@ abbrev pub numberOf : List ℕ → ℕ
 numberOf [] = 0
 numberOf (b ∷ bs) = b + 256 * numberOf bs
 
--- a table, and the k numbers at the front of bytes
+-- the bytes of a table, and the first k numbers in bytes
 abbrev pub tableBytes : ℕ → List ℕ → List ℕ
 tableBytes w xs = join (bytesOf w) xs
 
@@ -47,7 +47,7 @@ abbrev pub countWords : HeaderCounts → List ℕ
 countWords c =
     c .n ∷ c .m ∷ c .entriesP ∷ c .entriesA ∷ c .cones ∷ c .alphas ∷ c .patterns ∷ c .words ∷ []
 
--- the counts that a header begins with
+-- the counts at the start of a header
 abbrev pub countsIn : List ℕ → HeaderCounts
 countsIn h = record {
   n = getD h 0 0;
@@ -60,13 +60,13 @@ countsIn h = record {
   words = getD h 7 0;
 }
 
--- how many numbers each table has: P starts, rows, values, q, A starts, rows, values, b, cone records, α, pattern words
+-- the length of each table: P starts, rows, values, q, A starts, rows, values, b, cone records, α, pattern words
 abbrev pub countedLengths : HeaderCounts → List ℕ
 countedLengths c =
     suc (c .n) ∷ c .entriesP ∷ c .entriesP ∷ c .n ∷ suc (c .n) ∷ c .entriesA ∷ c .entriesA ∷ c .m
     ∷ (3 * c .cones) ∷ c .alphas ∷ c .words ∷ []
 
--- the bytes of a number in each of them
+-- the bytes of one number in each table
 abbrev pub widths : List ℕ
 widths = 4 ∷ 4 ∷ 8 ∷ 8 ∷ 4 ∷ 4 ∷ 8 ∷ 8 ∷ 4 ∷ 8 ∷ 4 ∷ []
 
@@ -82,7 +82,7 @@ tableSizes c = products widths (countedLengths c)
 abbrev pub aligned : ℕ → ℕ
 aligned a = (a + 7) / 8 * 8
 
--- where tables of these sizes begin, and where the last ends, if what stands before them ends at a
+-- the offsets of tables of these sizes, and the end of the last one, where the bytes before them end at a
 abbrev pub offsetsFrom : ℕ → List ℕ → List ℕ
 offsetsFrom a [] = []
 offsetsFrom a (k ∷ ks) = aligned a ∷ offsetsFrom (aligned a + k) ks
@@ -95,9 +95,9 @@ endFrom a (k ∷ ks) = endFrom (aligned a + k) ks
 abbrev pub headerOf : HeaderCounts → List ℕ
 headerOf c = let ks = tableSizes c in countWords c ++ offsetsFrom 80 ks ++ (endFrom 80 ks ∷ [])
 
--- ---- a problem by its tables, floats as their patterns
+-- ---- a problem's tables, with floats as bit patterns
 
-pub record Tables : Type 0 where
+pub record BitTables : Type 0 where
   pub n : ℕ
   pub m : ℕ
   pub pStarts : List ℕ
@@ -113,9 +113,9 @@ pub record Tables : Type 0 where
   pub patternCount : ℕ
   pub patternWords : List ℕ
 
--- the tables, as contracts name them
-abbrev pub tables : ℕ → ℕ → List ℕ → List ℕ → List ℕ → List ℕ → List ℕ → List ℕ → List ℕ → List ℕ → List ℕ → List ℕ → ℕ → List ℕ → Tables
-tables n m pStarts pRows pValues q aStarts aRows aValues b cones alphas count words = record {
+-- a problem's tables, as contracts write them
+abbrev pub bitTables : ℕ → ℕ → List ℕ → List ℕ → List ℕ → List ℕ → List ℕ → List ℕ → List ℕ → List ℕ → List ℕ → List ℕ → ℕ → List ℕ → BitTables
+bitTables n m pStarts pRows pValues q aStarts aRows aValues b cones alphas count words = record {
   n = n;
   m = m;
   pStarts = pStarts;
@@ -138,21 +138,21 @@ floats vs = map (ofBits binary64) vs
 abbrev pub bits : List Float → List ℕ
 bits vs = map (toBits binary64) vs
 
--- the problem that they stand for
-abbrev pub problemOf : Tables → Problem
+-- the problem that the tables represent
+abbrev pub problemOf : BitTables → Problem
 problemOf t =
     problem (t .n) (t .m) (t .pStarts) (t .pRows) (floats (t .pValues)) (floats (t .q))
     (t .aStarts) (t .aRows) (floats (t .aValues)) (floats (t .b)) (t .cones) (floats (t .alphas)) (t .patternCount) (t .patternWords)
 
--- numbers that fit u32, and patterns that fit u64
+-- numbers that fit u32, and bit patterns that fit u64
 abbrev pub U32s : List ℕ → Type 0
 U32s xs = Below 4294967296 xs
 
 abbrev pub U64s : List ℕ → Type 0
 U64s xs = Below 18446744073709551616 xs
 
--- what slices of u32 and u64 have
-pub record Fit (t : Tables) : Type 0 where
+-- each table's numbers fit the slice that holds them, of u32 or u64
+pub record Fit (t : BitTables) : Type 0 where
   pub pStarts : U32s (t .pStarts)
   pub pRows : U32s (t .pRows)
   pub pValues : U64s (t .pValues)
@@ -167,7 +167,7 @@ pub record Fit (t : Tables) : Type 0 where
 
 -- ---- the file of a problem
 
-abbrev pub countsOf : Tables → HeaderCounts
+abbrev pub countsOf : BitTables → HeaderCounts
 countsOf t = record {
   n = t .n;
   m = t .m;
@@ -179,22 +179,22 @@ countsOf t = record {
   words = length (t .patternWords);
 }
 
-abbrev pub tablesBytes : Tables → List (List ℕ)
+abbrev pub tablesBytes : BitTables → List (List ℕ)
 tablesBytes t =
     tableBytes 4 (t .pStarts) ∷ tableBytes 4 (t .pRows) ∷ tableBytes 8 (t .pValues) ∷ tableBytes 8 (t .q)
     ∷ tableBytes 4 (t .aStarts) ∷ tableBytes 4 (t .aRows) ∷ tableBytes 8 (t .aValues) ∷ tableBytes 8 (t .b)
     ∷ tableBytes 4 (t .cones) ∷ tableBytes 8 (t .alphas) ∷ tableBytes 4 (t .patternWords) ∷ []
 
--- tables laid at their offsets, with zero bytes in the gaps
+-- the tables at their offsets after byte a, with zero bytes in the gaps
 abbrev pub laidFrom : ℕ → List (List ℕ) → List ℕ
 laidFrom a [] = []
 laidFrom a (t ∷ ts) = replicate (aligned a - a) 0 ++ (t ++ laidFrom (aligned a + length t) ts)
 
-abbrev pub fileOf : Tables → List ℕ
+abbrev pub fileOf : BitTables → List ℕ
 fileOf t = tableBytes 4 (headerOf (countsOf t)) ++ laidFrom 80 (tablesBytes t)
 
--- the writer: checks 1 to 7, then the room
-abbrev pub writeRefusal : Tables → ℕ → ℕ
+-- the refusal number of the writer: checks 1 to 7, then 11 where the output is too short
+abbrev pub writeRefusal : BitTables → ℕ → ℕ
 writeRefusal t room = orElse (problemRefusal (problemOf t)) (roomRefusal (length (fileOf t)) room)
 
 -- ---- the reader
@@ -202,26 +202,26 @@ writeRefusal t room = orElse (problemRefusal (problemOf t)) (roomRefusal (length
 abbrev pub header : List ℕ → List ℕ
 header bs = numbersOf 4 20 bs
 
--- table i, at the offset that the header h gives
+-- table i: k numbers of w bytes, at the offset that the header h gives
 abbrev pub tableAt : List ℕ → List ℕ → ℕ → ℕ → ℕ → List ℕ
 tableAt h bs i w k = numbersOf w k (drop (getD h (8 + i) 0) bs)
 
-abbrev pub tablesBy : List ℕ → List ℕ → Tables
+abbrev pub tablesBy : List ℕ → List ℕ → BitTables
 tablesBy h bs =
     let c = countsIn h in
-    tables (c .n) (c .m)
+    bitTables (c .n) (c .m)
     (tableAt h bs 0 4 (suc (c .n))) (tableAt h bs 1 4 (c .entriesP)) (tableAt h bs 2 8 (c .entriesP)) (tableAt h bs 3 8 (c .n))
     (tableAt h bs 4 4 (suc (c .n))) (tableAt h bs 5 4 (c .entriesA)) (tableAt h bs 6 8 (c .entriesA)) (tableAt h bs 7 8 (c .m))
     (tableAt h bs 8 4 (3 * c .cones)) (tableAt h bs 9 8 (c .alphas)) (c .patterns) (tableAt h bs 10 4 (c .words))
 
-abbrev pub fileTables : List ℕ → Tables
+abbrev pub fileTables : List ℕ → BitTables
 fileTables bs = tablesBy (header bs) bs
 
--- 13: a short header, or a length that is not the file's
+-- check 13: the header is complete, and the length in it is the file's
 abbrev pub lengthRight : List ℕ → Bool
 lengthRight bs = leb 80 (length bs) && eqb (getD (header bs) 19 0) (length bs)
 
--- 14: offsets, end or gaps other than the counts give
+-- check 14: the offsets and the end are those that the counts give, and the gaps are zero
 abbrev pub gapsZero : ℕ → List ℕ → List ℕ → Bool
 gapsZero a [] bs = true
 gapsZero a (k ∷ ks) bs = all (λ b. eqb b 0) (part a (aligned a) bs) && gapsZero (aligned a + k) ks bs
@@ -237,14 +237,14 @@ shapeChecks bs = check 13 (lengthRight bs) ∷ check 14 (tablesRight bs) ∷ []
 abbrev pub shapeFailing : List ℕ → ℕ
 shapeFailing bs = firstFailing (shapeChecks bs)
 
--- then checks 1 to 7
+-- checks 13 and 14, then 1 to 7
 abbrev pub fileChecks : List ℕ → List Check
 fileChecks bs = shapeChecks bs ++ problemChecks (problemOf (fileTables bs))
 
 abbrev pub fileFailing : List ℕ → ℕ
 fileFailing bs = firstFailing (fileChecks bs)
 
--- with the room of the eight counts and of each table, in the file's order
+-- the refusal number of the reader; `rooms` has the lengths of the outputs: the eight counts, then each table in the file's order
 abbrev pub readRefusal : List ℕ → List ℕ → ℕ
 readRefusal bs rooms = orElse (fileFailing bs) (cond (roomy (8 ∷ countedLengths (countsIn (header bs))) rooms) 0 11)
 
@@ -257,19 +257,19 @@ compactProblem p =
     problem (p .n + overlapCount (layout p)) (blockRowCount (layout p)) (a .P .starts) (a .P .rows) (a .P .values) (a .q)
     (a .A .starts) (a .A .rows) (a .A .values) (a .b) (a .cones) (a .alphas) 0 []
 
--- and its tables: P's values, q and α keep their patterns; A and b are written as `toBits` writes them
-abbrev pub compactTables : Tables → Tables
+-- its tables: P's values, q and α keep their bit patterns; those of A and b are given by `toBits`
+abbrev pub compactTables : BitTables → BitTables
 compactTables t =
     let p = problemOf t in
     let a = augmented compact p in
     let k = overlapCount (layout p) in
-    tables (t .n + k) (blockRowCount (layout p)) (a .P .starts) (t .pRows) (t .pValues) (t .q ++ replicate k 0)
+    bitTables (t .n + k) (blockRowCount (layout p)) (a .P .starts) (t .pRows) (t .pValues) (t .q ++ replicate k 0)
     (a .A .starts) (a .A .rows) (bits (a .A .values)) (bits (a .b)) (a .cones) (t .alphas) 0 []
 
 abbrev pub compactFile : List ℕ → List ℕ
 compactFile bs = fileOf (compactTables (fileTables bs))
 
--- 1 for an input file too long first, then 13 and 14, checks 1 to 10 of the compact route, and 10 for an output file too long
+-- 1 first where the input file is too long, then 13 and 14, checks 1 to 10 of the compact route, and 10 where the output file is too long
 abbrev pub programChecks : List ℕ → List Check
 programChecks bs =
     check 1 (leb (length bs) 8192)
@@ -296,10 +296,10 @@ programOutput bs = answer (programRefusal bs) (compactFile bs)
 -- ---- what Q-2 asks to be proved
 
 pub record ProblemFiles : Type 0 where
-  -- what was written is accepted, and read back as it was
-  pub back : (t : Tables) → Fit t → problemRefusal (problemOf t) ≡ 0 → (fileTables (fileOf t) ≡ t) × (fileFailing (fileOf t) ≡ 0)
+  -- a written file is accepted, and reading it gives the same tables
+  pub back : (t : BitTables) → Fit t → problemRefusal (problemOf t) ≡ 0 → (fileTables (fileOf t) ≡ t) × (fileFailing (fileOf t) ≡ 0)
   -- an accepted file written again has the same bytes
   pub again : (bs : List ℕ) → Below 256 bs → fileFailing bs ≡ 0 → fileOf (fileTables bs) ≡ bs
-  -- what the program writes where it refuses nothing is accepted, and stands for the compact problem
+  -- a file that the program writes without a refusal is accepted, and represents the compact problem
   pub program : (bs : List ℕ) → Below 256 bs → programRefusal bs ≡ 0 → let out = fileTables (programOutput bs) in
       (fileFailing (programOutput bs) ≡ 0) × (out ≡ compactTables (fileTables bs)) × (problemOf out ≡ compactProblem (problemOf (fileTables bs)))

@@ -1,5 +1,5 @@
--- Document 02's generator (Q-5): a problem from a seed, a vertex count v, a band w and a column count n. A draw changes a u64,
--- which is handed from step to step. Definitions only.
+-- Document 02's generator (Q-5): a problem from a seed, a vertex count v, a band w and a column count n. A draw changes a u64 state,
+-- which is passed from step to step. Definitions only.
 use Prim.Native.Nat.{ℕ, zero, suc, _-_, _*_, _/_, _%_, _^_}
 use mathlib.Core.Bool.{Bool, not, cond, _&&_}
 use mathlib.Core.List.{List, [], _∷_, _++_, map}
@@ -20,14 +20,14 @@ use Rattle.layout.specs.Answers.{roomy}
 
 -- ---- draws
 
--- exclusive or with itself shifted left 13, then right 7, then left 17; bits above 64 are lost
+-- the state xor itself shifted left 13, then right 7, then left 17; bits above 64 are lost
 unfoldable pub draw : ℕ → ℕ
 draw s =
     let a = bitXor s (s * 2 ^ 13 % 2 ^ 64) in
     let b = bitXor a (a / 2 ^ 7) in
     bitXor b (b * 2 ^ 17 % 2 ^ 64)
 
--- the u64 after k draws
+-- the state after k draws
 abbrev pub draws : ℕ → ℕ → ℕ
 draws zero s = s
 draws (suc k) s = draws k (draw s)
@@ -35,7 +35,7 @@ draws (suc k) s = draws k (draw s)
 abbrev pub isOdd : ℕ → Bool
 isOdd d = eqb (d % 2) 1
 
--- a draw's value: mod 201, less 100
+-- a draw's value: the draw mod 201, less 100
 abbrev pub drawnValue : ℕ → Float
 drawnValue d = ofInt binary64 (pos (d % 201) -ℤ pos 100)
 
@@ -54,11 +54,11 @@ drawnOrdering seed v = exchanges (v - 1) seed (below v)
 
 -- ---- the pattern
 
--- clique c, from 0 to v - w - 2
+-- clique c of the band, for c from 0 to v - w - 2
 abbrev pub bandClique : ℕ → ℕ → Clique
 bandClique w c = record { parent = suc c; snode = c ∷ []; separator = upFrom (suc c) w }
 
--- the last: the other w + 1 vertices
+-- the last clique, with the other w + 1 vertices
 abbrev pub lastClique : ℕ → ℕ → Clique
 lastClique v w = record { parent = noParent; snode = upFrom (v - suc w) (suc w); separator = [] }
 
@@ -70,21 +70,21 @@ band os v w = record {
   cliques = map (bandClique w) (below (v - suc w)) ++ (lastClique v w ∷ []);
 }
 
--- the single cone, cut by the pattern
+-- the single cone, decomposed by the pattern
 abbrev pub bandParts : List ℕ → ℕ → ℕ → List Part
 bandParts os v w = parts (records (psdWords v)) (band os v w ∷ [])
 
--- the covered rows, rising
+-- the covered rows, in increasing order
 abbrev pub bandRows : List ℕ → ℕ → ℕ → List ℕ
 bandRows os v w = let covered = coveredRows (bandParts os v w) in keep (λ r. has r covered) (below (triangle v))
 
 -- ---- A and b, over the covered rows
 
--- at row r a draw that is odd stores an entry, whose value is the next draw's
+-- the entry at row r: an odd draw stores one, with the next draw's value; an even draw stores none
 abbrev pub drawnEntry : ℕ → ℕ → List Entry
 drawnEntry s r = let d = draw s in cond (isOdd d) (record { row = r; value = drawnValue (draw d) } ∷ []) []
 
--- and the u64 after that row
+-- the state after that row
 abbrev pub afterEntry : ℕ → ℕ
 afterEntry s = let d = draw s in cond (isOdd d) (draw d) d
 
@@ -96,7 +96,7 @@ abbrev pub afterColumn : ℕ → List ℕ → ℕ
 afterColumn s [] = s
 afterColumn s (r ∷ rs) = afterColumn (afterEntry s) rs
 
--- n columns, one after the other
+-- n columns, drawn one after the other
 abbrev pub drawnColumns : ℕ → List ℕ → ℕ → List (List Entry)
 drawnColumns s rs zero = []
 drawnColumns s rs (suc n) = drawnColumn s rs ∷ drawnColumns (afterColumn s rs) rs n
@@ -105,7 +105,7 @@ abbrev pub afterColumns : ℕ → List ℕ → ℕ → ℕ
 afterColumns s rs zero = s
 afterColumns s rs (suc n) = afterColumns (afterColumn s rs) rs n
 
--- b with a draw's value at each row
+-- b with a drawn value at each of the rows
 abbrev pub drawnSide : ℕ → List ℕ → List Float → List Float
 drawnSide s [] b = b
 drawnSide s (r ∷ rs) b = let d = draw s in drawnSide d rs (set b r (drawnValue d))
@@ -132,15 +132,15 @@ generated seed v w n =
 
 -- ---- the refusal
 
--- the seed is not 0, and the counts are in their ranges
+-- whether the seed is not 0 and the counts are in their ranges
 abbrev pub inRanges : ℕ → ℕ → ℕ → ℕ → Bool
 inRanges seed v w n = not (eqb seed 0) && (leb 2 v && leb v 64) && (leb 1 w && ltb w v) && (leb 1 n && leb n 64)
 
--- 15 before anything else, then the room of each table
+-- the refusal number of the generator: 15 before anything else, then 11 where an output is too short
 abbrev pub generateRefusal : ℕ → ℕ → ℕ → ℕ → List ℕ → ℕ
 generateRefusal seed v w n rooms =
     firstFailing (check 15 (inRanges seed v w n) ∷ check 11 (roomy (tableLengths (generated seed v w n)) rooms) ∷ [])
 
--- the sizes: 15, then the room of eleven numbers
+-- the refusal number of its sizes call: 15, then 11 where the output has fewer than eleven elements
 abbrev pub generateSizesRefusal : ℕ → ℕ → ℕ → ℕ → ℕ → ℕ
 generateSizesRefusal seed v w n room = firstFailing (check 15 (inRanges seed v w n) ∷ check 11 (leb 11 room) ∷ [])

@@ -1,16 +1,16 @@
--- Lists, as the layout's definitions use them. A slice's contents are such a list. Definitions only.
+-- List operations that the layout's definitions use. A slice's contents are given as a list. Definitions only.
 use Prim.Native.Nat.{ℕ, zero, suc, _+_, _-_, _<_}
 use mathlib.Core.Bool.{Bool, true, false, not, _&&_, _||_, cond}
 use mathlib.Core.List.{List, [], _∷_, _++_}
 use lib.ListN.{length, getD, take, drop}
 use lib.Dec.{eqb, ltb}
 
--- a, a + 1, .., k numbers in all
+-- the k numbers a, a + 1, ..
 abbrev pub upFrom : ℕ → ℕ → List ℕ
 upFrom a zero = []
 upFrom a (suc k) = a ∷ upFrom (suc a) k
 
--- the numbers below k, rising
+-- the numbers below k, in increasing order
 abbrev pub below : ℕ → List ℕ
 below k = upFrom 0 k
 
@@ -30,7 +30,7 @@ distinct (x ∷ xs) = not (has x xs) && distinct xs
 abbrev pub Below : ℕ → List ℕ → Type 0
 Below n xs = (i : ℕ) → i < length xs → getD xs i 0 < n
 
--- each number is above the one before it
+-- whether the numbers strictly increase
 abbrev pub rises : List ℕ → Bool
 rises [] = true
 rises (x ∷ []) = true
@@ -41,7 +41,7 @@ module _ {A : Type 0} where
   all p [] = true
   all p (x ∷ xs) = p x && all p xs
 
-  -- as long, and alike place by place
+  -- whether the lists have equal length and `alike` holds at every index
   abbrev pub sameBy : (A → A → Bool) → List A → List A → Bool
   sameBy alike [] [] = true
   sameBy alike [] (y ∷ ys) = false
@@ -52,11 +52,11 @@ module _ {A : Type 0} where
   keep p [] = []
   keep p (x ∷ xs) = let r = keep p xs in cond (p x) (x ∷ r) r
 
-  -- the part from a to b, b left out
+  -- the entries at indices a to b - 1
   abbrev pub part : ℕ → ℕ → List A → List A
   part a b xs = take (b - a) (drop a xs)
 
-  -- what a buffer holds after xs was written to its front: the rest is kept
+  -- the buffer `old` after xs is written to its start: the rest is unchanged
   abbrev pub written : List A → List A → List A
   written xs old = xs ++ drop (length xs) old
 
@@ -69,14 +69,14 @@ module _ {A B : Type 0} where
   join f [] = []
   join f (x ∷ xs) = f x ++ join f xs
 
--- xs and vs walked together, as far as both go, over a state
+-- a fold over xs and vs in step, up to the end of the shorter one; w is the state
 module _ {A B S : Type 0} where
   abbrev pub walk : (A → B → S → S) → List A → List B → S → S
   walk f [] vs w = w
   walk f (x ∷ xs) [] w = w
   walk f (x ∷ xs) (v ∷ vs) w = walk f xs vs (f x v w)
 
--- a, then the running totals from a
+-- a, then a plus each running total of the list
 abbrev pub startsFrom : ℕ → List ℕ → List ℕ
 startsFrom a [] = a ∷ []
 startsFrom a (k ∷ ks) = a ∷ startsFrom (a + k) ks

@@ -1,4 +1,4 @@
--- A pattern read off its words: orig_index, vertex count, clique count, the ordering, then for each clique
+-- A pattern read from its words: orig_index, vertex count, clique count, the ordering, then for each clique
 -- its parent, snode count, separator count, snode members and separator members.
 use Prim.Native.Nat.{ℕ, zero, suc, _+_}
 use mathlib.Core.Bool.{Bool, true, false, cond}
@@ -21,7 +21,7 @@ pub record Pattern : Type 0 where
   pub ordering : List ℕ
   pub cliques : List Clique
 
--- what stands at the front of the words, with the words after it, or that they end early
+-- the result of a read: the value and the words after it, or `short` where the words end early
 pub data Read (A : Type 0) : Type 0 where
   read : A → List ℕ → Read A
   short : Read A
@@ -42,7 +42,7 @@ readClique (p ∷ a ∷ e ∷ ws) =
     andThen (readMembers a ws) λ snode rest. andThen (readMembers e rest) λ separator left.
     read (record { parent = p; snode = snode; separator = separator }) left
 
--- k of them, one after the other
+-- k values, read one after the other
 module _ {A : Type 0} where
   abbrev pub readMany : (List ℕ → Read A) → ℕ → List ℕ → Read (List A)
   readMany one zero ws = read [] ws
@@ -51,7 +51,7 @@ module _ {A : Type 0} where
 abbrev pub readCliques : ℕ → List ℕ → Read (List Clique)
 readCliques k ws = readMany readClique k ws
 
--- a pattern's head: all but its cliques
+-- a pattern's head: everything before its cliques
 pub record Head : Type 0 where
   pub origIndex : ℕ
   pub vertexCount : ℕ
@@ -75,7 +75,7 @@ readPattern ws = andThen (readHead ws) λ h rest. andThen (readCliques (h .cliqu
 abbrev pub readPatterns : ℕ → List ℕ → Read (List Pattern)
 readPatterns k ws = readMany readPattern k ws
 
--- what was read where the words end with it, and none otherwise
+-- the value read where no words follow it, and `none` otherwise
 abbrev pub wholly : {A : Type 0} → A → Read A → A
 wholly none (read a []) = a
 wholly none (read a (w ∷ ws)) = none
@@ -86,15 +86,15 @@ endsRight (read a []) = true
 endsRight (read a (w ∷ ws)) = false
 endsRight short = false
 
--- the patterns of words that neither end early nor late, and none of others
+-- the `count` patterns where the words end exactly with the last of them, and no patterns otherwise
 abbrev pub patterns : ℕ → List ℕ → List Pattern
 patterns count ws = wholly [] (readPatterns count ws)
 
--- what stands for words that read as no pattern: checks 6 and 7 both refuse it
+-- a placeholder for words that are not a pattern: checks 6 and 7 both refuse it
 abbrev pub noPattern : Pattern
 noPattern = record { origIndex = 0; vertexCount = 1; ordering = []; cliques = [] }
 
--- ---- clique reads
+-- ---- cliques of a pattern
 
 abbrev pub noClique : Clique
 noClique = record { parent = noParent; snode = []; separator = [] }
@@ -105,7 +105,7 @@ cliqueCount p = length (p .cliques)
 abbrev pub cliqueAt : Pattern → ℕ → Clique
 cliqueAt p c = getD (p .cliques) c noClique
 
--- the clique's vertices: its snode and its separator
+-- the clique's vertices: its snode, then its separator
 abbrev pub members : Clique → List ℕ
 members c = c .snode ++ c .separator
 
@@ -115,11 +115,11 @@ blockSize c = length (c .snode) + length (c .separator)
 
 -- ---- renumbering: `reorder_snode_consecutively`
 
--- the old numbers in their new order: by rising clique, and within a snode rising
+-- the old vertex numbers in their new order: by clique, and increasing within a snode
 abbrev pub consecutive : Pattern → List ℕ
 consecutive p = join (λ c. keep (λ u. has u (c .snode)) (below (p .vertexCount))) (p .cliques)
 
--- the place of u in a list that holds it
+-- the first index of u in a list that contains it
 abbrev pub placeOf : ℕ → List ℕ → ℕ
 placeOf u [] = 0
 placeOf u (x ∷ xs) = let r = placeOf u xs in cond (eqb u x) 0 (suc r)
@@ -140,7 +140,7 @@ renumber p =
       cliques = renumberCliques old 0 (p .cliques);
     }
 
--- a pattern's words
+-- the words of a clique and of a pattern
 abbrev pub cliqueWords : Clique → List ℕ
 cliqueWords c = c .parent ∷ length (c .snode) ∷ length (c .separator) ∷ (c .snode ++ c .separator)
 

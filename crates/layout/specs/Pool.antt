@@ -1,4 +1,4 @@
--- Two problems over the same unknowns as one: the first's rows above the second's (document 02, Q-11). Definitions only.
+-- Two problems over the same unknowns, pooled as one: the first's rows above the second's (document 02, Q-11). Definitions only.
 use Prim.Native.Nat.{ℕ, _+_}
 use mathlib.Core.Bool.{cond}
 use mathlib.Core.List.{List, [], _∷_, _++_, map}
@@ -19,7 +19,7 @@ use Rattle.layout.specs.Answers.{orElse, roomy, Augmented, augmented}
 abbrev pub raisedEntries : ℕ → List Entry → List Entry
 raisedEntries k es = map (λ (e : Entry). record { row = k + e .row; value = e .value }) es
 
--- n columns of M over those of N, whose rows are raised by k
+-- the n columns of M, each above the same column of N, whose rows are raised by k
 abbrev pub stackedColumns : ℕ → ℕ → Csc → Csc → List (List Entry)
 stackedColumns n k M N = map (λ c. column M c ++ raisedEntries k (column N c)) (below n)
 
@@ -31,7 +31,7 @@ raisedPattern k p = record { origIndex = k + p .origIndex; vertexCount = p .vert
 abbrev pub raisedWords : ℕ → List Pattern → List ℕ
 raisedWords k ps = join patternWordsOf (map (raisedPattern k) ps)
 
--- A over A, b over b, cones, α and patterns in turn; n, P and q are the first's
+-- A over A, b over b; cones, α and patterns one after the other; n, P and q are the first's
 abbrev pub pool : Problem → Problem → Problem
 pool one two = record {
   n = one .n;
@@ -52,18 +52,18 @@ pool one two = record {
 abbrev pub poolChecks : Problem → Problem → List Check
 poolChecks one two = problemChecks one ++ (problemChecks two ++ (check 17 (eqb (one .n) (two .n)) ∷ problemChecks (pool one two)))
 
--- with the room of each table of the pool
+-- the call's refusal number; `rooms` has the length of each output
 abbrev pub poolRefusal : Problem → Problem → List ℕ → ℕ
 poolRefusal one two rooms = orElse (firstFailing (poolChecks one two)) (cond (roomy (tableLengths (pool one two)) rooms) 0 11)
 
 -- ---- what the compact cut gives
 
--- an entry of the cone map behind k cones, t patterns and a augmented rows
+-- the second problem's cone map entry in the pool, where the first has k cones, t patterns and a augmented rows
 abbrev pub raisedMapEntry : ℕ → ℕ → ℕ → MapEntry → MapEntry
 raisedMapEntry k t a (wholeCone i first rows) = wholeCone (k + i) (a + first) rows
 raisedMapEntry k t a (blockOf i j c first rows) = blockOf (k + i) (t + j) c (a + first) rows
 
--- the same on the words of a cone map, five an entry: the mark for no pattern stays
+-- the same on a cone map's words, five for each entry: the no-pattern mark stays
 abbrev pub raisedNumber : ℕ → ℕ → ℕ
 raisedNumber t j = cond (eqb j noPatternNumber) noPatternNumber (t + j)
 
@@ -79,8 +79,8 @@ raisedMapWords k t a (i ∷ j ∷ c ∷ first ∷ rows ∷ ws) = (k + i) ∷ rai
 abbrev pub columnsFrom : ℕ → ℕ → Csc → List (List Entry)
 columnsFrom n k M = map (column M) (upFrom n k)
 
--- the compact cut of a pool by the compact cuts of both: the first's rows above the second's, the first's overlap columns before the
--- second's; in the cone map the second's entries follow the first's, raised
+-- the compact cut of a pool, from the compact cuts of both problems: the first's rows above the second's, the first's overlap columns
+-- before the second's; in the cone map the second's entries follow the first's, raised
 abbrev pub pooledOf : Problem → Problem → Augmented → Augmented → Augmented
 pooledOf one two first second =
     let rows = blockRowCount (layout one) in

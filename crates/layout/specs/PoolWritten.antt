@@ -1,4 +1,4 @@
--- Two problems and their pool, in terms of what the calls leave at the front of their outputs (document 02, Q-11). Definitions only.
+-- Two problems and their pool, by what the calls write to their outputs (document 02, Q-11). Definitions only.
 use Prim.Native.Nat.{_+_}
 use Rattle.layout.specs.Problem.{Problem, Route}
 use Rattle.layout.specs.Answers.{Augmented}
@@ -6,11 +6,11 @@ use Rattle.layout.specs.Pool.{pool}
 use Rattle.layout.specs.Calls.Cut.{frontOn}
 use Rattle.layout.specs.Calls.Tables.{Tables, problemAt}
 
--- the pool as its caller has it: the tables at the fronts of the outputs, with the n of both and the sums of m and of the pattern counts
+-- the pool as its caller has it: the prefixes of the outputs as tables, with the n of both and the sums of m and of the pattern counts
 abbrev pub poolAt : Problem → Problem → Tables → Problem
 poolAt one two t = problemAt (one .n) (one .m + two .m) (one .patternCount + two .patternCount) (pool one two) t
 
--- the fronts of a cut's outputs
+-- what a cut has written: the prefixes of its outputs
 abbrev pub cutAt : Route → Problem → Augmented → Augmented
 cutAt route p out = record {
   P = record {

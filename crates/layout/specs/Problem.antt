@@ -19,7 +19,7 @@ minusOne64 = fin true 1 (pos 0)
 pub data Route : Type 0 where
   standard compact : Route
 
--- compressed columns
+-- a matrix in compressed columns
 pub record Csc : Type 0 where
   pub starts : List ℕ
   pub rows : List ℕ
@@ -35,11 +35,11 @@ pub record Problem : Type 0 where
   -- cone records: kind, first size, second size
   pub cones : List ℕ
   pub alphas : List Float
-  -- how many patterns there are, and their words
+  -- the number of patterns, and their words
   pub patternCount : ℕ
   pub patternWords : List ℕ
 
--- a problem by its tables, as contracts name it
+-- a problem from its tables, as contracts write it
 abbrev pub problem : ℕ → ℕ → List ℕ → List ℕ → List Float → List Float → List ℕ → List ℕ → List Float → List Float
     → List ℕ → List Float → ℕ → List ℕ → Problem
 problem n m pStarts pRows pValues q aStarts aRows aValues b cones alphas count words = record {
@@ -55,7 +55,16 @@ problem n m pStarts pRows pValues q aStarts aRows aValues b cones alphas count w
   patternWords = words;
 }
 
--- the length of each of a problem's eleven tables, in the order in which calls take and give them
+-- the matrix A with its right side
+pub record System : Type 0 where
+  pub A : Csc
+  pub b : List Float
+
+-- a system from its tables, as contracts write it
+abbrev pub system : List ℕ → List ℕ → List Float → List Float → System
+system starts rows values b = record { A = record { starts = starts; rows = rows; values = values }; b = b }
+
+-- the length of each of a problem's eleven tables, in the order of a call's parameters
 abbrev pub tableLengths : Problem → List ℕ
 tableLengths p =
     length (p .P .starts) ∷ length (p .P .rows) ∷ length (p .P .values) ∷ length (p .q)
@@ -84,6 +93,6 @@ pub record Solution : Type 0 where
   pub tau : Float
   pub kappa : Float
 
--- a solution by its parts, as contracts name it
+-- a solution from its parts, as contracts write it
 abbrev pub solution : List Float → List Float → List Float → Float → Float → Solution
 solution x s z tau kappa = record { x = x; s = s; z = z; tau = tau; kappa = kappa }

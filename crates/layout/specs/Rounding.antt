@@ -1,4 +1,4 @@
--- How far the s that the compact joining returns lies from exact sums: document 02, Q-9. A finite double is read as its count of 2 ^ -1074;
+-- The rounding error of the s that the compact joining returns (document 02, Q-9). A finite double is read as its count of 2 ^ -1074;
 -- a bound in units of roundoff, 2 ^ -53, is stated with both sides times 2 ^ 53.
 use Prim.Native.Nat.{ℕ, suc, _+_, _*_, _^_, _≤_, _<_}
 use mathlib.Core.Path.{_≡_}
@@ -30,7 +30,7 @@ magnitudes (t ∷ ts) = magnitude (count t) + magnitudes ts
 
 -- ---- what is added at original row o
 
--- a block's row there adds its value, and a row of a cone that is not decomposed copies it
+-- whether an augmented row is a block row that adds its value to row o, or a row of an undecomposed cone, copied to row o
 abbrev pub adds : ℕ → Row → Bool
 adds o (kept q) = false
 adds o (owned q) = eqb q o
@@ -41,24 +41,24 @@ copies o (kept q) = eqb q o
 copies o (owned q) = false
 copies o (overlap q r) = false
 
--- it is a row of no undecomposed cone
+-- row o is not in an undecomposed cone
 abbrev pub decomposed : ℕ → List Row → Bool
 decomposed o xs = all (λ x. not (copies o x)) xs
 
--- k: how many blocks add to it
+-- Q-9's k: the number of block rows that add to row o
 abbrev pub blocksAt : ℕ → List Row → ℕ
 blocksAt o xs = length (keep (adds o) xs)
 
--- whether clique c's block holds it, in a cone whose rows start at base
+-- whether clique c's block contains row o, in a cone whose rows start at `base`
 abbrev pub holdsRow : ℕ → Pattern → ℕ → ℕ → Bool
 holdsRow o p base c = has o (map (pairRow base) (block p c))
 
--- how many blocks of a cone hold it
+-- the number of a cone's blocks that contain row o
 abbrev pub blocksIn : ℕ → Part → ℕ
 blocksIn o (whole i c row) = 0
 blocksIn o (cut i row k p) = length (keep (holdsRow o p row) (below (cliqueCount p)))
 
--- the terms: the values that they add, in walking order
+-- the terms: the values that block rows add to row o, in walking order
 abbrev pub termsAt : ℕ → List Row → List Float → List Float
 termsAt o [] vs = []
 termsAt o (x ∷ xs) [] = []
@@ -74,14 +74,14 @@ errorBound o xs s = blocksAt o xs * magnitudes (termsAt o xs s)
 abbrev pub returned : ℕ → List Part → List Float → ℕ → Float
 returned m ps s o = getD (addRows (compactRows ps) s (replicate m zero64)) o nan
 
--- Of an s of doubles, one for each augmented row. A finite sum has finite terms, so only results are asked to be finite.
+-- What holds for an s of doubles, one for each augmented row. A finite sum has finite terms, so only results are assumed finite.
 pub record RoundingErrors (m : ℕ) (ps : List Part) (s : List Float) : Type 0 where
-  -- k counts the blocks that hold the row
+  -- k is the number of blocks that contain the row
   pub blocks : (o : ℕ) → blocksAt o (compactRows ps) ≡ sum (map (blocksIn o) ps)
-  -- the error at a row of no undecomposed cone
+  -- the error at a row that is not in an undecomposed cone
   pub bounded : (o : ℕ) → T (decomposed o (compactRows ps)) → T (finite (returned m ps s o))
       → 2 ^ 53 * magnitude (count (returned m ps s o) -ℤ exactSum (termsAt o (compactRows ps) s)) ≤ errorBound o (compactRows ps) s
-  -- the block value at augmented row r becomes v
+  -- the change at row o where the block value at augmented row r becomes v
   pub moved : (r o : ℕ) (v : Float) → let t = set s r v in
       r < length (compactRows ps) → T (adds o (getD (compactRows ps) r (kept 0))) → T (fits binary64 v)
       → T (finite (returned m ps s o)) → T (finite (returned m ps t o))
@@ -94,8 +94,8 @@ pub record RoundingErrors (m : ℕ) (ps : List Part) (s : List Float) : Type 0 w
   pub copied : (r o : ℕ) → r < length (compactRows ps) → T (copies o (getD (compactRows ps) r (kept 0)))
       → returned m ps s o ≡ getD s r nan
 
--- ---- the same on what is written: `out` where a compact joining of s is not refused, `moved` where one of t is, which differs from s
--- in the block value at augmented row r
+-- ---- the same for written outputs: `out` is what an accepted compact joining of s writes, `moved` what one of t writes; t differs
+-- from s in the block value at augmented row r
 
 pub record OneMoved (m : ℕ) (ps : List Part) (r : ℕ) (s t out moved : List Float) : Type 0 where
   pub bounded : (o : ℕ) → o < m → T (decomposed o (compactRows ps)) → T (finite (getD out o nan))

@@ -1,4 +1,4 @@
--- Runs of a column: places one after the other that hold the same row. Definitions only.
+-- Runs of a column: consecutive entries with the same row index. Definitions only.
 use Prim.Native.Nat.{ℕ, zero, suc, _+_}
 use mathlib.Core.Bool.{cond}
 use mathlib.Core.List.{List, [], _∷_, map}
@@ -10,7 +10,7 @@ use Rattle.layout.specs.Problem.{Csc}
 use Rattle.layout.specs.Checks.{columnRows}
 use Rattle.layout.specs.Compact.{column, csc, summed}
 
--- each run of equal rows once
+-- the row index of each run, once
 abbrev pub runsFrom : ℕ → List ℕ → List ℕ
 runsFrom r [] = r ∷ []
 runsFrom r (s ∷ rs) =
@@ -27,7 +27,7 @@ abbrev pub leftSum : Float → List Float → Float
 leftSum v [] = v
 leftSum v (w ∷ ws) = leftSum (add binary64 v w) ws
 
--- ---- the run that holds place t
+-- ---- the run that contains index t
 
 abbrev pub runFirst : List ℕ → ℕ → ℕ
 runFirst rows zero = zero
@@ -36,7 +36,7 @@ runFirst rows (suc t) =
     let here = suc t in
     cond (eqb (getD rows t 0) (getD rows (suc t) 0)) earlier here
 
--- how many rows at the front are r
+-- the number of entries at the start of the list that equal r
 abbrev pub alike : ℕ → List ℕ → ℕ
 alike r [] = 0
 alike r (s ∷ rs) =
@@ -46,7 +46,7 @@ alike r (s ∷ rs) =
 abbrev pub runLast : List ℕ → ℕ → ℕ
 runLast rows t = t + alike (getD rows t 0) (drop (suc t) rows)
 
--- its values, added from left to right
+-- the run's values, added from left to right
 abbrev pub runSum : List ℕ → List Float → ℕ → Float
 runSum rows values t =
     let first = runFirst rows t in
@@ -54,11 +54,11 @@ runSum rows values t =
 
 -- ---- a matrix of n columns
 
--- with its repeats added
+-- the matrix with the entries of each run added
 abbrev pub sums : ℕ → Csc → Csc
 sums n M = csc (map (λ c. summed (column M c)) (below n))
 
--- how many entries each column has then, where they start, and how many they are
+-- of that matrix: each column's entry count, the column starts, and the total entry count
 abbrev pub runCounts : ℕ → Csc → List ℕ
 runCounts n M = map (λ c. length (runs (columnRows M c))) (below n)
 

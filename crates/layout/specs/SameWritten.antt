@@ -1,4 +1,4 @@
--- Two problems with the same layout, in terms of what their cuts on one route leave at the front of their outputs.
+-- Two problems with the same layout: the outputs of their cuts on one route compared.
 use Prim.Native.Nat.{ℕ}
 use mathlib.Core.Path.{_≡_}
 use mathlib.Core.List.{List}
@@ -17,6 +17,6 @@ pub record SameWritten (route : Route) (p q : Problem) (a c : Augmented) : Type 
   pub cones : frontOn route p 8 (a .cones) ≡ frontOn route q 8 (c .cones)
   pub alphas : T (sameBy sameBits (frontOn route p 9 (a .alphas)) (frontOn route q 9 (c .alphas)))
   pub map : frontOn route p 10 (a .map) ≡ frontOn route q 10 (c .map)
-  -- every output of one is as long as the other's, so that one set of buffers serves both
+  -- corresponding outputs have equal lengths, so that one set of buffers serves both problems
   pub lengths : sizes route p ≡ sizes route q
   pub rooms : (buffers : List ℕ) → cutRefusal route p buffers ≡ cutRefusal route q buffers

@@ -1,4 +1,4 @@
--- Many right sides against one problem: 1 to 64 lists of m values for b, one after another, and one compact cut of all. Definitions only.
+-- Many right sides for one problem (document 02, Q-1): 1 to 64 lists of m values for b, one after another, in one compact cut. Definitions only.
 use Prim.Native.Nat.{ℕ, _-_, _*_}
 use mathlib.Core.Bool.{cond, _&&_}
 use mathlib.Core.List.{List, _∷_, _++_}
@@ -12,17 +12,17 @@ use Rattle.layout.specs.Checks.{Check, check, firstFailing, tableChecks,
 use Rattle.layout.specs.Compact.{compactB}
 use Rattle.layout.specs.Answers.{orElse, roomy, Augmented, augmented, augmentedWithB, lengths}
 
--- the k-th run of m values
+-- right side k, of m values
 abbrev pub side : ℕ → ℕ → List Float → List Float
 side m k sides = take m (drop (k * m) sides)
 
--- the problem with the k-th side
+-- the problem with right side k as its b
 abbrev pub withSide : Problem → List Float → ℕ → Problem
 withSide p sides k = withB p (side (p .m) k sides)
 
 -- ---- the refusals
 
--- 1 to 64 sides, then checks 1 to 10 with the first, 4 asking for m values of each too
+-- 1 to 64 right sides, then checks 1 to 10 with the first, where check 4 also asks for m values of each side
 abbrev pub firstSideChecks : Problem → ℕ → List Float → List Check
 firstSideChecks p count sides =
     let first = withSide p sides 0 in
@@ -30,7 +30,7 @@ firstSideChecks p count sides =
     ∷ (tableChecks first
     ++ (check 4 (eqb (length sides) (count * p .m) && check4 first) ∷ (patternChecks first ++ routeChecks compact first)))
 
--- then with each further side
+-- then checks 1 to 10 with each further right side
 abbrev pub sidesChecks : Problem → ℕ → List Float → List Check
 sidesChecks p count sides = firstSideChecks p count sides ++ join (λ k. checks compact (withSide p sides k)) (upFrom 1 (count - 1))
 
@@ -47,12 +47,12 @@ sidesB p count sides = join (λ k. compactB (withSide p sides k)) (below count)
 abbrev pub augmentedSides : Problem → ℕ → List Float → Augmented
 augmentedSides p count sides = augmentedWithB (augmented compact (withSide p sides 0)) (sidesB p count sides)
 
--- the whole call, with the room of each output
+-- the call's refusal number; `rooms` has the length of each output
 abbrev pub sidesRefusal : Problem → ℕ → List Float → List ℕ → ℕ
 sidesRefusal p count sides rooms =
     orElse (sidesFailing p count sides) (cond (roomy (lengths (augmentedSides p count sides)) rooms) 0 11)
 
--- Side k is accepted by the compact route, and the call's results with the k-th run of b are those of its own cut.
+-- Right side k is accepted by the compact route, and the call's results, with part k of b, are those of the cut with side k alone.
 pub record OneByOne (p : Problem) (count : ℕ) (sides : List Float) (k : ℕ) : Type 0 where
   pub accepted : refusal compact (withSide p sides k) ≡ 0
   pub given : augmentedWithB (augmentedSides p count sides) (side (length (compactB (withSide p sides k))) k (sidesB p count sides))

@@ -1,4 +1,4 @@
--- The codes of one clique and of all, by offsets.
+-- The codes of one clique and of all cliques, found by their offsets.
 use Prim.Native.Nat.{ℕ, suc, _+_, _≤_, _<_}
 use native.Mathlib.Omega.{arith}
 use mathlib.Core.Path.{_≡_, ap, fun-ext, _∙_}
@@ -10,12 +10,13 @@ use Rattle.layout.specs.Triangle.{triangle}
 use Rattle.layout.specs.Blocks.{Pair, pairs}
 use Rattle.layout.proofs.Members.{length-upFrom, getD-below}
 use Rattle.layout.proofs.Pairs.{length-pairs}
-use Rattle.blocks.specs.Cliques.{cliqueHere, verticesHere, rowsHere}
+use Rattle.blocks.specs.Cliques.{verticesHere, rowsHere}
 use Rattle.blocks.proofs.Cliques.{vertices-rise}
 use Rattle.blocks.proofs.Orders.{down-more, down-room}
 use Rattle.parent_rows.specs.Places.{Places, tieCode, placeCode}
 use Rattle.overlaps.specs.Tables.{tiedHere, codesHere}
 use Rattle.parent_rows.proofs.Places.{code-places}
+use Rattle.supernode_tree.specs.Reads.{cliqueHere}
 
 module _ (base start : ℕ) (ws ordering : List ℕ) (parent at : ℕ) where
   pub length-tied : length (tiedHere base start ws ordering parent at) ≡ triangle (length (verticesHere ws ordering at))
@@ -23,7 +24,7 @@ module _ (base start : ℕ) (ws ordering : List ℕ) (parent at : ℕ) where
   length-tied =
       length-map (pairs (verticesHere ws ordering at)) (tieCode (verticesHere ws ordering parent) base start) ∙ length-pairs (verticesHere ws ordering at)
 
-  -- the codes by a table of the parent's places
+  -- codes computed with a table of each vertex's position in the parent's clique
   pub tied-places : (places : List ℕ) → Places (verticesHere ws ordering parent) places
       → map (placeCode places base start) (pairs (verticesHere ws ordering at)) ≡ tiedHere base start ws ordering parent at
   unfolding tiedHere
@@ -32,18 +33,18 @@ module _ (base start : ℕ) (ws ordering : List ℕ) (parent at : ℕ) where
       (fun-ext (code-places (verticesHere ws ordering parent) places (vertices-rise ws ordering parent) h base start))
 
 module _ (base : ℕ) (ws ordering os starts : List ℕ) (c : ℕ) where
-  -- the last clique
+  -- the codes of the last clique
   pub codes-last : c + 1 ≡ length os → codesHere base ws ordering os starts c ≡ rowsHere base ws ordering (getD os c 0)
   unfolding codesHere
   codes-last e = rw (eq-eqb (suc c) (length os) (omega arith))
 
-  -- any other, with its parent
+  -- the codes of a clique with a parent
   pub codes-tied : (parent : ℕ) → parent ≡ cliqueHere ws (getD os c 0) .parent → (c + 1 ≡ length os → ⊥)
       → codesHere base ws ordering os starts c ≡ tiedHere base (getD starts parent 0) ws ordering (getD os parent 0) (getD os c 0)
   unfolding codesHere
   codes-tied parent e n = rw (e, ne-eqb (suc c) (length os) (λ q. n (omega arith)))
 
--- ---- numbers from last to first: those from n on are done
+-- ---- joining over numbers from last to first, where those from n on are done
 
 module _ (f : ℕ → List ℕ) (k n : ℕ) (l : n < k) where
   pub numbers-more : join f (reverse (drop n (below k))) ≡ join f (reverse (drop (n + 1) (below k))) ++ f n

@@ -1,4 +1,4 @@
--- The codes by offsets are those of the pattern's compact rows.
+-- The codes computed by offsets are the codes of the pattern's compact rows.
 use Prim.Native.Nat.{ℕ, suc, _+_, _-_, _≤_, _<_}
 use native.Mathlib.Decide.{ℕ-discrete}
 use native.Mathlib.Omega.{arith}
@@ -16,20 +16,20 @@ use Rattle.layout.specs.Checks.{RightPattern}
 use Rattle.layout.specs.CliqueTree.{parentOf}
 use Rattle.layout.proofs.Tests.{and-iff, cond-failed}
 use Rattle.layout.proofs.Members.{has-below, has-upFrom, has-getD}
-use Rattle.layout.proofs.Joins.{map-same, map-drop, sum-drop, join-same}
+use Rattle.layout.proofs.Joins.{map-same, map-drop, sum-drop, join-same, map-join}
 use Rattle.layout.proofs.Tree.{in-iff, parent-later, last-separator, snode-apart}
 use Rattle.layout.proofs.Originals.{original-injective, has-originals, has-sorted}
 use Rattle.layout.proofs.Cliques.{cliqueVertices, clique-vertices, pair-in-parent}
 use Rattle.layout.proofs.Rows.{rows-count}
 use Rattle.blocks.specs.Columns.{columnPairs}
 use Rattle.codes.specs.Codes.{cutCode}
-use Rattle.blocks.proofs.Patterns.{map-join, down-same}
+use Rattle.blocks.proofs.Patterns.{down-same}
 use Rattle.blocks.proofs.Offsets.{StandAt, here, stands, vertices-clique, rows-block}
 use Rattle.parent_rows.specs.Places.{tieCode}
 use Rattle.overlaps.specs.Tables.{AllFound, sizeHere, FirstRows, Tied, tiedHere, codesHere}
 use Rattle.overlaps.proofs.Codes.{codes-last, codes-tied}
 
--- numbers for the pairs of a list that agree on its members
+-- functions that agree on pairs of members give the same numbers for all pairs of a list
 pairs-same : (f g : Pair → ℕ) (vs : List ℕ) → ((v w : ℕ) → T (has v vs) → T (has w vs) → f (pair v w) ≡ g (pair v w)) → map f (pairs vs) ≡ map g (pairs vs)
 pairs-same f g vs h =
     map-join f (columnPairs vs) (below (length vs))
@@ -45,7 +45,7 @@ pairs-same f g vs h =
         (λ i k. h (getD vs i 0) (getD vs j 0) (has-getD vs i 0 (omega (arith, has-below i (suc j) .0 k))) (has-getD vs j 0 l))
         ∙ sym (map-map g at (below (suc j)))
 
--- tests that pass together are equal
+-- tests that imply each other are equal
 same-test : (a b : Bool) → (T a → T b) → (T b → T a) → a ≡ b
 same-test true true f g = refl
 same-test true false f g = absurd (f tt)
@@ -53,7 +53,7 @@ same-test false true f g = absurd (g tt)
 same-test false false f g = refl
 
 module _ (p : Pattern) (ok : RightPattern p) where
-  -- the code of an entry
+  -- the code of an entry: an overlap's if its pair lies in the separator, otherwise its original row
   cut-code : (base first c i j : ℕ)
       → cutCode (rowOf p base first c (pair i j)) ≡ cond (inSeparator p c (pair i j)) (65536 + parentRow p first (parentOf p c) (pair i j)) (base + pairIndex i j)
   cut-code base first c i j = go (inSeparator p c (pair i j))
@@ -63,7 +63,7 @@ module _ (p : Pattern) (ok : RightPattern p) where
       go true = refl
       go false = refl
 
-  -- of a clique's vertices the parent holds just those of the separator
+  -- a vertex of a clique is in the parent's clique exactly if it is in the separator
   in-parent : (c w : ℕ) → suc c < cliqueCount p → T (has w (cliqueVertices p c))
       → has w (cliqueVertices p (parentOf p c)) ≡ has w (originals p (cliqueAt p c .separator))
   in-parent c w l h = same-test (has w (cliqueVertices p d)) (has w (originals p us)) down up
@@ -93,7 +93,7 @@ module _ (p : Pattern) (ok : RightPattern p) where
             | inr s ↦ has-originals p (cliqueAt p c .separator) w .1 (u, s, eu)
           ]
 
-  -- a clique's codes, where it has a parent
+  -- the codes of a clique with a parent
   tied-codes : (base first c : ℕ) → suc c < cliqueCount p
       → map (tieCode (cliqueVertices p (parentOf p c)) base (firstRow p first (parentOf p c))) (block p c) ≡ map cutCode (map (rowOf p base first c) (block p c))
   tied-codes base first c l =
@@ -114,7 +114,7 @@ module _ (p : Pattern) (ok : RightPattern p) where
           let (u, hu, eu) = has-originals p (cliqueAt p c .separator) v .0 a in
           last-separator p (ok .tree) c u e hu)
 
-  -- ---- by offsets
+  -- ---- with offsets
 
   module _ (ws os : List ℕ) (many : length os ≡ cliqueCount p) (st : StandAt ws (p .cliques) os) where
     pub all-found : AllFound ws os

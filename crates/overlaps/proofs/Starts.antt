@@ -1,4 +1,4 @@
--- The first row of each block, filled in from the last clique to the first.
+-- The first row of each block, written from the last clique to the first.
 use Prim.Native.Nat.{ℕ, _+_, _≤_, _<_}
 use native.Mathlib.Numerals.{add-one}
 use native.Mathlib.Decide.{ℕ-discrete}
@@ -17,7 +17,7 @@ module _ (f : ℕ → ℕ) (os : List ℕ) (n : ℕ) (l : n < length os) where
   pub sum-room : f (getD os n 0) + sum (map f (drop (n + 1) os)) ≤ sum (map f os)
   sum-room = omega (arith, sum-more, sum-drop f os 0 n (omega arith))
 
--- one number more is stored, below those that stand
+-- storing number n extends a table that is right from n + 1 on
 pub stored-more : (f : ℕ → ℕ) (out : List ℕ) (k n x : ℕ) → n < length out → f n ≡ x → ((d : ℕ) → n + 1 ≤ d → d < k → getD out d 0 ≡ f d)
     → (d : ℕ) → n ≤ d → d < k → getD (set out n x) d 0 ≡ f d
 stored-more f out k n x l e h d m q = go (ℕ-discrete d n)

@@ -1,4 +1,5 @@
-// The compact cut's rows of one pattern, block by block: an owned entry's original row, an overlap's row in the parent's block.
+// Writes the codes of one pattern's augmented rows on the compact route, block by block: the original row of an owned entry, and 65,536 plus
+// the parent block's row of an overlap.
 ghost use mathlib.Core.Path.{_≡_};
 ghost use mathlib.Core.Bool.{true};
 ghost use mathlib.Core.List.{map, reverse};
@@ -9,10 +10,10 @@ ghost use Rattle.layout.specs.Triangle.{triangle};
 ghost use Rattle.layout.specs.Patterns.{readClique};
 ghost use Rattle.layout.specs.Blocks.{patternRows, blockRows};
 ghost use Rattle.layout.specs.Checks.{RightPattern};
-ghost use Rattle.supernode_tree.specs.Reads.{whole, patternAt};
-ghost use Rattle.blocks.specs.Cliques.{cliqueHere, Stands};
+ghost use Rattle.supernode_tree.specs.Reads.{isWhole, patternAt, cliqueHere};
+ghost use Rattle.blocks.specs.Cliques.{SortableClique};
 ghost use Rattle.codes.specs.Codes.{cutCode};
-ghost use Rattle.overlaps.specs.Tables.{AllFound, sizeHere, FirstRows, Tied, tiedHere, codesHere, Ready, Coded};
+ghost use Rattle.overlaps.specs.Tables.{AllFound, sizeHere, FirstRows, Tied, tiedHere, codesHere, CliquesTied, Coded};
 use blocks::clique_rows;
 use blocks::clique_vertices;
 use constants::scratch;
@@ -22,11 +23,11 @@ use supernode_tree::Clique;
 use supernode_tree::Pattern;
 use supernode_tree::clique_offsets;
 
-// ---- where each block starts
+// ---- the first row of each block
 
-// How many rows the block of the clique at an offset has.
+// Counts the rows of the block of the clique at offset `at`.
 fn block_rows(words: &[u32], at: usize) -> u32
-    requires { ⌜ whole (readClique (drop at (now words))) ≡ true ⌝ }
+    requires { ⌜ isWhole (readClique (drop at (now words))) ≡ true ⌝ }
     requires { ⌜ sizeHere (now words) at ≤ 262144 ⌝ }
     ensures { λ r. ⌜ r ≡ sizeHere (now (words .entry)) at ⌝ }
 {
@@ -35,7 +36,7 @@ fn block_rows(words: &[u32], at: usize) -> u32
     k * (k + 1) / 2
 }
 
-// The first row of each clique's block: cliques go from last to first.
+// Writes to `out[c]` the first augmented row of clique c's block. Cliques are placed from last to first, from row `first` on.
 fn first_rows(words: &[u32], offsets: &[usize], first: u32, out: &mut [u32])
     requires { ⌜ AllFound (now words) (now offsets) × (length (now offsets) ≤ length (now out)) ⌝ }
     requires { ⌜ first + sum (map (sizeHere (now words)) (now offsets)) ≤ 262144 ⌝ }
@@ -52,7 +53,8 @@ fn first_rows(words: &[u32], offsets: &[usize], first: u32, out: &mut [u32])
 
 // ---- codes
 
-// The codes of the clique at an offset, whose parent's clique stands at another and its block starts at row start; how many.
+// Writes the codes of the clique at offset `at`, whose parent is the clique at offset `parent` with its block from row `start` on.
+// `base` is the cone's first original row. Returns the number of codes.
 fn tied_rows(
     words: &[u32],
     ordering: &[u32],
@@ -62,7 +64,7 @@ fn tied_rows(
     start: u32,
     out: &mut [u32],
 ) -> usize
-    requires { ⌜ Stands (now words) (now ordering) at × Stands (now words) (now ordering) parent ⌝ }
+    requires { ⌜ SortableClique (now words) (now ordering) at × SortableClique (now words) (now ordering) parent ⌝ }
     requires { ⌜ (base + triangle (length (now ordering)) ≤ 65536) × (start ≤ 262144) ⌝ }
     requires { ⌜ length (tiedHere base start (now words) (now ordering) parent at) ≤ length (now out) ⌝ }
     ensures { λ r. ⌜ r ≡ length (tiedHere base start (now (words .entry)) (now (ordering .entry)) parent at) ⌝ }
@@ -76,16 +78,17 @@ fn tied_rows(
     code_block(out, &vertices[..k], &places, base, start)
 }
 
-// The parent of the clique at an offset.
+// Returns the parent number of the clique at offset `at`.
 fn clique_parent(words: &[u32], at: usize) -> usize
-    requires { ⌜ whole (readClique (drop at (now words))) ≡ true ⌝ }
+    requires { ⌜ isWhole (readClique (drop at (now words))) ≡ true ⌝ }
     ensures { λ r. ⌜ r ≡ cliqueHere (now (words .entry)) at .parent ⌝ }
 {
     let q = Clique::here(words, at);
     q.parent as usize
 }
 
-// The codes of clique c; how many. The last one has no parent, and owns all its entries.
+// Writes the codes of clique `c`; the last clique has no parent and owns all its entries. `starts` holds the first row of each block.
+// Returns the number of codes.
 fn code_rows(
     words: &[u32],
     ordering: &[u32],
@@ -117,7 +120,7 @@ fn code_rows(
     )
 }
 
-// The codes of the cliques, from last to first; how many.
+// Writes the codes of all cliques, from last to first. Returns the number of codes.
 fn codes_down(
     words: &[u32],
     ordering: &[u32],
@@ -141,7 +144,7 @@ fn codes_down(
     t
 }
 
-// The codes of the cliques at some offsets, whose blocks start at row first; how many.
+// Writes the codes of the cliques at `offsets`, from last to first, whose blocks start at augmented row `first`. Returns the number of codes.
 fn block_codes(
     words: &[u32],
     ordering: &[u32],
@@ -153,7 +156,7 @@ fn block_codes(
     requires { ⌜ AllFound (now words) (now offsets) × (length (now offsets) ≤ 256) ⌝ }
     requires { ⌜ first + sum (map (sizeHere (now words)) (now offsets)) ≤ 262144 ⌝ }
     requires { ⌜ base + triangle (length (now ordering)) ≤ 65536 ⌝ }
-    requires { ⌜ Ready base first (now words) (now ordering) (now offsets) (length (now out)) ⌝ }
+    requires { ⌜ CliquesTied base first (now words) (now ordering) (now offsets) (length (now out)) ⌝ }
     ensures { λ r. ⌜ Coded base first (now (words .entry)) (now (ordering .entry)) (now (offsets .entry)) r (now (out .entry)) (now (out .exit)) ⌝ }
 {
     let mut starts = [0u32; scratch::VERTICES];
@@ -161,7 +164,8 @@ fn block_codes(
     codes_down(words, ordering, offsets, &starts, base, out)
 }
 
-// The compact cut's rows of the pattern at an offset, which start at row first, cliques from last to first; how many.
+// Writes the codes of the compact rows of the pattern at offset `at`, cliques from last to first. `base` is the cone's first original row
+// and `first` its first augmented row. Returns the number of codes.
 pub fn compact_pattern_rows(
     words: &[u32],
     at: usize,

@@ -1,4 +1,4 @@
--- Places noted one after the other, and the codes that they give.
+-- The table of places, filled one vertex after the other, and the codes that it gives.
 use Prim.Native.Nat.{ℕ, zero, suc, _+_, _-_, _*_, _/_, _≤_, _<_}
 use native.Mathlib.Nat.{mul-le-mul}
 use native.Mathlib.Numerals.{add-one}
@@ -23,14 +23,14 @@ use Rattle.layout.proofs.Joins.{map-same}
 use Rattle.layout.proofs.Rising.{rises-at, place-at}
 use Rattle.layout.proofs.Triangles.{pairIndex-le}
 use Rattle.layout.proofs.Pairs.{place-says, place-mono}
-use Rattle.blocks.specs.Vertices.{isMarked}
+use Rattle.blocks.specs.Vertices.{vertexMarked}
 use Rattle.blocks.specs.Columns.{columnPairs}
 use Rattle.blocks.proofs.Columns.{rises-le}
 use Rattle.parent_rows.specs.Places.{Places, Climbing, tieCode, placeCode, tiedEntry}
 
--- ---- noting
+-- ---- filling the table
 
--- the first i of vs are noted, and no other number
+-- the places of the first i vertices of vs are in the table, and all other entries are 0
 pub record Noted (vs : List ℕ) (i : ℕ) (places : List ℕ) : Type 0 where
   pub at : (k : ℕ) → k < i → getD places (getD vs k 0) 0 ≡ suc k
   pub clear : (v : ℕ) → ((k : ℕ) → k < i → getD vs k 0 ≡ v → ⊥) → getD places v 0 ≡ 0
@@ -66,7 +66,7 @@ noted-all vs places rising n = record {
   others = λ v h. n .clear v (λ k l e. h (subst (λ (w : ℕ). T (has w vs)) e (has-getD vs k 0 l)));
 }
 
--- ---- what places are like
+-- ---- properties of the table
 
 module _ (vs places : List ℕ) (rising : T (rises vs)) (ps : Places vs places) where
   pub places-climb : length vs ≤ 256 → Climbing places
@@ -87,7 +87,7 @@ module _ (vs places : List ℕ) (rising : T (rises vs)) (ps : Places vs places) 
         | inr h ↦ absurd (omega (arith, ps .others v h))
       ]
 
-  marked-held : (v : ℕ) → isMarked places v ≡ has v vs
+  marked-held : (v : ℕ) → vertexMarked places v ≡ has v vs
   marked-held v = go (has v vs) (λ h. ps .held v h) (λ h. ps .others v h)
     where
       go : (b : Bool) → (T b → getD places v 0 ≡ suc (placeIn vs v)) → ((T b → ⊥) → getD places v 0 ≡ 0) → not (eqb (getD places v 0) 0) ≡ b
@@ -97,7 +97,7 @@ module _ (vs places : List ℕ) (rising : T (rises vs)) (ps : Places vs places) 
   place-held : (v : ℕ) → T (has v vs) → getD places v 0 - 1 ≡ placeIn vs v
   place-held v h = omega (arith, ps .held v h)
 
-  -- the table gives the code
+  -- the code computed from the table is the code of the pair
   pub code-places : (base start : ℕ) (x : Pair) → placeCode places base start x ≡ tieCode vs base start x
   code-places base start (pair i j) =
       rw (marked-held i, marked-held j)
@@ -112,17 +112,17 @@ module _ (vs places : List ℕ) (rising : T (rises vs)) (ps : Places vs places) 
 -- ---- a column
 
 module _ (places : List ℕ) (base start v c : ℕ) (l : v ≤ c) where
-  -- a vertex without a place makes no tie
+  -- a vertex without a place makes an owned entry
   code-own : getD places c 0 ≡ 0 → placeCode places base start (pair v c) ≡ base + pairIndex v c
-  code-own e = cond-failed (isMarked places v && isMarked places c) _ _
-      (λ h. subst (λ (k : ℕ). T (not (eqb k 0))) e (and-iff (isMarked places v) (isMarked places c) .0 h .1))
+  code-own e = cond-failed (vertexMarked places v && vertexMarked places c) _ _
+      (λ h. subst (λ (k : ℕ). T (not (eqb k 0))) e (and-iff (vertexMarked places v) (vertexMarked places c) .0 h .1))
 
-  -- one with a place, as code computes it
+  -- the code of an entry whose column has a place, as the code computes it
   code-tied : Climbing places → (place : ℕ) → getD places c 0 ≡ suc place
       → placeCode places base start (pair v c)
       ≡ cond (eqb (getD places v 0) 0) (base + c * (c + 1) / 2 + v) (65536 + start + place * (place + 1) / 2 + (getD places v 0 - 1))
   code-tied up place h =
-      let m : isMarked places c ≡ true = ap not (ne-eqb (getD places c 0) 0 (λ e. omega arith)) in
+      let m : vertexMarked places c ≡ true = ap not (ne-eqb (getD places c 0) 0 (λ e. omega arith)) in
       let p : getD places c 0 - 1 ≡ place = omega arith in
       rw (m, p) (go (ℕ-discrete (getD places v 0) 0))
     where
@@ -143,14 +143,14 @@ module _ (places : List ℕ) (base start v c : ℕ) (l : v ≤ c) where
       go (yes e) = rw (eq-eqb (getD places v 0) 0 e) own
       go (no n) = rw (ne-eqb (getD places v 0) 0 n) (tied n)
 
--- what is noted of a vertex that has a place
+-- the table's entry of a vertex that has a place
 pub place-some : {n : ℕ} → (n ≡ 0 → ⊥) → 1 ≤ n
 place-some h = omega (arith, h)
 
 pub place-small : (n : ℕ) → (n ≡ 0 → ⊥) → n ≤ 256 → (n ≡ suc (n - 1)) × (n - 1 < 256)
 place-small n h l = (omega (arith, h), omega (arith, h))
 
--- the column's first rows are small
+-- the original rows of a column are small
 pub row-small : (base c : ℕ) → base + triangle (suc c) ≤ 65536
     → Fits w32 (c + 1) × Fits w32 (c * (c + 1)) × Fits w32 (base + c * (c + 1) / 2) × (base + c * (c + 1) / 2 + c ≤ 65536)
 row-small base c h = (omega arith, omega arith, omega arith, omega arith)
@@ -162,7 +162,7 @@ tied-small start k h l =
     let q : k * (k + 1) ≤ 65536 = mul-le-mul {n₂ = 256} {m₂ = 256} (omega arith) (omega arith) in
     (omega arith, omega arith, omega arith, omega arith, omega arith)
 
--- two rules that agree on the pairs of a column
+-- two rules that agree on the pairs of a column give equal lists
 column-same : (f g : Pair → ℕ) (vs : List ℕ) (j : ℕ) → T (rises vs) → j < length vs
     → ((v : ℕ) → v ≤ getD vs j 0 → f (pair v (getD vs j 0)) ≡ g (pair v (getD vs j 0)))
     → map f (columnPairs vs j) ≡ map g (columnPairs vs j)
@@ -179,7 +179,7 @@ module _ (places vs : List ℕ) (base start j : ℕ) (rising : T (rises vs)) (l 
   own-column e = column-same (pairRow base) (placeCode places base start) vs j rising l
       (λ v m. sym (code-own places base start v (getD vs j 0) m e))
 
-  -- one whose vertex has
+  -- a column whose vertex has a place
   pub tied-column : Climbing places → (place : ℕ) → getD places (getD vs j 0) 0 ≡ suc place
       → let c = getD vs j 0 in
       map (tiedEntry places (base + c * (c + 1) / 2) (65536 + start + place * (place + 1) / 2)) (columnPairs vs j)

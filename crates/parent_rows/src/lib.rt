@@ -1,5 +1,5 @@
-// The compact cut's rows of one block: an owned entry's original row, an overlap's row of the same pair in the parent's block. Here it is
-// decided which row an overlap is tied to.
+// The codes of one block's entries on the compact route: the original row for an owned entry, and for an overlap the row of the same pair in the
+// parent's block. This is where the row that an overlap is tied to is decided.
 ghost use mathlib.Core.Path.{_≡_};
 ghost use mathlib.Core.Bool.{cond};
 ghost use mathlib.Core.List.{map};
@@ -16,7 +16,7 @@ use codes::FIRST_OVERLAP;
 
 // ---- places in the parent's block
 
-// One more than the place of each vertex in a clear table.
+// Writes to `out`, which must be all zeros, one more than its place for each of the sorted `vertices`, at the vertex's index.
 pub fn note_places(vertices: &[u32], out: &mut [u32])
     requires { ⌜ T (rises (now vertices)) × Below (length (now out)) (now vertices) × (length (now vertices) ≤ 256) ⌝ }
     requires { ⌜ now out ≡ replicate (length (now out)) 0 ⌝ }
@@ -32,7 +32,7 @@ pub fn note_places(vertices: &[u32], out: &mut [u32])
 
 // ---- codes
 
-// The parent's row where the vertex has a place there, else the entry's own.
+// Returns `tied` + `place` - 1, the row in the parent's block, where the vertex has a place there; `own` where `place` is 0.
 fn tied_row(own: u32, tied: u32, place: u32) -> u32
     requires { ⌜ tied + place ≤ 4294967295 ⌝ }
     ensures { λ r. ⌜ r ≡ cond (eqb place 0) own (tied + (place - 1)) ⌝ }
@@ -43,7 +43,7 @@ fn tied_row(own: u32, tied: u32, place: u32) -> u32
     tied + (place - 1)
 }
 
-// The codes of column j: a row from tied on for each vertex that has a place, its own from row on for the others.
+// Writes the codes of the block's column `j` to `out`: counted from `tied` for each vertex that has a place, from `row` for every other vertex.
 fn tied_entries(out: &mut [u32], vertices: &[u32], places: &[u32], j: usize, row: u32, tied: u32)
     requires { ⌜ (j < length (now vertices)) × (j < length (now out)) × T (rises (now vertices)) × Below (length (now places)) (now vertices) ⌝ }
     requires { ⌜ (row + getD (now vertices) j 0 ≤ 65536) × (tied ≤ 393216) × Climbing (now places) ⌝ }
@@ -57,7 +57,8 @@ fn tied_entries(out: &mut [u32], vertices: &[u32], places: &[u32], j: usize, row
     }
 }
 
-// The codes of column j: where its vertex has a place in the parent's block, which starts at row start, entries are tied to rows there.
+// Writes the codes of the block's column `j` to `out`: where its vertex has a place in the parent's block, whose first row is `start`, entries whose
+// row vertex has one too are tied to rows there; all other entries get their original row, from `base` on.
 fn tied_column(out: &mut [u32], vertices: &[u32], places: &[u32], j: usize, base: u32, start: u32)
     requires { ⌜ (j < length (now vertices)) × (j < length (now out)) × T (rises (now vertices)) × Below (length (now places)) (now vertices) ⌝ }
     requires { ⌜ (base + triangle (suc (getD (now vertices) j 0)) ≤ 65536) × (start ≤ 262144) × Climbing (now places) ⌝ }
@@ -75,7 +76,7 @@ fn tied_column(out: &mut [u32], vertices: &[u32], places: &[u32], j: usize, base
     tied_entries(out, vertices, places, j, row, tied);
 }
 
-// The codes of a block, column by column; how many.
+// Writes the codes of a block to `out`, column by column. Returns their number.
 pub fn code_block(out: &mut [u32], vertices: &[u32], places: &[u32], base: u32, start: u32) -> usize
     requires { ⌜ T (rises (now vertices)) × Below (length (now places)) (now vertices) × ColumnsFit base (now vertices) 65536 ⌝ }
     requires { ⌜ (start ≤ 262144) × Climbing (now places) × (triangle (length (now vertices)) ≤ length (now out)) ⌝ }

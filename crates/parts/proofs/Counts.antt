@@ -1,4 +1,4 @@
--- The sizes of blocks, bounded.
+-- Bounds on the sizes of blocks.
 use Prim.Native.Nat.{ℕ, _+_, _*_, _≤_}
 use native.Mathlib.Omega.{arith}
 use mathlib.Core.Path.{_≡_, refl, ap}
@@ -11,14 +11,14 @@ use Rattle.layout.specs.Patterns.{Pattern, Clique, blockSize, cliqueCount}
 use Rattle.layout.specs.Blocks.{Part, blockRows, overlapRows}
 use Rattle.layout.specs.Checks.{RightPattern}
 use Rattle.layout.proofs.Tests.{passes}
-use Rattle.supernode_tree.specs.Sizes.{atMost, dimOf, overlapsOf}
+use Rattle.supernode_tree.specs.Sizes.{blockAtMost, dimOf, overlapsOf}
 use Rattle.supernode_tree.proofs.Sizes.{triangle-small, blocks-small, all-cons}
 
-blocks-few : (cs : List Clique) → all (atMost 256) cs ≡ true
+blocks-few : (cs : List Clique) → all (blockAtMost 256) cs ≡ true
     → (sum (map dimOf cs) ≤ length cs * 32896) × (sum (map overlapsOf cs) ≤ length cs * 32896)
 blocks-few [] h = omega arith
 blocks-few (q ∷ cs) h =
-    let (here, later) = all-cons (atMost 256) q cs (q ∷ cs) refl h in
+    let (here, later) = all-cons (blockAtMost 256) q cs (q ∷ cs) refl h in
     let l = leb→le (blockSize q) 256 (passes _ here) in
     omega (arith, blocks-few cs later, triangle-small (blockSize q) l, triangle-small (length (q .separator)) (omega arith))
 
@@ -26,7 +26,7 @@ pub pattern-few : (p : Pattern) → RightPattern p → p .vertexCount ≤ 256
     → (blockRows p ≤ cliqueCount p * 32896) × (overlapRows p ≤ cliqueCount p * 32896)
 pattern-few p ok few = blocks-few (p .cliques) (blocks-small p 256 ok few)
 
--- the part that was met is counted, and those ahead are left
+-- a sum over the parts, after adding the next part: the remaining parts are left
 pub counted : (f : Part → ℕ) (x : Part) (before later : List Part) (n r s : ℕ) → before ≡ x ∷ later → r ≡ f x
     → n + sum (map f before) ≡ s → n + r + sum (map f later) ≡ s
 counted f x before later n r s e g h = omega (arith, ap (λ (l : List Part). sum (map f l)) e)

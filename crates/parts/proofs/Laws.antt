@@ -1,4 +1,4 @@
--- One step of the walk: the part at a place, and the place after it.
+-- One step of the walk over the cones: the part at a place, and the next place.
 use Prim.Native.Nat.{ℕ, suc, _+_, _-_, _≤_, _<_}
 use native.Mathlib.Numerals.{add-one}
 use borrow.Author.Tests.{eq-eqb, ne-eqb}
@@ -19,12 +19,12 @@ use Rattle.layout.specs.Checks.{Sound, RightPattern, noCone, namesItsCone, size
 use Rattle.layout.proofs.Tests.{and-iff, or-iff, not-iff, leb-iff, ltb-iff, eqb-iff, passed, differ}
 use Rattle.layout.proofs.Members.{all-at}
 use Rattle.layout.proofs.Laid.{names-fits, sound-laid}
-use Rattle.supernode_tree.specs.Reads.{patternAt, valueOr, rest, whole as isWhole}
+use Rattle.supernode_tree.specs.Reads.{patternAt, valueOr, rest, isWhole}
 use Rattle.supernode_tree.proofs.Many.{whole-read, ends-whole, ends-value, first-whole, many-whole, many-value}
 use Rattle.parts.specs.declared.Place.{Place}
-use Rattle.parts.specs.Ahead.{patternsAhead, ahead, Stands}
+use Rattle.parts.specs.Ahead.{patternsAhead, ahead, Reached}
 
--- ---- what a pattern's first word says
+-- ---- the first word of a pattern
 
 first-word : (ws : List ℕ) → isWhole (readPattern ws) ≡ true
     → (3 ≤ length ws) × (valueOr noPattern (readPattern ws) .origIndex ≡ getD ws 0 0)
@@ -62,7 +62,7 @@ is-cut i row k c cs p ps e = rw e
 
 -- ---- one step
 
-module _ (m : ℕ) (cones words : List ℕ) (c : Place) (h : Stands m cones words c) (l : c .cone < length (records cones)) where
+module _ (m : ℕ) (cones words : List ℕ) (c : Place) (h : Reached m cones words c) (l : c .cone < length (records cones)) where
   abbrev here : Cone
   here = getD (records cones) (c .cone) noCone
 
@@ -99,7 +99,7 @@ module _ (m : ℕ) (cones words : List ℕ) (c : Place) (h : Stands m cones word
         opened ∙ not-cut (c .cone) (c .row) (c .pattern) here (drop (suc (c .cone)) (records cones)) (patternsAhead words c) free
         ∙ rw (e, add-one)
 
-    pub whole-stands : Stands m cones words afterWhole
+    pub whole-stands : Reached m cones words afterWhole
     whole-stands =
         let after = ahead cones words afterWhole in
         let laid : Laid (c .row + rowCount here) after = subst (Laid (c .row)) whole-ahead (h .laid) .1 in
@@ -117,7 +117,7 @@ module _ (m : ℕ) (cones words : List ℕ) (c : Place) (h : Stands m cones word
   pub none-left : c .left ≡ 0 → isCut (c .cone) (patternsAhead words c) ≡ false
   none-left e = ap (λ (k : ℕ). isCut (c .cone) (valueOr [] (readPatterns k (drop (c .at) words)))) e
 
-  -- a pattern is left
+  -- at least one pattern is left
   module _ (more : 0 < c .left) where
     abbrev p : Pattern
     p = patternAt words (c .at)
@@ -142,7 +142,7 @@ module _ (m : ℕ) (cones words : List ℕ) (c : Place) (h : Stands m cones word
         ap (isCut (c .cone)) (split-at (rest (readPattern (drop (c .at) words))) refl)
         ∙ ne-eqb (p .origIndex) (c .cone) (λ q. n (sym origin ∙ q))
 
-    -- and cuts the cone
+    -- the next pattern cuts the cone
     module _ (mine : getD words (c .at) 0 ≡ c .cone) (rows : ℕ) (e : rows ≡ rowCount here)
         (next : ℕ) (n : rest (readPattern (drop (c .at) words)) ≡ drop next words) where
       abbrev pub afterCut : Place
@@ -183,7 +183,7 @@ module _ (m : ℕ) (cones words : List ℕ) (c : Place) (h : Stands m cones word
           ⊎-elim (λ no. absurd (not-iff (isPsd q) .0 no (eqb-iff (q .kind) 6 .1 (named .0 .1))))
           (λ yes. omega (arith, leb-iff (q .first) 256 .0 yes, named .1)) (or-iff (not (isPsd q)) (leb (q .first) 256) .0 psd)
 
-      pub cut-stands : Stands m cones words afterCut
+      pub cut-stands : Reached m cones words afterCut
       cut-stands =
           let after = ahead cones words afterCut in
           let same : triangle (p .vertexCount) ≡ rows = sym (e ∙ cut-rows) in
@@ -202,10 +202,10 @@ module _ (m : ℕ) (cones words : List ℕ) (c : Place) (h : Stands m cones word
             numbered = omega (arith, h .numbered);
           }
 
--- the walk's first place
+-- the first place of the walk
 pub starts : (m : ℕ) (cones : List ℕ) (count : ℕ) (words : List ℕ) → Sound m cones count words → count < 4294967296
     → let c : Place = record { cone = 0; row = 0; pattern = 0; left = count; at = 0 } in
-    (ahead cones words c ≡ parts (records cones) (patterns count words)) × Stands m cones words c
+    (ahead cones words c ≡ parts (records cones) (patterns count words)) × Reached m cones words c
 starts m cones count words h few =
     let c : Place = record { cone = 0; row = 0; pattern = 0; left = count; at = 0 } in
     let reads = simp and-iff at (h .named) in

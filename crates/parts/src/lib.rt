@@ -1,13 +1,13 @@
-// The cones of a problem in order, each whole or cut by its pattern: one walk that every other stands on.
+// The walk over the cones of a problem in order, each not decomposed (whole) or cut by its pattern. All other walks are built on this one.
 ghost use mathlib.Core.Path.{_≡_};
 ghost use Rattle.layout.specs.Cones.{records};
 ghost use Rattle.layout.specs.Blocks.{parts, blockRowCount, overlapCount, coneCount};
 ghost use Rattle.layout.specs.Patterns.{patterns, cliqueCount};
 ghost use Rattle.layout.specs.Checks.{Sound, RightPattern};
 ghost use Rattle.supernode_tree.specs.Reads.{patternAt};
-ghost use Rattle.parts.specs.Ahead.{ahead, Stands, meets, Knows};
+ghost use Rattle.parts.specs.Ahead.{ahead, Reached, meets, Knows};
 
-// Where the walk stands: the next cone and its first row, the next pattern, how many there are, and where its words start.
+// A place in the walk: the next cone and its first row, the number of the next pattern, how many patterns are left, and where its words start.
 pub struct Place {
     pub cone: usize,
     pub row: u32,
@@ -16,7 +16,7 @@ pub struct Place {
     pub at: usize,
 }
 
-// What the walk meets, with the place after it: a whole cone's rows, or where the words of a cut cone's pattern start.
+// What the walk finds at a place, and the next place: the row count of a whole cone, or where the words of a cut cone's pattern start.
 pub enum Met {
     Whole(u32, Place),
     Cut(usize, Place),
@@ -24,10 +24,11 @@ pub enum Met {
 }
 
 impl Place {
+    // Returns the first place of the walk over accepted `cones` and `count` patterns.
     pub fn start(m: u32, cones: &[u32], count: u32, words: &[u32]) -> Place
         requires { ⌜ Sound m (now cones) count (now words) ⌝ }
         ensures { λ r. ⌜ ahead (now (cones .entry)) (now (words .entry)) r ≡ parts (records (now (cones .entry))) (patterns count (now (words .entry))) ⌝ }
-        ensures { λ r. ⌜ Stands m (now (cones .entry)) (now (words .entry)) r ⌝ }
+        ensures { λ r. ⌜ Reached m (now (cones .entry)) (now (words .entry)) r ⌝ }
     {
         Place {
             cone: 0,
@@ -38,8 +39,9 @@ impl Place {
         }
     }
 
+    // Returns what is at this place, with the next place; `Done` after the last cone.
     pub fn next(self, m: u32, cones: &[u32], words: &[u32]) -> Met
-        requires { ⌜ Stands m (now cones) (now words) self ⌝ }
+        requires { ⌜ Reached m (now cones) (now words) self ⌝ }
         ensures { λ r. ⌜ ahead (now (cones .entry)) (now (words .entry)) self ≡ meets (now (cones .entry)) (now (words .entry)) self r ⌝ }
         ensures { λ r. ⌜ Knows m (now (cones .entry)) (now (words .entry)) self r ⌝ }
     {
@@ -77,7 +79,7 @@ impl Place {
     }
 }
 
-// How many cliques the pattern at an offset has.
+// Returns the number of cliques of the pattern at word `at`.
 pub fn clique_count(words: &[u32], at: usize) -> u32
     requires { ⌜ RightPattern (patternAt (now words) at) ⌝ }
     ensures { λ r. ⌜ r ≡ cliqueCount (patternAt (now (words .entry)) at) ⌝ }
@@ -86,13 +88,14 @@ pub fn clique_count(words: &[u32], at: usize) -> u32
     p.clique_count
 }
 
-// How many rows the whole cones and the blocks have in all, how many of them are overlaps, and how many cones they are.
+// The total number of rows of the whole cones and the blocks, the number of overlaps among them, and the number of new cones.
 pub struct Dims {
     pub rows: u64,
     pub overlaps: u64,
     pub cones: u64,
 }
 
+// Counts the block rows, overlaps and new cones that cutting accepted `cones` by their `count` patterns gives.
 pub fn get_decomposed_dim_and_overlaps(m: u32, cones: &[u32], count: u32, words: &[u32]) -> Dims
     requires { ⌜ Sound m (now cones) count (now words) ⌝ }
     ensures { λ r. ⌜ r .rows ≡ blockRowCount (parts (records (now (cones .entry))) (patterns count (now (words .entry)))) ⌝ }

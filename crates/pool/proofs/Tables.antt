@@ -1,20 +1,19 @@
--- A pool that is not refused: what its writers need, and the tables that they write.
+-- A pool that is not refused: the preconditions of its writers, and the tables that they write.
 use Prim.Native.Nat.{ℕ, suc, _+_, _≤_, _<_}
 use native.Mathlib.Omega.{arith}
-use mathlib.Core.Path.{_≡_, refl, sym, ap, subst, _∙_}
-use mathlib.Core.Bool.{Bool, true}
+use mathlib.Core.Path.{_≡_, sym, ap, subst, _∙_}
+use mathlib.Core.Bool.{true}
 use mathlib.Core.List.{List, [], _∷_, _++_, map}
 use lib.ListN.{length, getD}
 use lib.Dec.{T, ltb, lt→ltb}
-use lib.Ieee.{Float}
-use Rattle.layout.specs.Lists.{has, all, below, part, join}
-use Rattle.layout.specs.Problem.{Problem, Csc, tableLengths}
+use Rattle.layout.specs.Lists.{all, below}
+use Rattle.layout.specs.Problem.{Problem, Csc}
 use Rattle.layout.specs.Cones.{records}
-use Rattle.layout.specs.Patterns.{Pattern, readPatterns, endsRight, patterns}
-use Rattle.layout.specs.Checks.{Checked, columnRows, namesItsCone}
+use Rattle.layout.specs.Patterns.{readPatterns, endsRight, patterns}
+use Rattle.layout.specs.Checks.{columnRows, namesItsCone}
 use Rattle.layout.specs.Answers.{roomy}
 use Rattle.layout.specs.Pool.{pool}
-use Rattle.layout.specs.Calls.Tables.{Tables, rooms}
+use Rattle.layout.specs.Calls.Tables.{Tables, tableRooms}
 use Rattle.layout.proofs.Tests.{and-iff, leb-iff, ltb-iff, passed}
 use Rattle.layout.proofs.Members.{has-getD, all-has, all-so}
 use Rattle.layout.proofs.Joins.{join-same}
@@ -24,9 +23,9 @@ use Rattle.layout.proofs.PoolChecks.{right-first, right-second}
 use Rattle.layout.proofs.PoolTables.{Pooled, pool-A-starts, pool-A-rows, pool-A-values}
 use Rattle.pool_tables.specs.Stacked.{StartsIn, raised, Raisable, originRaisable, OriginsRaisable, startSums, SumsFit, stacked}
 use Rattle.pool_tables.proofs.Columns.{part-raised}
-use Rattle.pool.proofs.Refusals.{lengths-given}
+use Rattle.pool_refusals.proofs.Refusals.{lengths-given}
 
--- ---- right starts
+-- ---- valid column starts
 
 starts-of : (n : ℕ) (M : Csc) → RightStarts n M → StartsIn n M
 starts-of n M r = (
@@ -34,7 +33,7 @@ starts-of n M r = (
   (r .count, r .zeroth, r .rise, λ c l. subst (λ (k : ℕ). getD (M .starts) c 0 ≤ k) (r .even) (r .inside c l)),
 )
 
--- each output has room for what is written
+-- each output is long enough for what is written
 pub record PoolFits (one two : Problem) (t : Tables) : Type 0 where
   pub p-starts : length (one .P .starts) ≤ length (t .P .starts)
   pub p-rows : length (one .P .rows) ≤ length (t .P .rows)
@@ -48,10 +47,10 @@ pub record PoolFits (one two : Problem) (t : Tables) : Type 0 where
   pub alphas : length (one .alphas) + length (two .alphas) ≤ length (t .alphas)
   pub words : length (one .patternWords) + length (two .patternWords) ≤ length (t .patternWords)
 
-module _ (p q : Problem) (t : Tables) (h : Pooled p q (rooms t)) where
+module _ (p q : Problem) (t : Tables) (h : Pooled p q (tableRooms t)) where
   pub pool-fits : PoolFits p q t
   pool-fits =
-      let each = simp (and-iff, leb-iff) at (subst (λ (ks : List ℕ). T (roomy ks (rooms t))) (sym (lengths-given p q (h .first) (h .second) (h .same))) (h .roomy)) in
+      let each = simp (and-iff, leb-iff) at (subst (λ (ks : List ℕ). T (roomy ks (tableRooms t))) (sym (lengths-given p q (h .first) (h .second) (h .same))) (h .roomy)) in
       record {
         p-starts = omega arith;
         p-rows = omega arith;

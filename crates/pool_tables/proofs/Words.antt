@@ -1,24 +1,24 @@
--- Pattern words with each orig_index raised, as a loop over words that were copied writes them.
-use Prim.Native.Nat.{ℕ, zero, suc, _+_, _-_, _≤_, _<_}
+-- Pattern words with each orig_index raised, written over a copy of the words one pattern at a time.
+use Prim.Native.Nat.{ℕ, suc, _+_, _-_, _≤_, _<_}
 use native.Mathlib.Omega.{arith}
 use mathlib.Core.Path.{_≡_, refl, sym, ap, ap₂, subst, _∙_}
-use mathlib.Core.Bool.{Bool, true}
-use mathlib.Core.List.{List, [], _∷_, _++_, append-assoc, append-nil}
+use mathlib.Core.Bool.{true}
+use mathlib.Core.List.{List, [], _∷_, _++_, append-assoc}
 use lib.ListN.{length, getD, set, drop, length-append, length-drop}
 use lib.Seq.{drop-cons, drop-append-seam}
 use lib.Dec.{T, ltb, ltb→lt}
 use Rattle.layout.specs.Lists.{all, join, written}
-use Rattle.layout.specs.Patterns.{Pattern, Read, read, noPattern, readPattern, readPatterns, endsRight, patterns, patternWordsOf}
+use Rattle.layout.specs.Patterns.{Pattern, read, noPattern, readPattern, readPatterns, endsRight, patterns, patternWordsOf}
 use Rattle.layout.specs.Pool.{raisedPattern, raisedWords}
 use Rattle.layout.proofs.Tests.{and-iff, passes}
 use Rattle.layout.proofs.PatternWords.{words-of-patterns}
 use Rattle.layout.proofs.PoolTables.{raised-words-step}
-use Rattle.supernode_tree.specs.Reads.{whole, rest, ended, patternAt}
+use Rattle.supernode_tree.specs.Reads.{isWhole, rest, ended, patternAt}
 use Rattle.supernode_tree.proofs.Many.{whole-read, ends-whole, ends-value, ended-ends, ended-next, first-whole}
 use Rattle.supernode_tree.proofs.Patterns.{patterns-first}
 use Rattle.pool_tables.specs.Stacked.{originRaisable, OriginsRaisable}
 
--- one word replaced
+-- replacing one word
 replaced : (xs : List ℕ) (y v : ℕ) (ys zs : List ℕ) → set ((xs ++ (y ∷ ys)) ++ zs) (length xs) v ≡ (xs ++ (v ∷ ys)) ++ zs
 replaced [] y v ys zs = refl
 replaced (x ∷ xs) y v ys zs = ap (λ (r : List ℕ). x ∷ r) (replaced xs y v ys zs)
@@ -29,7 +29,7 @@ word-replaced xs y v ys old =
     let e : k ≡ length (xs ++ (v ∷ ys)) = length-append xs (y ∷ ys) ∙ sym (length-append xs (v ∷ ys)) in
     replaced xs y v ys (drop k old) ∙ ap (λ (i : ℕ). (xs ++ (v ∷ ys)) ++ drop i old) e
 
--- raised words are as many
+-- raising keeps the number of words
 raised-same : (k : ℕ) (ps : List Pattern) → length (raisedWords k ps) ≡ length (join patternWordsOf ps)
 raised-same k [] = refl
 raised-same k (p ∷ ps) =
@@ -45,14 +45,14 @@ pub raised-length : (k count : ℕ) (words : List ℕ) → endsRight (readPatter
 raised-length k count words ends =
     raised-same k (patterns count words) ∙ ap length (sym (words-of-patterns count words (passes _ ends) .0))
 
--- ---- words copied and written over
+-- ---- words copied and then overwritten
 
 written-over : (xs ys old : List ℕ) → length xs ≡ length ys → written xs (written ys old) ≡ written xs old
 written-over xs ys old e =
     ap (λ (k : ℕ). xs ++ drop k (written ys old)) e ∙ ap (λ (r : List ℕ). xs ++ r) (drop-append-seam ys (drop (length ys) old))
     ∙ ap (λ (k : ℕ). xs ++ drop k old) (sym e)
 
--- what was copied stands
+-- copying again changes nothing
 pub copy-stands : (xs old : List ℕ) {out : List ℕ} → out ≡ written xs old → out ≡ written xs out
 copy-stands xs old e = e ∙ sym (ap (written xs) e ∙ written-over xs xs old refl)
 
@@ -61,7 +61,7 @@ over-copy xs ys old e l f = f ∙ ap (written xs) e ∙ written-over xs ys old l
 
 -- ---- the loop
 
--- `left` patterns are left from word `at` on: `done` is written, and the words after it stand as they were copied
+-- the loop's state with `left` patterns left from word `at` on: `done` is written, and the words after it are still the copied ones
 pub record Raising (k count : ℕ) (words old : List ℕ) (at left : ℕ) (out : List ℕ) : Type 0 where
   pub done : List ℕ
   pub ends : endsRight (readPatterns left (drop at words)) ≡ true
@@ -82,14 +82,14 @@ raising-starts k count words old ends fit e = record {
 }
 
 module _ {k count : ℕ} {words old : List ℕ} {at left : ℕ} {out : List ℕ} (r : Raising k count words old at left out) where
-  -- none is left
+  -- after the last pattern all words are written
   pub raising-done : left ≤ 0 → out ≡ written (raisedWords k (patterns count words)) old
   raising-done none =
       let none-left : left ≡ 0 = omega arith in
       let empty = nothing (drop at words) (subst (λ (i : ℕ). endsRight (readPatterns i (drop at words)) ≡ true) none-left (r .ends)) in
-      let whole : r .done ++ [] ≡ raisedWords k (patterns count words) =
+      let isWhole : r .done ++ [] ≡ raisedWords k (patterns count words) =
       ap (λ (ws : List ℕ). r .done ++ ws) (sym (no-words (drop at words) empty)) ∙ ap (λ (i : ℕ). r .done ++ raisedWords k (patterns i (drop at words))) (sym none-left) ∙ r .all in
-      r .holds ∙ ap (λ (ws : List ℕ). written (r .done ++ ws) old) empty ∙ ap (λ (ws : List ℕ). written ws old) whole
+      r .holds ∙ ap (λ (ws : List ℕ). written (r .done ++ ws) old) empty ∙ ap (λ (ws : List ℕ). written ws old) isWhole
     where
       nothing : (ws : List ℕ) → endsRight (readPatterns 0 ws) ≡ true → ws ≡ []
       nothing [] e = refl
@@ -98,7 +98,7 @@ module _ {k count : ℕ} {words old : List ℕ} {at left : ℕ} {out : List ℕ}
       no-words : (ws : List ℕ) → ws ≡ [] → raisedWords k (patterns 0 ws) ≡ []
       no-words ws e = ap (λ (us : List ℕ). raisedWords k (patterns 0 us)) e
 
-  -- a pattern is left
+  -- where a pattern is left
   module _ (more : 0 < left) where
     abbrev x : Pattern
     x = patternAt words at
@@ -106,7 +106,7 @@ module _ {k count : ℕ} {words old : List ℕ} {at left : ℕ} {out : List ℕ}
     abbrev later : List ℕ
     later = rest (readPattern (drop at words))
 
-    pub pattern-whole : whole (readPattern (drop at words)) ≡ true
+    pub pattern-whole : isWhole (readPattern (drop at words)) ≡ true
     pattern-whole = first-whole readPattern left (drop at words) more (ends-whole (readPatterns left (drop at words)) (r .ends))
 
     read-first : readPattern (drop at words) ≡ read x later
@@ -121,7 +121,7 @@ module _ {k count : ℕ} {words old : List ℕ} {at left : ℕ} {out : List ℕ}
     several : left ≡ suc (left - 1)
     several = omega arith
 
-    -- its words, as they stand and as they are to be
+    -- its words after the first, which do not change
     abbrev tail : List ℕ
     tail = drop 1 (patternWordsOf x)
 

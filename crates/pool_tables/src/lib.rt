@@ -1,18 +1,19 @@
-// The tables of a pool: A over A, b over b, cones, α and patterns in turn; P is copied.
+// Writes the tables of a pool of two problems: A stacked over A, b over b, then cones, α and patterns in turn; P is copied from the first.
 ghost use mathlib.Core.Path.{_≡_};
 ghost use mathlib.Core.Bool.{true};
 ghost use mathlib.Core.List.{_++_};
 ghost use Prim.Native.Nat.{suc, _+_, _≤_, _<_};
-ghost use lib.ListN.{length};
-ghost use Rattle.layout.specs.Lists.{written};
+ghost use lib.ListN.{length, take};
+ghost use Rattle.layout.specs.Lists.{part, written};
 ghost use Rattle.layout.specs.Cones.{records};
 ghost use Rattle.layout.specs.Patterns.{readPatterns, endsRight, patterns};
 ghost use Rattle.layout.specs.Pool.{raisedWords};
-ghost use Rattle.pool_tables.specs.Stacked.{StartsOf, raised, Raisable, OriginsRaisable, startSums, SumsFit, stacked, system, StackFits, HoldsStack};
+ghost use Rattle.pool_tables.specs.Stacked.{StartsOf, raised, Raisable, OriginsRaisable, startSums, SumsFit, stacked, StackFits, HoldsStack};
+ghost use Rattle.layout.specs.Problem.{system};
 
-// ---- one list after another
+// ---- one list followed by another
 
-// Writes `xs` and then `ys`.
+// Writes `xs` followed by `ys` to the front of `out`.
 pub fn append_numbers(xs: &[u32], ys: &[u32], out: &mut [u32])
     requires { ⌜ length (now xs) + length (now ys) ≤ length (now out) ⌝ }
     ensures { λ _. ⌜ now (out .exit) ≡ written (now (xs .entry) ++ now (ys .entry)) (now (out .entry)) ⌝ }
@@ -21,7 +22,7 @@ pub fn append_numbers(xs: &[u32], ys: &[u32], out: &mut [u32])
     csc::copy_numbers(&mut out[xs.len()..], ys);
 }
 
-// Writes `xs` and then `ys`.
+// Writes `xs` followed by `ys` to the front of `out`.
 pub fn append_values(xs: &[f64], ys: &[f64], out: &mut [f64])
     requires { ⌜ length (now xs) + length (now ys) ≤ length (now out) ⌝ }
     ensures { λ _. ⌜ now (out .exit) ≡ written (now (xs .entry) ++ now (ys .entry)) (now (out .entry)) ⌝ }
@@ -30,7 +31,7 @@ pub fn append_values(xs: &[f64], ys: &[f64], out: &mut [f64])
     csc::copy_values(&mut out[xs.len()..], ys);
 }
 
-// Writes each number of `src` raised by `k`.
+// Writes each number of `src` plus `k` to the front of `out`.
 fn raise_numbers(src: &[u32], k: u32, out: &mut [u32])
     requires { ⌜ length (now src) ≤ length (now out) ⌝ }
     requires { ⌜ Raisable k (now src) ⌝ }
@@ -43,7 +44,7 @@ fn raise_numbers(src: &[u32], k: u32, out: &mut [u32])
     }
 }
 
-// Writes `xs` and then `ys` raised by `k`.
+// Writes `xs`, followed by each number of `ys` plus `k`, to the front of `out`.
 fn append_raised(xs: &[u32], ys: &[u32], k: u32, out: &mut [u32])
     requires { ⌜ length (now xs) + length (now ys) ≤ length (now out) ⌝ }
     requires { ⌜ Raisable k (now ys) ⌝ }
@@ -53,9 +54,9 @@ fn append_raised(xs: &[u32], ys: &[u32], k: u32, out: &mut [u32])
     raise_numbers(ys, k, &mut out[xs.len()..]);
 }
 
-// ---- columns over columns
+// ---- matrices stacked one over the other
 
-// Writes the starts of `n` columns over `n` columns: a column starts behind what stands before it in both.
+// Writes the column starts of two stacked matrices of `n` columns: each start is the sum of the two matrices' starts.
 fn stack_starts(n: u32, starts: &[u32], starts2: &[u32], out: &mut [u32])
     requires { ⌜ (length (now starts) ≡ suc n) × (length (now starts2) ≡ suc n) × (suc n ≤ length (now out)) ⌝ }
     requires { ⌜ SumsFit n (now starts) (now starts2) ⌝ }
@@ -68,7 +69,32 @@ fn stack_starts(n: u32, starts: &[u32], starts2: &[u32], out: &mut [u32])
     }
 }
 
-// Writes the rows of `n` columns over those of `n` columns, which lie `m` rows lower.
+// Writes the rows of the first matrix from `first` to before `end`, then those of the second from `first2` to before `end2`, raised by `m`, to `out`
+// after its first `first + first2` numbers.
+fn put_rows(
+    m: u32,
+    rows: &[u32],
+    first: usize,
+    end: usize,
+    rows2: &[u32],
+    first2: usize,
+    end2: usize,
+    out: &mut [u32],
+)
+    requires { ⌜ (first ≤ end) × (end ≤ length (now rows)) × (first2 ≤ end2) × (end2 ≤ length (now rows2)) × (end + end2 ≤ length (now out)) ⌝ }
+    requires { ⌜ Raisable m (now rows2) ⌝ }
+    ensures { λ _. ⌜ now (out .exit) ≡ written (take (first + first2) (now (out .entry)) ++ (part first end (now (rows .entry)) ++ part first2 end2 (raised m (now (rows2 .entry))))) (now (out .entry)) ⌝ }
+{
+    append_raised(
+        &rows[first..end],
+        &rows2[first2..end2],
+        m,
+        &mut out[first + first2..],
+    );
+}
+
+// Writes the rows of two stacked matrices of `n` columns, where the rows of the second matrix are raised by `m`. What is left of the first matrix
+// after the second one's last entry is copied as one part.
 fn stack_rows(
     n: u32,
     m: u32,
@@ -84,25 +110,44 @@ fn stack_rows(
     ensures { λ _. ⌜ now (out .exit) ≡ written (stacked n (now (starts .entry)) (now (rows .entry)) (now (starts2 .entry)) (raised m (now (rows2 .entry)))) (now (out .entry)) ⌝ }
 {
     let count = n as usize;
+    let last = starts2[count] as usize;
     let mut first = 0;
     let mut first2 = 0;
     let mut c = 0;
-    while c < count {
+    while first2 < last {
         let end = starts[c + 1] as usize;
         let end2 = starts2[c + 1] as usize;
-        append_raised(
-            &rows[first..end],
-            &rows2[first2..end2],
-            m,
-            &mut out[first + first2..],
-        );
+        put_rows(m, rows, first, end, rows2, first2, end2, out);
         first = end;
         first2 = end2;
         c += 1;
     }
+    let end = starts[count] as usize;
+    put_rows(m, rows, first, end, rows2, first2, last, out);
 }
 
-// Writes the values of `n` columns over those of `n` columns.
+// Writes the values of the first matrix from `first` to before `end`, then those of the second from `first2` to before `end2`, to `out` after its
+// first `first + first2` values.
+fn put_values(
+    values: &[f64],
+    first: usize,
+    end: usize,
+    values2: &[f64],
+    first2: usize,
+    end2: usize,
+    out: &mut [f64],
+)
+    requires { ⌜ (first ≤ end) × (end ≤ length (now values)) × (first2 ≤ end2) × (end2 ≤ length (now values2)) × (end + end2 ≤ length (now out)) ⌝ }
+    ensures { λ _. ⌜ now (out .exit) ≡ written (take (first + first2) (now (out .entry)) ++ (part first end (now (values .entry)) ++ part first2 end2 (now (values2 .entry)))) (now (out .entry)) ⌝ }
+{
+    append_values(
+        &values[first..end],
+        &values2[first2..end2],
+        &mut out[first + first2..],
+    );
+}
+
+// Writes the values of two stacked matrices of `n` columns, in the order in which `stack_rows` writes their rows.
 fn stack_values(
     n: u32,
     starts: &[u32],
@@ -116,26 +161,25 @@ fn stack_values(
     ensures { λ _. ⌜ now (out .exit) ≡ written (stacked n (now (starts .entry)) (now (values .entry)) (now (starts2 .entry)) (now (values2 .entry))) (now (out .entry)) ⌝ }
 {
     let count = n as usize;
+    let last = starts2[count] as usize;
     let mut first = 0;
     let mut first2 = 0;
     let mut c = 0;
-    while c < count {
+    while first2 < last {
         let end = starts[c + 1] as usize;
         let end2 = starts2[c + 1] as usize;
-        append_values(
-            &values[first..end],
-            &values2[first2..end2],
-            &mut out[first + first2..],
-        );
+        put_values(values, first, end, values2, first2, end2, out);
         first = end;
         first2 = end2;
         c += 1;
     }
+    let end = starts[count] as usize;
+    put_values(values, first, end, values2, first2, last, out);
 }
 
 // ---- patterns
 
-// Writes the words of `count` patterns with each orig_index, a pattern's first word, raised by `k`.
+// Writes the words of `count` patterns with `k` added to each orig_index, which is the first word of a pattern.
 fn raise_words(k: u32, count: u32, words: &[u32], out: &mut [u32])
     requires { ⌜ endsRight (readPatterns count (now words)) ≡ true ⌝ }
     requires { ⌜ OriginsRaisable k (patterns count (now words)) ⌝ }
@@ -154,7 +198,7 @@ fn raise_words(k: u32, count: u32, words: &[u32], out: &mut [u32])
 
 // ---- the tables
 
-// Copies a matrix.
+// Copies the three tables of a matrix to the fronts of the outputs.
 pub fn copy_matrix(
     starts: &[u32],
     rows: &[u32],
@@ -173,7 +217,7 @@ pub fn copy_matrix(
     csc::copy_values(values_out, values);
 }
 
-// Writes A over A and b over b.
+// Writes the first problem's A stacked over the second's, and b followed by `b2`. `m` is the first problem's row count.
 pub fn write_constraints(
     n: u32,
     m: u32,
@@ -207,7 +251,7 @@ pub fn write_constraints(
     append_values(b, b2, b_out);
 }
 
-// Writes the words of the first's patterns and then those of `count2` patterns, with each orig_index raised by `k`.
+// Writes the first problem's pattern words `words`, followed by those of the second's `count2` patterns with `k` added to each orig_index.
 fn write_words(words: &[u32], k: u32, count2: u32, words2: &[u32], out: &mut [u32])
     requires { ⌜ endsRight (readPatterns count2 (now words2)) ≡ true ⌝ }
     requires { ⌜ OriginsRaisable k (patterns count2 (now words2)) ⌝ }
@@ -218,7 +262,8 @@ fn write_words(words: &[u32], k: u32, count2: u32, words2: &[u32], out: &mut [u3
     raise_words(k, count2, words2, &mut out[words.len()..]);
 }
 
-// Writes cones, α and patterns in turn: the second's cones are numbered behind the first's.
+// Writes cones, α and pattern words, each the first problem's followed by the second's. The second's orig_index values are raised by the
+// first's cone count.
 pub fn write_layout(
     cones: &[u32],
     alphas: &[f64],

@@ -1,8 +1,8 @@
-// Tells document 01's "Three projectors, one seam": the problem is cut on each route, and a solution of what the cut
-// wrote is joined again. The words are the standard input, with a # for each number that comes from the tables below or
-// from the calls; what they say of the seam can be read off those numbers.
+// Prints document 01's example "Three projectors, one seam": cuts the problem on each route, and joins a solution of the cut problem
+// again. The text is read from standard input, with a # for each number; the numbers come from the tables below or from the calls,
+// and show what the text says about the seam.
 //
-// The lists that a function is lent have one lifetime, and a proof then follows one loan.
+// The slices passed to a function share one lifetime, so that its proof deals with a single borrow.
 use libc::STDIN_FILENO;
 use libc::STDOUT_FILENO;
 use stored::item;
@@ -17,14 +17,14 @@ const N: u32 = 1;
 
 const M: u32 = 6;
 
-// All tables are lists that lie one after the other, those of u32 numbered from 0 and those of f64 from 16 (crate stored).
-// WORDS begins with where each list starts.
+// All tables are lists, stored one after another, u32 lists numbered from 0 and f64 lists from 16 (see crate stored).
+// WORDS begins with the offset of each list.
 //
-// Those of u32: P's starts, P's rows, of which there are none, A's starts 0 5, A's rows 0 1 2 4 5, the cones 6 3 0, the
-// pattern, the starts 0 6 and the rows 0 1 2 3 4 5 of an A with an entry more, and the pattern's words that are told. The
-// pattern has cone 0, 3 vertices, 2 cliques and the ordering 0 1 2; then, from its words 6 and 11 on, a clique: parent,
-// snode count, separator count, snode, separator. 4294967295 says that there is no parent. Told are the first clique's
-// snode and separator, its separator again, and the second clique's snode.
+// The u32 lists: P's starts, P's rows (none), A's starts 0 5, A's rows 0 1 2 4 5, the cones 6 3 0, the pattern, the starts 0 6
+// and rows 0 1 2 3 4 5 of an A with one more entry, and the indices of the pattern words to print. The pattern is for cone 0 with
+// 3 vertices, 2 cliques and ordering 0 1 2; at its words 6 and 11 a clique starts: parent, snode count, separator count, snode,
+// separator. 4294967295 means no parent. The words to print are the first clique's snode and separator, its separator again, and
+// the second clique's snode.
 const WORDS: [u32; 73] = [
     32,
     34,
@@ -119,9 +119,8 @@ const MORE_ROWS: u8 = 7;
 
 const TOLD: u8 = 8;
 
-// Those of f64: P's values, q, A's values, b, α, of which there is none, and the other A's values; then two solutions,
-// each x and the values that s and z both have; then for each as
-// many powers of two.
+// The f64 lists: P's values, q, A's values, b, α (none), and the values of the A with one more entry; then for each route a solution,
+// x and the values that both s and z have; then for each route as many powers of two as s has values.
 const VALUES: [f64; 63] = [
     0.0,
     10.0,
@@ -204,8 +203,8 @@ const TAU: f64 = 2.0;
 
 const KAPPA: f64 = 3.0;
 
-// The lists of a solution of what the cut writes on a route, and of one that shows which rows are joined: the sum of any of
-// its values tells them all.
+// The lists of each route's solution of the cut problem, and of powers of two that show which rows are joined: the sum of any of them
+// determines which were added.
 const COMPACT_X: u8 = 22;
 
 const COMPACT_BOTH: u8 = 23;
@@ -224,7 +223,7 @@ const COMPACT: u32 = 1;
 
 // ---- words and numbers
 
-// The words up to the next #, or to their end.
+// Copies the text from standard input up to the next #, or to its end; the # is left out.
 fn words() {
     let mut left: u32 = 65536;
     while 0 < left {
@@ -238,7 +237,7 @@ fn words() {
     }
 }
 
-// The next number.
+// Prints the text up to the next #, then `n`.
 fn tell(n: u32) {
     words();
     io::print_decimal(STDOUT_FILENO, n as u64);
@@ -253,7 +252,7 @@ fn whole(v: f64) -> u64 {
     0
 }
 
-// The next number is a value, which the example has whole.
+// Prints the text up to the next #, then `v`, which is a whole number in the example.
 fn tell_value(v: f64) {
     words();
     let mut size = v;
@@ -268,7 +267,7 @@ fn value(values: &[f64], i: usize) -> f64 {
     if i < values.len() { values[i] } else { 0.0 }
 }
 
-// The first n of a list.
+// Prints the first `n` numbers of `list`.
 fn tell_all(list: &[u32], n: u32) {
     let mut i = 0;
     while i < n {
@@ -285,7 +284,7 @@ fn tell_values(values: &[f64], n: u32) {
     }
 }
 
-// A's columns, none of which is empty: its number, and each entry with its row.
+// Prints the columns of A, none of which is empty: for each its number, then the value and row of each entry.
 fn tell_columns<'a>(columns: u32, starts: &'a [u32], rows: &'a [u32], values: &'a [f64]) {
     let count = item(starts, columns as usize);
     let mut k = 0;
@@ -301,7 +300,7 @@ fn tell_columns<'a>(columns: u32, starts: &'a [u32], rows: &'a [u32], values: &'
     }
 }
 
-// A row of the triangle, and its pair.
+// Prints a row of the triangle and its pair.
 fn tell_row(row: u32) {
     let mut pair = [0u32; 2];
     scalarmath::pair_back(row, &mut pair);
@@ -310,7 +309,7 @@ fn tell_row(row: u32) {
     tell(pair[1]);
 }
 
-// The places of the ones of a number.
+// Prints the positions of the 1 bits of `n`.
 fn tell_ones(n: u64) {
     let mut left = n;
     let mut i = 0;
@@ -323,7 +322,7 @@ fn tell_ones(n: u64) {
     }
 }
 
-// The rows of the triangle. The sum for each has a power of two for every augmented row that is joined to it.
+// Prints each row of the triangle and the augmented rows joined to it: `sums` has a power of two for each of these.
 fn tell_rows(sums: [f64; 32]) {
     let mut row = 0;
     while row < M {
@@ -333,9 +332,9 @@ fn tell_rows(sums: [f64; 32]) {
     }
 }
 
-// ---- the problem told
+// ---- printing the problem
 
-// The original vertices of the members at some words of the pattern.
+// Prints the original vertices of the members at those word indices of `pattern` that `told` lists.
 fn tell_members<'a>(pattern: &'a [u32], told: &'a [u32]) {
     let mut i = 0;
     while i < told.len() {
@@ -361,7 +360,7 @@ fn tell_problem<'a>(words: &'a [u32], values: &'a [f64]) {
 
 // ---- the joining
 
-// The front of an output.
+// Prints the first `n` numbers of an output.
 fn tell_front(out: [u32; 32], n: u32) {
     tell_all(&out, n);
 }
@@ -370,7 +369,7 @@ fn tell_front_values(out: [f64; 32], n: u32) {
     tell_values(&out, n);
 }
 
-// Joins a solution whose s and z are the same, and tells what it becomes, or only the rows that are joined.
+// Joins a solution whose s and z are both `both`, and prints the number and the joined solution or, if `rows_only`, which rows are joined.
 fn tell_joined<'a>(
     rows_only: bool,
     route: u32,
@@ -415,12 +414,12 @@ fn tell_joined<'a>(
 
 // ---- the steps
 
-// What every place of an output holds before the cut, so that a place not written shows.
+// The contents of each output before the cut, which show where nothing is written.
 const BEFORE: u32 = 77;
 
 const BEFORE_VALUE: f64 = 77.0;
 
-// How many outputs hold what they held: one more where this one does.
+// Counts the outputs that are unchanged. Returns `kept`, plus 1 if `out` is unchanged.
 fn kept_words(kept: u32, out: [u32; 32]) -> u32 {
     if same_words(&out, &[BEFORE; 32]) {
         std::num::wrapping_add_u32(kept, 1)
@@ -437,7 +436,7 @@ fn kept_values(kept: u32, out: [f64; 32]) -> u32 {
     }
 }
 
-// The augmented problem's sizes, A and b.
+// Prints the augmented problem's sizes, A and b.
 fn tell_matrix(
     lengths: &[u32],
     a_starts: [u32; 32],
@@ -453,7 +452,8 @@ fn tell_matrix(
     tell_front_values(b, m);
 }
 
-// Its cones and the cone map, the rows that stand for the original ones, and a solution of it joined again.
+// Prints the augmented problem's cones and cone map, which augmented rows are joined to each original row, and a solution before and
+// after joining.
 fn tell_back<'a>(
     route: u32,
     lengths: &'a [u32],
@@ -478,7 +478,7 @@ fn tell_back<'a>(
     tell_joined(false, route, cones, pattern, map, x, both);
 }
 
-// What the cut answers and wrote. Refused, each output holds what it held.
+// Prints the number that the cut returned and what it wrote or, if it refused, how many outputs are unchanged.
 fn tell_outputs<'a>(
     answer: u32,
     route: u32,
@@ -532,7 +532,7 @@ fn tell_outputs<'a>(
     }
 }
 
-// The cut, whose outputs have more room than they need.
+// Cuts the problem on a route, with outputs longer than needed, and prints the result.
 fn tell_cut<'a>(
     route: u32,
     p_starts: &'a [u32],
@@ -613,7 +613,7 @@ fn tell_cut<'a>(
     );
 }
 
-// The length of each of the cut's outputs. Refused, they are not written.
+// Prints the number that the size call returned and, if that is 0, the length of each of the cut's outputs.
 fn tell_sizes(answer: u32, lengths: &[u32]) {
     tell(answer);
     if answer == 0 {
@@ -621,8 +621,8 @@ fn tell_sizes(answer: u32, lengths: &[u32]) {
     }
 }
 
-// A step of the story: a route, the lists of A, those of a solution of what the cut writes, and of the one that shows the
-// rows.
+// Prints one step of the example: the sizes and the cut on a route. The u8 parameters are list numbers: those of A's tables, of a
+// solution of the cut problem, and of the powers of two that show which rows are joined.
 fn tell_step<'a>(
     route: u32,
     a_starts: u8,

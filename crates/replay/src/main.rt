@@ -1,9 +1,9 @@
-// Replays stored answers: each file of data/ through the public call that it is named after, and a line for
-// each. The answers were worked out by make_answers.py and by the comparison's plain reading of document 01
-// (compare/run --store crates/replay/data --cases 120 --seed 11); crate stored says how they are written.
+// Replays stored answers: runs each case of each file in data/ through the public call that the file is named after, and prints a line
+// per file. The answers were computed by make_answers.py and by the comparison's plain reading of document 01
+// (compare/run --store crates/replay/data --cases 120 --seed 11); crate `stored` describes the file format.
 //
-// A further family is a number with its call, a line of numbers_and_patterns or main and one of stdout, and a
-// function that makes its answers.
+// A new family needs a number and its call, a line in `numbers_and_patterns` or `main` and one in stdout, and a
+// function in make_answers.py or the comparison that computes its answers.
 use stored::cut_answer;
 use stored::holds;
 use stored::item;
@@ -18,11 +18,11 @@ use stored::word;
 use stored::words_at;
 use stored::words_room;
 
-// A case's lists of u32 are the call's numbers, its answer, its inputs and its outputs; its lists of f64 are
-// its inputs and its outputs, numbered from 16. An output's list is what the whole of its room holds after the call, so it
-// also says how much room the call is given.
+// A case's u32 lists are the call's numbers, its result, its inputs and its outputs; its f64 lists are
+// its inputs and its outputs, numbered from 16. An output's list is the whole output slice after the call, so its
+// length is also the length of the slice that is passed.
 //
-// The lists that a function is lent have one lifetime, and a proof then follows one loan.
+// All lists passed to a function have one lifetime, so that a proof follows a single borrow.
 
 // ---- the calls on numbers and patterns
 
@@ -64,7 +64,7 @@ const CUT_BETWEEN: u8 = 9;
 
 const CUT_MANY: u8 = 10;
 
-// The second problem's lists follow the first one's.
+// Calls `same_layout`; the second problem's lists follow the first one's.
 fn same_layout<'a>(
     given: &'a [u32],
     p_starts: &'a [u32],
@@ -226,7 +226,7 @@ fn cut<'a>(
     )
 }
 
-// The first number is how many sides there are, and b has one after another.
+// Calls `cut_many`. The first number is how many right sides there are; `b` has them one after another.
 fn cut_many<'a>(
     given: &'a [u32],
     p_starts: &'a [u32],
@@ -300,7 +300,7 @@ fn cut_many<'a>(
     )
 }
 
-// The low limits stand in b's place; the high ones are list 26, and their output is list 27.
+// Calls `cut_between`. The low limits are passed as `b`; the high ones are list 26, and their output is list 27.
 fn cut_between<'a>(
     given: &'a [u32],
     p_starts: &'a [u32],
@@ -493,7 +493,7 @@ fn call_on_problem<'a>(
     }
 }
 
-// The problem's lists, which all these calls have at the same places.
+// Passes on the problem's lists, whose numbers are the same for all these calls.
 fn on_problem<'a>(family: u8, words: &'a [u32], values: &'a [f64]) -> u32 {
     call_on_problem(
         family,
@@ -520,7 +520,7 @@ const JOIN: u8 = 8;
 
 const CHANGE_ROUTE: u8 = 12;
 
-// The joining on a route, or the change of route, which looks at no route and no map.
+// Calls the joining, or the change of route, which uses neither the route nor the map.
 fn call_on_solution<'a>(
     family: u8,
     given: &'a [u32],
@@ -604,8 +604,8 @@ fn on_solution<'a>(family: u8, words: &'a [u32], values: &'a [f64]) -> u32 {
 
 const POOL: u8 = 11;
 
-// The second problem and the outputs stand in a case of their own, at the places that a cut has for them, the pattern
-// words in that of the map.
+// Calls `pool`. The second problem and the outputs are in a case of their own, with the list numbers of a cut; the pooled pattern
+// words have the number of the map.
 fn pool<'a>(words: &'a [u32], values: &'a [f64], more: &'a [u32], more_values: &'a [f64]) -> u32 {
     let mut p_starts_out = [0u32; 4096];
     let mut p_rows_out = [0u32; 4096];
@@ -680,7 +680,7 @@ fn pool<'a>(words: &'a [u32], values: &'a [f64], more: &'a [u32], more_values: &
 
 // ---- a case
 
-// Whether a case's call answers what is stored, the first number of a list, and leaves in its outputs what is stored.
+// Returns whether a case's call returns the stored number, the first of list `answer`, and leaves the stored values in its outputs.
 fn agrees<'a>(family: u8, answer: u8, words: &'a [u32], values: &'a [f64]) -> bool {
     let r = if family <= RENUMBER {
         on_pattern(family, words)
@@ -692,7 +692,7 @@ fn agrees<'a>(family: u8, answer: u8, words: &'a [u32], values: &'a [f64]) -> bo
     r == item(words_at(words, answer), 0)
 }
 
-// The next case of a file. It has 16,384 numbers of each kind at most.
+// Reads the next case of a file, of at most 16,384 elements of each type, and returns whether it agrees.
 fn next_case_agrees(fd: i32, family: u8, answer: u8) -> bool {
     let mut words = [0u32; 16384];
     let mut values = [0f64; 16384];
@@ -701,7 +701,7 @@ fn next_case_agrees(fd: i32, family: u8, answer: u8) -> bool {
     agrees(family, answer, &words, &values)
 }
 
-// The next two, which pooling has.
+// Reads the next two cases, which make one case of pooling, and returns whether they agree.
 fn next_two_agree(fd: i32, answer: u8) -> bool {
     let mut words = [0u32; 16384];
     let mut values = [0f64; 16384];
@@ -723,8 +723,8 @@ fn next_agrees(fd: i32, family: u8, answer: u8) -> bool {
     }
 }
 
-// A family's cases up to the first that differs. Its answer is the first number of
-// a list of a case. A file that is missing has no case, which the line shows.
+// Replays a family's cases up to the first that differs, and prints its line. The stored result is the first number of
+// list `answer`. A missing file counts as one without cases, which the line shows.
 fn replay(name: &[u8], family: u8, answer: u8) {
     let fd = os::open_read(name);
     let cases = word(fd);

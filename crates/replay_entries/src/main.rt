@@ -1,5 +1,5 @@
-// Replays stored answers with the cone map as entries: each file of data/ through the compact cut or joining, and a line
-// for each. A case's map has 64 entries at most. Crate replay says how a case is written, and pick.py which of its cases are here.
+// Replays stored answers with the cone map as entries: runs each case in the files of data/ through the compact cut or joining, and prints
+// a line for each file. A map has at most 64 entries. Crate replay describes the form of a case; pick.py chooses which of its cases are here.
 ghost use Prim.Native.Nat.{_*_, _≤_};
 ghost use lib.ListN.{length};
 use cone_map::ConeMapEntry;
@@ -18,12 +18,12 @@ use stored::word;
 use stored::words_at;
 use stored::words_room;
 
-// ---- the calls with entries. Both functions are proved by hand, since they lend an array of structs.
+// ---- the calls with entries. Both functions are proved by hand, because they pass on a local array of structs by reference.
 
 const MOST_ENTRIES: usize = 64;
 
-// Runs the compact cut with a map of `entries` entries, which hold the words of `before` when it is called, and writes the
-// first `kept` words that they hold after it. Returns the cut's number.
+// Runs the compact cut with a cone map of `entries` entries, filled from the words of `before`, and writes the first `kept` words
+// of the map after the cut to `after`. Returns the cut's refusal number, 0 if it was accepted.
 fn cut_by_entries(
     n: u32,
     m: u32,
@@ -89,7 +89,7 @@ fn cut_by_entries(
     r
 }
 
-// Runs the compact joining with a map of `entries` entries that hold the words of `map`. Returns the joining's number.
+// Runs the compact joining with a cone map of `entries` entries, read from the words of `map`. Returns the joining's refusal number.
 fn join_by_entries(
     n: u32,
     m: u32,
@@ -135,10 +135,10 @@ fn join_by_entries(
 
 const ENTRY_WORDS: usize = 5;
 
-// The words of as many entries as a map here has.
+// The words of the largest map, 64 entries of five words.
 const MOST_WORDS: usize = 320;
 
-// Counts the entries that so many words hold. Returns the count, 64 at most.
+// Counts the complete entries in `words` words. Returns at most 64.
 fn entries_in(words: usize) -> usize
     ensures { λ r. ⌜ (r ≤ 64) × (r * 5 ≤ words) ⌝ }
 {
@@ -149,7 +149,7 @@ fn entries_in(words: usize) -> usize
     entries
 }
 
-// Copies `list` to the front of `table`, and 0 to the rest.
+// Copies `list` to the front of `table` and fills the rest with 0.
 fn fill(table: &mut [u32], list: &[u32]) {
     let mut i = 0;
     while i < table.len() {
@@ -158,7 +158,7 @@ fn fill(table: &mut [u32], list: &[u32]) {
     }
 }
 
-// Cuts a case's problem. Returns the cut's number, where the outputs hold what is stored.
+// Cuts a case's problem and compares each output with the stored one. Returns the cut's number if all agree, a number that no call gives if not.
 fn cut<'a>(words: &'a [u32], values: &'a [f64]) -> u32 {
     let mut before = [0u32; MOST_WORDS];
     let mut p_starts_out = [0u32; 4096];
@@ -224,7 +224,7 @@ fn cut<'a>(words: &'a [u32], values: &'a [f64]) -> u32 {
     )
 }
 
-// Joins a case's solution. Returns the joining's number, where the outputs hold what is stored.
+// Joins a case's solution and compares each output with the stored one. Returns the joining's number if all agree, see `cut`.
 fn join<'a>(words: &'a [u32], values: &'a [f64]) -> u32 {
     let mut map = [0u32; MOST_WORDS];
     let mut x = [0f64; 4096];
@@ -263,7 +263,7 @@ const CUT: u8 = 0;
 
 const JOIN: u8 = 1;
 
-// Compares a case's call with what is stored, the number in list 1. Returns whether they agree.
+// Runs a case and compares the number it returns with the stored one, the first number of list 1. Returns whether number and outputs agree.
 fn agrees<'a>(family: u8, words: &'a [u32], values: &'a [f64]) -> bool {
     let r = if family == CUT {
         cut(words, values)
@@ -273,7 +273,7 @@ fn agrees<'a>(family: u8, words: &'a [u32], values: &'a [f64]) -> bool {
     r == item(words_at(words, 1), 0)
 }
 
-// Reads the next case of a file, which has 16,384 numbers of each kind at most. Returns whether it agrees.
+// Reads the next case of a file (at most 16,384 numbers of each type) and runs it. Returns whether it agrees with its stored answer.
 fn next_agrees(fd: i32, family: u8) -> bool {
     let mut words = [0u32; 16384];
     let mut values = [0f64; 16384];
@@ -282,7 +282,7 @@ fn next_agrees(fd: i32, family: u8) -> bool {
     agrees(family, &words, &values)
 }
 
-// Runs a family's cases up to the first that differs, and prints its line. A file that is missing has no case, which the line shows.
+// Runs a family's cases up to the first that differs and prints the family's line. A missing file counts as 0 cases, which the line shows.
 fn replay(name: &[u8], family: u8) {
     let fd = os::open_read(name);
     let cases = word(fd);

@@ -1,5 +1,5 @@
--- The averages of z on the standard route, part after part: a row's columns all belong to the part that it lies in.
-use Prim.Native.Nat.{ℕ, zero, suc, _+_, _≤_, _<_}
+-- The averages of z on the standard route, part by part: the columns of H on a row all belong to the part with that row.
+use Prim.Native.Nat.{ℕ, _+_, _≤_, _<_}
 use native.Mathlib.Omega.{arith}
 use mathlib.Core.Path.{_≡_, refl, sym, ap, ap₂, subst, _∙_}
 use mathlib.Core.Bool.{Bool, true, false}
@@ -16,7 +16,7 @@ use Rattle.layout.specs.Patterns.{cliqueCount}
 use Rattle.layout.specs.Blocks.{Part, whole, cut, standardRows, partRows, blockRowCount, coneRows}
 use Rattle.layout.specs.Reverse.{addAt, columnCount, averaged}
 use Rattle.layout.proofs.Members.{getD-map, getD-below, length-upFrom, has-below}
-use Rattle.layout.proofs.Joins.{map-same, upFrom-shift}
+use Rattle.layout.proofs.Joins.{map-same, upFrom-shift, upFrom-append}
 use Rattle.layout.proofs.Counting.{count-append, count-map, count-same, count-nowhere, count-once}
 use Rattle.layout.proofs.Starts.{part-at}
 use Rattle.layout.proofs.Walks.{walk-same}
@@ -30,23 +30,13 @@ use Rattle.reverse.proofs.Parts.{zeros, laid-first, laid-rest, standard
 
 -- ---- numbers from a on
 
-up-split : (a n k : ℕ) → upFrom a (n + k) ≡ upFrom a n ++ upFrom (a + n) k
-up-split a zero k =
-    let e : a ≡ a + 0 = omega arith in
-    let f : 0 + k ≡ k = omega arith in
-    ap (upFrom a) f ∙ ap (λ (b : ℕ). upFrom b k) e
-up-split a (suc n) k =
-    let e : suc n + k ≡ suc (n + k) = omega arith in
-    let f : suc a + n ≡ a + suc n = omega arith in
-    ap (upFrom a) e ∙ ap {B = List ℕ} (λ r. a ∷ r) (up-split (suc a) n k ∙ ap (λ (b : ℕ). upFrom (suc a) n ++ upFrom b k) f)
-
 below-split : (n k : ℕ) → below (n + k) ≡ below n ++ map (λ o. n + o) (below k)
 below-split n k =
-    up-split 0 n k ∙ ap (λ (r : List ℕ). below n ++ r) (ap (λ (b : ℕ). upFrom b k) (omega arith) ∙ upFrom-shift n 0 k)
+    upFrom-append 0 n k ∙ ap (λ (r : List ℕ). below n ++ r) (ap (λ (b : ℕ). upFrom b k) (omega arith) ∙ upFrom-shift n 0 k)
 
--- ---- the columns on a part's rows
+-- ---- the columns of H on the rows of a part
 
--- its rows, from its own first on
+-- the original rows of a part's columns, counted from the first row of its cone
 ownPart : Part → List ℕ
 ownPart (whole i c row) = below (rowCount c)
 ownPart (cut i row k p) = ownRows true p
@@ -71,7 +61,7 @@ module _ (row : ℕ) (x : Part) (h : Laid row (x ∷ [])) where
       let m : i < length (ownPart x) = omega (arith, ap length e, length-map (ownPart x) (λ o. row + o)) in
       (getD (ownPart x) i 0, own-inside x i m, ap (λ (xs : List ℕ). getD xs i 0) e ∙ getD-map (λ o. row + o) (ownPart x) i 0 0 m)
 
-  -- as many as among its own rows
+  -- a row has as many of the part's columns as counted from the cone's first row
   part-columns : (o : ℕ) → columnCount (standardPart x) (row + o) ≡ columnCount (ownPart x) o
   part-columns o =
       ap (λ (xs : List ℕ). columnCount xs (row + o)) (part-shifted row x h) ∙ count-map (eqb (row + o)) (λ q. row + q) (ownPart x)
@@ -81,7 +71,7 @@ module _ (row : ℕ) (x : Part) (h : Laid row (x ∷ [])) where
       same q true e = eq-eqb (row + o) (row + q) (omega (arith, eqb-true o q e)) ∙ sym e
       same q false e = ne-eqb (row + o) (row + q) (λ s. eqb-false o q e (omega (arith, s))) ∙ sym e
 
-  -- none on rows before it or after it
+  -- the part has no columns on rows before its cone or after it
   no-columns : (q : ℕ) → ((k : ℕ) → k < coneRows x → q ≡ row + k → ⊥) → columnCount (standardPart x) q ≡ 0
   no-columns q out = count-nowhere (eqb q) 0 (standardPart x) outside
     where

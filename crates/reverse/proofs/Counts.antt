@@ -1,4 +1,4 @@
--- The cones that patterns cut have few rows.
+-- Decomposed cones have few enough rows for the table of counts.
 use Prim.Native.Nat.{ℕ, zero, suc, _≤_}
 use native.Mathlib.Nat.{le-trans}
 use native.Mathlib.Omega.{arith}
@@ -19,7 +19,7 @@ use Rattle.layout.proofs.Members.{all-at}
 use Rattle.layout.proofs.Triangles.{triangle-mono}
 use Rattle.reverse.specs.Counts.{sideFew, sidesFew, RowsWithin, CountsCones}
 
--- 4,096 counts are enough where there are few rows, or few in each cone
+-- 4,096 counts are enough if there are at most 4,096 rows in all, or if each PSD cone's side is at most 90
 within : (m : ℕ) (cones : List ℕ) → T (leb m 4096 || sidesFew cones) → RowsWithin 4096 m cones
 within m cones h p named fits few =
     ⊎-elim (λ all-few. omega (arith, leb-iff m 4096 .0 all-few)) each (or-iff (leb m 4096) (sidesFew cones) .0 h)
@@ -38,11 +38,11 @@ all-zero zero o = refl
 all-zero (suc k) zero = refl
 all-zero (suc k) (suc o) = all-zero k o
 
--- k counts of a fresh table: room for cones of at most k rows, and none above 0
+-- a fresh table of k counts is long enough for cones of at most k rows, and all its counts are 0
 fresh : (k m : ℕ) (cones : List ℕ) → RowsWithin k m cones → CountsCones true m cones (replicate k 0)
 fresh k m cones h = (λ p named fits few. subst (λ (n : ℕ). triangle (p .vertexCount) ≤ n) (sym (length-replicate {A = ℕ} k 0)) (h p named fits few), all-zero k)
 
--- 256 where there are no more rows
+-- 256 counts are enough if there are at most 256 rows in all
 pub counts-few : (standard : Bool) (m : ℕ) (cones : List ℕ) → T (not standard || leb m 256) → CountsCones standard m cones (replicate 256 0)
 counts-few true m cones h = fresh 256 m cones (λ p named fits few. le-trans fits (leb-iff m 256 .0 h))
 counts-few false m cones h = tt
@@ -51,12 +51,12 @@ pub counts-some : (standard : Bool) (m : ℕ) (cones : List ℕ) → T (leb m 40
 counts-some true m cones h = fresh 4096 m cones (within m cones h)
 counts-some false m cones h = tt
 
--- the largest cone that a pattern may cut has 32,896 rows
+-- 32,896 counts are enough for any cone that a pattern may decompose
 pub counts-many : (standard : Bool) (m : ℕ) (cones : List ℕ) → CountsCones standard m cones (replicate 32896 0)
 counts-many true m cones = fresh 32896 m cones (λ p named fits few. triangle-mono (p .vertexCount) 256 few)
 counts-many false m cones = tt
 
--- ---- the pattern of a cut part is one of the patterns
+-- ---- the pattern of a decomposed part is one of the patterns
 
 abbrev isCutPart : Part → Bool
 isCutPart (whole i c row) = false

@@ -1,4 +1,4 @@
--- Part after part, the joined values are those of the layout.
+-- The values joined part by part are those of the layout.
 use Prim.Native.Nat.{ℕ, _+_, _≤_}
 use native.Mathlib.Omega.{arith}
 use mathlib.Core.Path.{_≡_, refl, sym, ap, ap₂, _∙_}
@@ -28,7 +28,7 @@ use Rattle.reverse.proofs.Stretch.{joinAt, shifted, fresh, rows-shifted
 
 -- ---- any joining that goes part by part
 
--- a part of those laid from a row on, and the others
+-- if parts are laid out from a row on, the first of them is
 pub laid-first : (row : ℕ) (x : Part) (ps : List Part) → Laid row (x ∷ ps) → Laid row (x ∷ [])
 laid-first row (whole i c r) ps h = (h .0, tt)
 laid-first row (cut i r k p) ps h = (h .0, h .1, tt)
@@ -61,7 +61,7 @@ module _ {A : Type 0} (f : A → Float → List Float → List Float) (own : Par
       ∙ by-parts (first + partRows x) (row + n) ps (laid-rest row x ps laid) (drop (partRows x) vs) pre′ wide (omega (arith, length-drop (partRows x) vs))
       ∙ append-assoc pre (own x vs) (valuesFrom own ps (drop (partRows x) vs))
 
--- ---- how many values a part has
+-- ---- the number of values of a part
 
 length-added : (os : List ℕ) (vs ws : List Float) → length (addColumns os vs ws) ≡ length ws
 length-added os vs ws = length-walk addAt (λ o v s. length-set s o (add binary64 (getD s o nan) v)) os vs ws
@@ -111,7 +111,7 @@ pub z-size : (standard : Bool) (x : Part) (vs : List Float) → partRows x ≤ l
 z-size standard (whole i c row) vs h = length-whole standard (take (rowCount c) vs) ∙ length-take-le (rowCount c) vs h
 z-size standard (cut i row k p) vs h = length-z-cut standard p vs
 
--- a cone's rows joined in its stretch: whole, and by its pattern's rows cs
+-- the rows of a cone joined on their own: an undecomposed cone, or a decomposed one with rows cs
 module _ (g : Float → Float → Float) (row : ℕ) (vs pre tail : List Float) (e : length pre ≡ row) where
   whole-alone : (r n : ℕ) → r ≡ row → n ≤ length vs → walk (joinAt g) (upFrom r n) vs (pre ++ (zeros n ++ tail)) ≡ pre ++ (map (g zero64) (take n vs) ++ tail)
   whole-alone r n q h = ap (λ (a : ℕ). walk (joinAt g) (upFrom a n) vs (pre ++ (zeros n ++ tail))) (q ∙ sym e) ∙ fresh g n zero64 vs pre tail h
@@ -157,7 +157,7 @@ unfolding compactPart
 compact-count first row (whole i c r) h = length-map (upFrom r (rowCount c)) kept ∙ length-upFrom r (rowCount c)
 compact-count first row (cut i r k p) h = rows-count p (h .1) r first
 
--- a whole cone's rows are put, whether s or z
+-- the values of an undecomposed cone are copied, for s and for z
 kept-put : (f : Row → Float → List Float → List Float) → ((o : ℕ) (v : Float) (s : List Float) → putAt o v s ≡ f (kept o) v s)
     → (row r n : ℕ) → r ≡ row → (vs pre tail : List Float) → length pre ≡ row → n ≤ length vs
     → walk f (map kept (upFrom r n)) vs (pre ++ (zeros n ++ tail)) ≡ pre ++ (take n vs ++ tail)

@@ -1,5 +1,5 @@
--- The rows of a pattern's blocks in the compact route's order: how many blocks there are, and how many rows in all; and the cone map, which tells where each
--- block begins.
+-- The blocks of a pattern in the compact route's order: how many there are and how many rows they have; and the cone map, which has the first row
+-- of each block.
 use Prim.Native.Nat.{ℕ, _+_}
 use native.Mathlib.Omega.{arith}
 use mathlib.Core.Path.{_≡_, refl, sym, ap, ap₂, subst, _∙_}
@@ -28,7 +28,7 @@ sizes-sum p =
     sum-down (λ c. triangle (blockSize (cliqueAt p c))) (cliqueCount p)
     ∙ sym (ap sum (map-drop (λ (q : Clique). triangle (blockSize q)) noClique (p .cliques) 0 (cliqueCount p) (omega arith)))
 
--- the row counts of the map are these
+-- the row counts in the map are the block sizes
 entry-rows : (first : ℕ) (ps : List Part) → map entryRows (mapFrom first ps) ≡ blockSizes ps
 entry-rows first [] = refl
 entry-rows first (whole i c row ∷ ps) =
@@ -38,7 +38,7 @@ entry-rows first (cut i row k p ∷ ps) =
     map-append entryRows (mapPart first (cut i row k p)) (mapFrom (first + blockRows p) ps)
     ∙ ap₂ _++_ (map-map entryRows (blockEntry i k p first) (reverse (below (cliqueCount p)))) (entry-rows (first + blockRows p) ps)
 
--- and its words tell where the blocks begin
+-- the words of the map have the first row of each block
 pub map-tells : (standard : Bool) (ps : List Part) → Starts standard (mapWords (coneMap ps)) 0 0 (blockSizes ps)
 map-tells standard ps =
     subst (Starts standard (mapWords (coneMap ps)) 0 0) (entry-rows 0 ps) (starts-told standard (coneMap ps) (0 + blockRowCount ps) (map-follows 0 ps))

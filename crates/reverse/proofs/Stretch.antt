@@ -1,4 +1,4 @@
--- Values joined over a stretch of rows: the rows before it and after it do not count, nor does where it begins.
+-- Values joined over a range of rows do not depend on the rows before and after it, nor on where it starts.
 use Prim.Native.Nat.{ℕ, zero, suc, _+_, _≤_, _<_, zero-le, suc-le-suc}
 use native.Mathlib.Nat.{le-of-suc-le-suc, not-suc-le-zero}
 use native.Mathlib.Omega.{arith}
@@ -16,13 +16,13 @@ use Rattle.layout.specs.Reverse.{addAt, addRow}
 use Rattle.layout.proofs.Walks.{walk-append, walk-as}
 use Rattle.reverse_cones.proofs.Inside.{pairRows}
 
--- ---- a value joined by g with what stands on its row
+-- ---- a value joined by g with the value on its row
 
 module _ (g : Float → Float → Float) where
   abbrev pub joinAt : ℕ → Float → List Float → List Float
   joinAt o v ws = set ws o (g (getD ws o nan) v)
 
-  -- the rows from where pre ends on, as many as mid has
+  -- joining on a row of the middle part changes the middle part alone
   one-shifted : (o : ℕ) (v : Float) (pre mid tail : List Float) → o < length mid
       → joinAt (length pre + o) v (pre ++ (mid ++ tail)) ≡ pre ++ (joinAt o v mid ++ tail)
   one-shifted o v pre mid tail l =
@@ -47,7 +47,7 @@ module _ (g : Float → Float → Float) where
       ap (walk joinAt (map (λ o. length pre + o) os) vs) (one-shifted o v pre mid tail (h 0 (suc-le-suc zero-le)))
       ∙ shifted os vs pre mid′ tail (λ k l. omega (arith, h (suc k) (suc-le-suc l), length-set mid o (g (getD mid o nan) v)))
 
-  -- n rows in order, where d stands on each
+  -- joining values on n rows in order, each with the value d before
   pub fresh : (n : ℕ) (d : Float) (vs pre tail : List Float) → n ≤ length vs
       → walk joinAt (upFrom (length pre) n) vs (pre ++ (replicate n d ++ tail)) ≡ pre ++ (map (g d) (take n vs) ++ tail)
   fresh zero d vs pre tail h = refl
@@ -63,10 +63,10 @@ module _ (g : Float → Float → Float) where
       ∙ fresh n d vs pre′ tail (le-of-suc-le-suc h)
       ∙ append-assoc pre (g d v ∷ []) (map (g d) (take n vs) ++ tail)
 
--- ---- a pattern's rows
+-- ---- the rows of a pattern
 
 module _ (p : Pattern) where
-  -- they follow the first row of the cone
+  -- the rows of a cone that starts at row base are base plus those of a cone that starts at row 0
   pub rows-shifted : (base : ℕ) (cs : List ℕ) → pairRows p base cs ≡ map (λ o. base + o) (pairRows p 0 cs)
   rows-shifted base [] = refl
   rows-shifted base (c ∷ cs) =

@@ -1,4 +1,4 @@
--- One output as the cones are walked, and what it holds at the end.
+-- One output during the walk over the cones, and at its end.
 use Prim.Native.Nat.{ℕ, _+_, _-_, _≤_}
 use native.Mathlib.Nat.{add-sub-cancel-left}
 use native.Mathlib.Omega.{arith}
@@ -21,11 +21,11 @@ use Rattle.layout.proofs.Laid.{sound-laid, sound-total}
 use Rattle.reverse_standard.specs.Averages.{shared}
 use Rattle.reverse_cones.specs.Parts.{wholeValues, sPart, zPart, valuesFrom, writtenAt}
 use Rattle.reverse_cones.proofs.Laws.{length-whole}
-use Rattle.reverse.specs.Joined.{Joinable, joinedOf, routeOf, firstOf}
+use Rattle.reverse.specs.Joined.{Joinable, joinedOf, routeIf, firstOf}
 use Rattle.reverse.proofs.Parts.{zeros, s-standard, s-compact, z-compact}
 use Rattle.reverse.proofs.Averages.{z-standard}
 
--- ---- the walk: the rows before `row` are joined, those of the parts ahead are still to come, and nothing from m on is written
+-- ---- the walk: the rows before `row` are joined, those of the parts ahead are still to join, and nothing from m on is written
 
 pub record Joins (f : Part → List Float → List Float) (m : ℕ) (full vs old : List Float) (ahead : List Part) (row t : ℕ) (out : List Float) : Type 0 where
   pub size : length out ≡ length old
@@ -36,7 +36,7 @@ module _ (f : Part → List Float → List Float) (m : ℕ) (vs old : List Float
   pub joins-none : (ps ahead : List Part) (t : ℕ) → ahead ≡ ps → Joins f m (valuesFrom f ps (drop t vs)) vs old ahead 0 t old
   joins-none ps ahead t e = record { size = refl; front = ap (λ (qs : List Part). valuesFrom f qs (drop t vs)) e; rest = refl }
 
-  -- the next part's rows were joined
+  -- the state after the next part's rows are joined
   pub joins-more : (full : List Float) (x : Part) (ps ahead : List Part) (row t n next : ℕ) (out new : List Float) → Joins f m full vs old ahead row t out → ahead ≡ x ∷ ps
       → row + n ≤ m → next ≡ t + partRows x → length (f x (drop t vs)) ≡ n → new ≡ writtenAt row (f x (drop t vs)) out → Joins f m full vs old ps (row + n) next new
   joins-more full x ps ahead row t n next out new h e fits used wide w = record {
@@ -80,7 +80,7 @@ module _ (f : Part → List Float → List Float) (m : ℕ) (vs old : List Float
           ∙ drop-drop d (length xs) (drop row out) ∙ drop-drop (length xs + d) row out
           ∙ ap (λ (k : ℕ). drop k out) three
 
-  -- the next part was a whole cone
+  -- the state after an undecomposed cone
   pub joins-whole : (full : List Float) (standard : Bool) (i : ℕ) (c : Cone) (at : ℕ) (ps ahead : List Part) (row t n : ℕ) (out new : List Float)
       → ((ws : List Float) → f (whole i c at) ws ≡ wholeValues standard (take (rowCount c) ws)) → Joins f m full vs old ahead row t out → ahead ≡ whole i c at ∷ ps
       → row + n ≤ m → n ≡ rowCount c → t + n ≤ length vs → new ≡ writtenAt row (wholeValues standard (part t (t + n) vs)) out → Joins f m full vs old ps (row + n) (t + n) new
@@ -95,7 +95,7 @@ module _ (f : Part → List Float → List Float) (m : ℕ) (vs old : List Float
           ap length (is (drop t vs)) ∙ length-whole standard (take (rowCount c) (drop t vs))
           ∙ length-take-le (rowCount c) (drop t vs) (omega (arith, length-drop t vs)) ∙ sym used
 
-  -- no part is left
+  -- if no part is left, the output is complete
   pub joins-done : (full : List Float) (ahead : List Part) (row t : ℕ) (out : List Float) → Joins f m full vs old ahead row t out → ahead ≡ [] → row ≡ m
       → out ≡ written full old
   joins-done full ahead row t out h e r =
@@ -104,7 +104,7 @@ module _ (f : Part → List Float → List Float) (m : ℕ) (vs old : List Float
       let wide : m ≡ length full = sym (length-take-le m out (omega (arith, h .size))) ∙ ap length all in
       sym (take-append-drop m out) ∙ ap₂ _++_ all (h .rest ∙ ap (λ (k : ℕ). drop k old) wide)
 
--- ---- the values of a sound problem's parts are those of the layout
+-- ---- the values of the parts are those of the layout, for cones and patterns that passed the checks
 
 module _ {m : ℕ} {cones : List ℕ} {count : ℕ} {words : List ℕ} (h : Sound m cones count words) (vs : List Float)
     (room : blockRowCount (joinedParts cones count words) ≤ length vs) where
@@ -133,24 +133,24 @@ module _ {m : ℕ} {cones : List ℕ} {count : ℕ} {words : List ℕ} (h : Soun
   compact-z : valuesFrom (zPart false) (joinedParts cones count words) vs ≡ putRows (compactRows (joinedParts cones count words)) vs (replicate m zero64)
   compact-z = sym (z-compact 0 0 ps (sound-laid h .0) vs [] refl room) ∙ ap (λ (n : ℕ). putRows (compactRows ps) vs (zeros n)) rows
 
--- ---- what the checks say of s and z, on either route
+-- ---- what the checks establish of s and z, on either route
 
--- the values of the parts are the last
-pub values-last : (standard : Bool) {m : ℕ} {cones : List ℕ} {count : ℕ} {words : List ℕ} {s z : List Float} → Joinable (routeOf standard) m cones count words s z
+-- the values of the parts come last in s and z
+pub values-last : (standard : Bool) {m : ℕ} {cones : List ℕ} {count : ℕ} {words : List ℕ} {s z : List Float} → Joinable (routeIf standard) m cones count words s z
     → length s ≡ firstOf standard m + blockRowCount (joinedParts cones count words)
 values-last true j = j .slacks
 values-last false j = omega (arith, j .slacks)
 
-pub same-count : (standard : Bool) {m : ℕ} {cones : List ℕ} {count : ℕ} {words : List ℕ} {s z : List Float} → Joinable (routeOf standard) m cones count words s z
+pub same-count : (standard : Bool) {m : ℕ} {cones : List ℕ} {count : ℕ} {words : List ℕ} {s z : List Float} → Joinable (routeIf standard) m cones count words s z
     → length z ≡ length s
 same-count standard j = j .duals ∙ sym (j .slacks)
 
-pub joined-s : (standard : Bool) {m : ℕ} {cones : List ℕ} {count : ℕ} {words : List ℕ} {s z : List Float} → Joinable (routeOf standard) m cones count words s z
-    → valuesFrom (sPart standard) (joinedParts cones count words) (drop (firstOf standard m) s) ≡ joinedOf (routeOf standard) m cones count words s z .s
+pub joined-s : (standard : Bool) {m : ℕ} {cones : List ℕ} {count : ℕ} {words : List ℕ} {s z : List Float} → Joinable (routeIf standard) m cones count words s z
+    → valuesFrom (sPart standard) (joinedParts cones count words) (drop (firstOf standard m) s) ≡ joinedOf (routeIf standard) m cones count words s z .s
 joined-s true {m} {s = s} j = standard-s (j .sound) (drop m s) (omega (arith, length-drop m s, j .slacks))
 joined-s false {s = s} j = compact-s (j .sound) s (omega (arith, j .slacks))
 
-pub joined-z : (standard : Bool) {m : ℕ} {cones : List ℕ} {count : ℕ} {words : List ℕ} {s z : List Float} → Joinable (routeOf standard) m cones count words s z
-    → valuesFrom (zPart standard) (joinedParts cones count words) (drop (firstOf standard m) z) ≡ joinedOf (routeOf standard) m cones count words s z .z
+pub joined-z : (standard : Bool) {m : ℕ} {cones : List ℕ} {count : ℕ} {words : List ℕ} {s z : List Float} → Joinable (routeIf standard) m cones count words s z
+    → valuesFrom (zPart standard) (joinedParts cones count words) (drop (firstOf standard m) z) ≡ joinedOf (routeIf standard) m cones count words s z .z
 joined-z true {m} {z = z} j = standard-z (j .sound) (drop m z) (omega (arith, length-drop m z, j .duals))
 joined-z false {z = z} j = compact-z (j .sound) z (omega (arith, j .duals))

@@ -1,4 +1,4 @@
--- What a joining of s and z walks over, and what it gives: x takes no part in them, nor do τ and κ.
+-- What joining s and z requires, and its result; x, τ and κ play no part in it.
 use Prim.Native.Nat.{ℕ, _≤_}
 use mathlib.Core.Path.{_≡_}
 use mathlib.Core.Bool.{Bool, true, false}
@@ -13,7 +13,7 @@ use Rattle.layout.specs.Checks.{Sound}
 use Rattle.layout.specs.Answers.{joined, joinedParts, slackCount}
 use Rattle.reverse_blocks.specs.Joins.{downSizes}
 
--- what the checks say of m, the cone records, the patterns, and s and z on a route
+-- what the checks establish of m, the cone records, the patterns, and s and z on a route
 pub record Joinable (route : Route) (m : ℕ) (cones : List ℕ) (count : ℕ) (words : List ℕ) (s z : List Float) : Type 0 where
   pub sound : Sound m cones count words
   pub few : blockRowCount (joinedParts cones count words) ≤ 262144
@@ -23,17 +23,17 @@ pub record Joinable (route : Route) (m : ℕ) (cones : List ℕ) (count : ℕ) (
 abbrev pub joinedOf : Route → ℕ → List ℕ → ℕ → List ℕ → List Float → List Float → Solution
 joinedOf route m cones count words s z = joined route 0 m (joinedParts cones count words) (solution [] s z one64 one64)
 
--- true stands for the standard route, false for the compact one
-abbrev pub routeOf : Bool → Route
-routeOf true = standard
-routeOf false = compact
+-- the route of a flag: standard for true, compact for false
+abbrev pub routeIf : Bool → Route
+routeIf true = standard
+routeIf false = compact
 
--- where the values of the parts begin: on the standard route m others come first
+-- the index where the parts' values start in s and z: on the standard route m values come before them
 abbrev pub firstOf : Bool → ℕ → ℕ
 firstOf true m = m
 firstOf false m = 0
 
--- how many rows each new cone has, in the compact route's order
+-- the number of rows of each new cone, in the compact route's order
 abbrev pub partSizes : Part → List ℕ
 partSizes (whole i c row) = rowCount c ∷ []
 partSizes (cut i row k p) = downSizes p

@@ -1,4 +1,4 @@
-// Whole solutions joined, on either route: the cones are walked in order, and each one's rows are joined by themselves.
+// Joins the s and z of a solution, on either route: the cones are walked in order, and the rows of each cone are joined on their own.
 ghost use mathlib.Core.Path.{_≡_};
 ghost use mathlib.Core.Bool.{not, _&&_, _||_};
 ghost use Prim.Native.Nat.{_≤_};
@@ -7,7 +7,7 @@ ghost use lib.Dec.{leb, ltb};
 ghost use Rattle.layout.specs.Lists.{written};
 ghost use Rattle.layout.specs.Answers.{joinedParts};
 ghost use Rattle.reverse_standard.specs.Routes.{Starts};
-ghost use Rattle.reverse.specs.Joined.{Joinable, joinedOf, routeOf, firstOf, blockSizes};
+ghost use Rattle.reverse.specs.Joined.{Joinable, joinedOf, routeIf, firstOf, blockSizes};
 ghost use Rattle.reverse.specs.Counts.{sideFew, sidesFew, CountsCones};
 use parts::Met;
 use parts::Place;
@@ -17,7 +17,7 @@ use reverse_cones::join_whole;
 use reverse_standard::block_start;
 use supportedcone::SupportedCone;
 
-// x: the first n are copied.
+// Copies the first `n` values of `x` to `out`.
 pub fn copy_x(n: u32, x: &[f64], out: &mut [f64])
     requires { ⌜ (n ≤ length (now x)) × (n ≤ length (now out)) ⌝ }
     ensures { λ _. ⌜ now (out .exit) ≡ written (take n (now (x .entry))) (now (out .entry)) ⌝ }
@@ -28,7 +28,7 @@ pub fn copy_x(n: u32, x: &[f64], out: &mut [f64])
 
 // ---- all cones
 
-// Where the values of the first cone begin: on the standard route m others come first.
+// Returns the index of the first cone's values in s and z: on the standard route the `m` values of the Zero cone come first.
 fn first_value(standard: bool, m: u32) -> usize
     ensures { λ r. ⌜ r ≡ firstOf standard m ⌝ }
 {
@@ -38,7 +38,8 @@ fn first_value(standard: bool, m: u32) -> usize
     0
 }
 
-// s and z on a route. The compact one reads in the map where the values of each block begin. The buffers are made once for all patterns.
+// Joins `s` and `z` on a route and writes them to `s_out` and `z_out`. The compact route reads the first row of each block from `map`. The scratch buffers
+// are made once for all patterns.
 fn join_parts(
     standard: bool,
     m: u32,
@@ -52,11 +53,11 @@ fn join_parts(
     z_out: &mut [f64],
     counts: &mut [u32],
 )
-    requires { ⌜ Joinable (routeOf standard) m (now cones) count (now words) (now s) (now z) ⌝ }
+    requires { ⌜ Joinable (routeIf standard) m (now cones) count (now words) (now s) (now z) ⌝ }
     requires { ⌜ (m ≤ length (now «s_out»)) × (m ≤ length (now «z_out»)) × CountsCones standard m (now cones) (now counts) ⌝ }
     requires { ⌜ Starts standard (now map) 0 (firstOf standard m) (blockSizes (joinedParts (now cones) count (now words))) ⌝ }
-    ensures { λ _. ⌜ now («s_out» .exit) ≡ written (joinedOf (routeOf standard) m (now (cones .entry)) count (now (words .entry)) (now (s .entry)) (now (z .entry)) .s) (now («s_out» .entry)) ⌝ }
-    ensures { λ _. ⌜ now («z_out» .exit) ≡ written (joinedOf (routeOf standard) m (now (cones .entry)) count (now (words .entry)) (now (s .entry)) (now (z .entry)) .z) (now («z_out» .entry)) ⌝ }
+    ensures { λ _. ⌜ now («s_out» .exit) ≡ written (joinedOf (routeIf standard) m (now (cones .entry)) count (now (words .entry)) (now (s .entry)) (now (z .entry)) .s) (now («s_out» .entry)) ⌝ }
+    ensures { λ _. ⌜ now («z_out» .exit) ≡ written (joinedOf (routeIf standard) m (now (cones .entry)) count (now (words .entry)) (now (s .entry)) (now (z .entry)) .z) (now («z_out» .entry)) ⌝ }
 {
     let mut offsets = [0usize; 256];
     let mut vertices = [0u32; 256];
@@ -107,16 +108,16 @@ fn join_parts(
     }
 }
 
-// ---- room for the counts of the standard route
+// ---- the length of the table of counts on the standard route
 
-// Whether a cone of this kind and side has few rows, should a pattern cut it.
+// Returns whether a cone with this `kind` and `side` has at most 4,095 rows, if a pattern decomposes it.
 fn side_few(kind: u32, side: u32) -> bool
     ensures { λ r. ⌜ r ≡ sideFew kind side ⌝ }
 {
     kind != SupportedCone::PSD_TRIANGLE || side <= 90
 }
 
-// Whether each cone has.
+// Returns whether this holds of each cone.
 fn sides_few(cones: &[u32]) -> bool
     ensures { λ r. ⌜ r ≡ sidesFew (now (cones .entry)) ⌝ }
 {
@@ -132,7 +133,7 @@ fn sides_few(cones: &[u32]) -> bool
     true
 }
 
-// Whether 4,096 counts are enough for each cone.
+// Returns whether 4,096 counts are enough for each cone.
 fn rows_few(m: u32, cones: &[u32]) -> bool
     ensures { λ r. ⌜ r ≡ (leb m 4096 || sidesFew (now (cones .entry))) ⌝ }
 {
@@ -142,14 +143,14 @@ fn rows_few(m: u32, cones: &[u32]) -> bool
     sides_few(cones)
 }
 
-// Whether 256 are: the compact route counts nothing.
+// Returns whether 256 counts are enough: the compact route counts nothing.
 fn counts_few(standard: bool, m: u32) -> bool
     ensures { λ r. ⌜ r ≡ (not standard || leb m 256) ⌝ }
 {
     !standard || m <= 256
 }
 
-// Whether the standard route has more rows than 4,096 counts are for.
+// Returns whether the route is standard with more than 4,096 rows.
 fn many_rows(standard: bool, m: u32) -> bool
     ensures { λ r. ⌜ r ≡ (standard && ltb 4096 m) ⌝ }
 {
@@ -158,8 +159,8 @@ fn many_rows(standard: bool, m: u32) -> bool
 
 // ---- s and z
 
-// s and z with counts for cones of any size. The compact route and small problems never enter the frame that these tables need: it is called from two
-// places, and does enough itself, so that the compiler gives it a frame of its own.
+// Joins `s` and `z` with a table of counts for cones of any size. It is a function of its own so that the compact route and small problems do not pay for a
+// stack frame with these tables: called from two places, and not trivial, it is not inlined by the compiler.
 fn with_more_counts(
     standard: bool,
     m: u32,
@@ -172,11 +173,11 @@ fn with_more_counts(
     s_out: &mut [f64],
     z_out: &mut [f64],
 )
-    requires { ⌜ Joinable (routeOf standard) m (now cones) count (now words) (now s) (now z) ⌝ }
+    requires { ⌜ Joinable (routeIf standard) m (now cones) count (now words) (now s) (now z) ⌝ }
     requires { ⌜ (m ≤ length (now «s_out»)) × (m ≤ length (now «z_out»)) ⌝ }
     requires { ⌜ Starts standard (now map) 0 (firstOf standard m) (blockSizes (joinedParts (now cones) count (now words))) ⌝ }
-    ensures { λ _. ⌜ now («s_out» .exit) ≡ written (joinedOf (routeOf standard) m (now (cones .entry)) count (now (words .entry)) (now (s .entry)) (now (z .entry)) .s) (now («s_out» .entry)) ⌝ }
-    ensures { λ _. ⌜ now («z_out» .exit) ≡ written (joinedOf (routeOf standard) m (now (cones .entry)) count (now (words .entry)) (now (s .entry)) (now (z .entry)) .z) (now («z_out» .entry)) ⌝ }
+    ensures { λ _. ⌜ now («s_out» .exit) ≡ written (joinedOf (routeIf standard) m (now (cones .entry)) count (now (words .entry)) (now (s .entry)) (now (z .entry)) .s) (now («s_out» .entry)) ⌝ }
+    ensures { λ _. ⌜ now («z_out» .exit) ≡ written (joinedOf (routeIf standard) m (now (cones .entry)) count (now (words .entry)) (now (s .entry)) (now (z .entry)) .z) (now («z_out» .entry)) ⌝ }
 {
     if rows_few(m, cones) {
         let mut counts = [0u32; 4096];
@@ -211,8 +212,8 @@ fn with_more_counts(
     );
 }
 
-// Clarabel's `decomp_reverse_standard` and `decomp_reverse_compact`: s and z of a solution. The table of counts is as short as the cones allow, since it is
-// cleared first.
+// Joins `s` and `z` of a solution and writes them to `s_out` and `z_out`, as clarabel's `decomp_reverse_standard` and `decomp_reverse_compact` do.
+// The table of counts is as short as the cones allow, since clearing it takes time.
 pub fn decomp_reverse(
     standard: bool,
     m: u32,
@@ -225,11 +226,11 @@ pub fn decomp_reverse(
     s_out: &mut [f64],
     z_out: &mut [f64],
 )
-    requires { ⌜ Joinable (routeOf standard) m (now cones) count (now words) (now s) (now z) ⌝ }
+    requires { ⌜ Joinable (routeIf standard) m (now cones) count (now words) (now s) (now z) ⌝ }
     requires { ⌜ (m ≤ length (now «s_out»)) × (m ≤ length (now «z_out»)) ⌝ }
     requires { ⌜ Starts standard (now map) 0 (firstOf standard m) (blockSizes (joinedParts (now cones) count (now words))) ⌝ }
-    ensures { λ _. ⌜ now («s_out» .exit) ≡ written (joinedOf (routeOf standard) m (now (cones .entry)) count (now (words .entry)) (now (s .entry)) (now (z .entry)) .s) (now («s_out» .entry)) ⌝ }
-    ensures { λ _. ⌜ now («z_out» .exit) ≡ written (joinedOf (routeOf standard) m (now (cones .entry)) count (now (words .entry)) (now (s .entry)) (now (z .entry)) .z) (now («z_out» .entry)) ⌝ }
+    ensures { λ _. ⌜ now («s_out» .exit) ≡ written (joinedOf (routeIf standard) m (now (cones .entry)) count (now (words .entry)) (now (s .entry)) (now (z .entry)) .s) (now («s_out» .entry)) ⌝ }
+    ensures { λ _. ⌜ now («z_out» .exit) ≡ written (joinedOf (routeIf standard) m (now (cones .entry)) count (now (words .entry)) (now (s .entry)) (now (z .entry)) .z) (now («z_out» .entry)) ⌝ }
 {
     if many_rows(standard, m) {
         with_more_counts(standard, m, cones, count, words, map, s, z, s_out, z_out);

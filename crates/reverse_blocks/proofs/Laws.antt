@@ -23,18 +23,18 @@ use Rattle.layout.proofs.Walks.{walk-append}
 use Rattle.layout.proofs.Joins.{reverse-below}
 use Rattle.layout.proofs.Starts.{part-at}
 use Rattle.layout.proofs.Rows.{block-length}
-use Rattle.blocks.specs.Cliques.{rowsHere, Stands, Standing}
+use Rattle.blocks.specs.Cliques.{rowsHere, SortableClique, SortableCliques}
 use Rattle.blocks.proofs.Patterns.{standard-rows-count, original-rows-count}
 use Rattle.blocks.proofs.Offsets.{StandAt, reverse-map, rows-block, rows-up, rows-down}
-use Rattle.reverse_standard.specs.Routes.{zValue, inOrder, Starts}
+use Rattle.reverse_standard.specs.Routes.{zValue, inRouteOrder, Starts}
 use Rattle.reverse_standard.proofs.Routes.{reverse-at}
 use Rattle.reverse_blocks.specs.Joins.{zAt, Counts, Countable, ownRows, downSizes}
 
--- the same by what is equal
+-- a result of f x is that of f y for an equal y
 pub by-same : {A B : Type 0} (f : A → B) {x y : A} {r : B} → r ≡ f x → x ≡ y → r ≡ f y
 by-same f e h = e ∙ ap f h
 
--- what a turn stores in z
+-- the value that one turn of the loop stores in z
 pub z-stored : (standard : Bool) (o : ℕ) (v : Float) (ws : List Float) → set ws o (zValue standard (getD ws o nan) v) ≡ zAt standard o v ws
 z-stored true o v ws = refl
 z-stored false o v ws = refl
@@ -42,7 +42,7 @@ z-stored false o v ws = refl
 -- ---- walks, as loops make them
 
 module _ {A B S : Type 0} (f : A → B → S → S) where
-  -- one element more
+  -- one more element walked
   walk-one : (xs : List A) (vs : List B) (s : S) (i : ℕ) (a : A) (b : B) → i < length xs → i < length vs
       → f (getD xs i a) (getD vs i b) (walk f (take i xs) vs s) ≡ walk f (take (i + 1) xs) vs s
   walk-one xs vs s i a b h l =
@@ -53,7 +53,7 @@ module _ {A B S : Type 0} (f : A → B → S → S) where
       ∙ walk-append f (take i xs) (getD xs i a ∷ []) vs s
       ∙ ap (λ (ws : List B). walk f (getD xs i a ∷ []) ws done) here)
 
-  -- the same from what a store left, at the place that code computes; the values begin at t
+  -- the same for a store at the row that the code computes, where the values start at index t
   pub walk-stored : (xs : List A) (vs : List B) (s : S) {old new : S} (t i : ℕ) (o a : A) (b : B) → new ≡ f o (getD vs (t + i) b) old
       → old ≡ walk f (take i xs) (drop t vs) s → o ≡ getD xs i a → i < length xs → t + i < length vs → new ≡ walk f (take (i + 1) xs) (drop t vs) s
   walk-stored xs vs s t i o a b p q e h l =
@@ -61,7 +61,7 @@ module _ {A B S : Type 0} (f : A → B → S → S) where
       p ∙ ap (f o (getD vs (t + i) b)) q ∙ ap (λ (w : B). f o w (walk f (take i xs) (drop t vs) s)) (sym (getD-drop t vs i b))
       ∙ ap (λ (x : A). f x v (walk f (take i xs) (drop t vs) s)) e ∙ walk-one xs (drop t vs) s i a b h (omega (arith, length-drop t vs))
 
-  -- a list more, from what a call left; its values begin at t, where those before end
+  -- one more list walked by a call, whose values start at index t, after those of the lists before it
   pub walk-joined : (xs ys zs : List A) (vs : List B) (s : S) {old new : S} (first t : ℕ) → new ≡ walk f ys (drop t vs) old → old ≡ walk f xs (drop first vs) s
       → t ≡ first + length xs → xs ++ ys ≡ zs → new ≡ walk f zs (drop first vs) s
   walk-joined xs ys zs vs s first t p q e m =
@@ -80,19 +80,19 @@ pub counts-more : (standard : Bool) (xs ys a b c : List ℕ) → length c ≤ le
 counts-more true xs ys a b c n h g = λ o l. omega (arith, h o (omega arith), g o l, count-append (eqb o) xs ys)
 counts-more false xs ys a b c n h g = tt
 
--- the same for a list that goes on so
+-- counts over one list and then another are counts over the joined list
 pub counts-joined : (standard : Bool) (xs ys zs a b c : List ℕ) → length c ≡ length b → Counts standard xs a b → Counts standard ys b c → xs ++ ys ≡ zs
     → Counts standard zs a c
 counts-joined standard xs ys zs a b c n h g m = subst (λ (os : List ℕ). Counts standard os a c) m (counts-more standard xs ys a b c (le-of-eq n) h g)
 
--- one more, at the place that code computes
+-- one more row counted, at the row that the code computes
 pub counts-next : (standard : Bool) (xs : List ℕ) (i o : ℕ) (a b c : List ℕ) → i < length xs → o ≡ getD xs i 0 → length c ≡ length b
     → Counts standard (take i xs) a b → Counts standard (o ∷ []) b c → Counts standard (take (i + 1) xs) a c
 counts-next standard xs i o a b c l e n h g =
     counts-joined standard (take i xs) (o ∷ []) (take (i + 1) xs) a b c n h g
     (ap (λ (q : ℕ). take i xs ++ (q ∷ [])) e ∙ sym (ap (λ (k : ℕ). take k xs) (add-one i) ∙ take-suc xs i 0 l))
 
--- one column on row o
+-- one column counted on row o
 pub counts-one : (counts : List ℕ) (o : ℕ) → o < length counts → Counts true (o ∷ []) counts (set counts o (getD counts o 0 + 1))
 counts-one counts o l q m = pick (eqb q o) refl
   where
@@ -106,12 +106,12 @@ counts-one counts o l q m = pick (eqb q o) refl
         let here : columnCount (o ∷ []) q ≡ 0 = rw e in
         getD-set-other counts o q (getD counts o 0 + 1) 0 (eqb-false q o e) ∙ omega (arith, here)
 
--- fewer rows, and fewer to count
+-- counts that allow n rows and k more columns allow fewer of both
 pub countable-less : (standard : Bool) (n m k l : ℕ) (counts : List ℕ) → m ≤ n → l ≤ k → Countable standard n k counts → Countable standard m l counts
 countable-less true n m k l counts h g c = (omega (arith, c .0), λ o q. omega (arith, c .1 o (omega arith)))
 countable-less false n m k l counts h g c = tt
 
--- those of xs are counted
+-- after the rows xs are counted, the counts allow as many fewer
 pub countable-left : (standard : Bool) (n k l : ℕ) (xs a b : List ℕ) → length b ≡ length a → length xs + l ≤ k → Counts standard xs a b
     → Countable standard n k a → Countable standard n l b
 countable-left true n k l xs a b e h g c =
@@ -120,20 +120,20 @@ countable-left false n k l xs a b e h g c = tt
 
 -- ---- the cliques in the order of the route
 
-pub length-order : (standard : Bool) (os : List ℕ) → length (inOrder standard os) ≡ length os
+pub length-order : (standard : Bool) (os : List ℕ) → length (inRouteOrder standard os) ≡ length os
 length-order true os = refl
 length-order false os = length-reverse os
 
--- each stands among the offsets
-pub standing-order : (standard : Bool) (ws ordering os : List ℕ) → Standing ws ordering os → Standing ws ordering (inOrder standard os)
+-- the cliques are complete in the order of the route too
+pub standing-order : (standard : Bool) (ws ordering os : List ℕ) → SortableCliques ws ordering os → SortableCliques ws ordering (inRouteOrder standard os)
 standing-order true ws ordering os h c l = h c l
 standing-order false ws ordering os h c l =
     let m : c < length os = omega (arith, length-reverse os) in
-    subst (Stands ws ordering) (sym (reverse-at os c m)) (h (length os - 1 - c) (omega arith))
+    subst (SortableClique ws ordering) (sym (reverse-at os c m)) (h (length os - 1 - c) (omega arith))
 
--- a pattern's rows by the offsets of its cliques
+-- a pattern's rows from the offsets of its cliques
 pub rows-order : (standard : Bool) (p : Pattern) → RightPattern p → (ws os : List ℕ) (k : ℕ) → cliqueCount p ≡ k → k ≤ length os → StandAt ws (p .cliques) os
-    → join (rowsHere 0 ws (p .ordering)) (inOrder standard (take k os)) ≡ ownRows standard p
+    → join (rowsHere 0 ws (p .ordering)) (inRouteOrder standard (take k os)) ≡ ownRows standard p
 rows-order true p ok ws os k count room st = rows-up p ok ws os k count room st 0
 rows-order false p ok ws os k count room st = rows-down p ok ws os k count room st 0 0
 
@@ -141,7 +141,7 @@ pub length-own : (standard : Bool) (p : Pattern) → RightPattern p → length (
 length-own true p ok = standard-rows-count p ok 0
 length-own false p ok = original-rows-count p ok 0 0
 
--- the blocks' rows by the offsets of the cliques
+-- the block sizes from the offsets of the cliques
 map-down : (f g : ℕ → ℕ) (k : ℕ) → ((c : ℕ) → c < k → f c ≡ g c) → map f (reverse (below k)) ≡ map g (reverse (below k))
 map-down f g zero h = refl
 map-down f g (suc k) h =
@@ -149,7 +149,7 @@ map-down f g (suc k) h =
 
 pub starts-order : (standard : Bool) (p : Pattern) → RightPattern p → (ws os : List ℕ) (k : ℕ) → cliqueCount p ≡ k → k ≤ length os → StandAt ws (p .cliques) os
     → (entries : List ℕ) (entry first : ℕ) → Starts standard entries entry first (downSizes p)
-    → Starts standard entries entry first (map (λ o. length (rowsHere 0 ws (p .ordering) o)) (inOrder standard (take k os)))
+    → Starts standard entries entry first (map (λ o. length (rowsHere 0 ws (p .ordering) o)) (inRouteOrder standard (take k os)))
 starts-order true p ok ws os k count room st entries entry first h = tt
 starts-order false p ok ws os k count room st entries entry first h = subst (Starts false entries entry first) (sym same) h
   where

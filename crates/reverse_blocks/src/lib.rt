@@ -1,4 +1,4 @@
-// The blocks of a pattern joined over its cone's rows, straight from their columns: s adds, z adds on the standard route
+// Joins the blocks of a pattern over its cone's rows, straight from their columns: s adds the block values; z adds them on the standard route
 // and keeps the last on the compact one.
 ghost use mathlib.Core.Path.{_≡_};
 ghost use mathlib.Core.List.{[], _∷_, map as mapped};
@@ -12,9 +12,9 @@ ghost use Rattle.layout.specs.Checks.{RightPattern};
 ghost use Rattle.layout.specs.Reverse.{addColumns};
 ghost use Rattle.supernode_tree.specs.Reads.{patternAt};
 ghost use Rattle.blocks.specs.Columns.{ColumnsFit};
-ghost use Rattle.blocks.specs.Cliques.{Standing, rowsHere};
-ghost use Rattle.reverse_standard.specs.Routes.{inOrder, Starts};
-ghost use Rattle.reverse_blocks.specs.Joins.{joinZ, Counts, Countable, columnRows, blockRowsOf, ownRows, downSizes};
+ghost use Rattle.blocks.specs.Cliques.{SortableCliques, rowsHere};
+ghost use Rattle.reverse_standard.specs.Routes.{inRouteOrder, Starts};
+ghost use Rattle.reverse_blocks.specs.Joins.{joinZ, Counts, Countable, blockColumnRows, blockRowsOf, ownRows, downSizes};
 use reverse_standard::block_start;
 use reverse_standard::offset_at;
 use reverse_standard::z_value;
@@ -23,7 +23,7 @@ use supernode_tree::clique_offsets;
 
 // ---- a block
 
-// The standard route counts a column on row o.
+// Adds 1 to the count of row `o` on the standard route; the compact route counts nothing.
 fn count_column(standard: bool, counts: &mut [u32], o: usize)
     requires { ⌜ Countable standard (suc o) 1 (now counts) ⌝ }
     ensures { λ _. ⌜ Counts standard (o ∷ []) (now (counts .entry)) (now (counts .exit)) ⌝ }
@@ -33,7 +33,7 @@ fn count_column(standard: bool, counts: &mut [u32], o: usize)
     }
 }
 
-// Column j of the block over sorted vertices; its values begin at t.
+// Joins column `j` of the block over sorted `vertices`, whose values start at index `t` of `s` and `z`, into `s_out` and `z_out`.
 fn join_column(
     standard: bool,
     vertices: &[u32],
@@ -48,9 +48,9 @@ fn join_column(
     requires { ⌜ T (rises (now vertices)) × (j < length (now vertices)) × (t + j < length (now s)) × (t + j < length (now z)) ⌝ }
     requires { ⌜ (triangle (suc (getD (now vertices) j 0)) ≤ length (now «s_out»)) × (length (now «z_out») ≡ length (now «s_out»)) × (length (now «s_out») ≤ 65536) ⌝ }
     requires { ⌜ Countable standard (length (now «s_out»)) (suc j) (now counts) ⌝ }
-    ensures { λ _. ⌜ now («s_out» .exit) ≡ addColumns (columnRows (now (vertices .entry)) j) (drop t (now (s .entry))) (now («s_out» .entry)) ⌝ }
-    ensures { λ _. ⌜ now («z_out» .exit) ≡ joinZ standard (columnRows (now (vertices .entry)) j) (drop t (now (z .entry))) (now («z_out» .entry)) ⌝ }
-    ensures { λ _. ⌜ Counts standard (columnRows (now (vertices .entry)) j) (now (counts .entry)) (now (counts .exit)) ⌝ }
+    ensures { λ _. ⌜ now («s_out» .exit) ≡ addColumns (blockColumnRows (now (vertices .entry)) j) (drop t (now (s .entry))) (now («s_out» .entry)) ⌝ }
+    ensures { λ _. ⌜ now («z_out» .exit) ≡ joinZ standard (blockColumnRows (now (vertices .entry)) j) (drop t (now (z .entry))) (now («z_out» .entry)) ⌝ }
+    ensures { λ _. ⌜ Counts standard (blockColumnRows (now (vertices .entry)) j) (now (counts .entry)) (now (counts .exit)) ⌝ }
 {
     let c = vertices[j];
     let row = c * (c + 1) / 2;
@@ -65,7 +65,7 @@ fn join_column(
     }
 }
 
-// The block, column by column, whose values begin at `first`; where they end.
+// Joins the block over sorted `vertices`, column by column; its values start at index `first` of `s` and `z`. Returns the index after its values.
 fn join_block(
     standard: bool,
     vertices: &[u32],
@@ -107,8 +107,8 @@ fn join_block(
 
 // ---- a pattern
 
-// The blocks of the cliques at some offsets, in the order of the route, whose values begin at `first`; where they end. The compact route reads where each
-// begins in the map, from entry `entry` on. Each clique's vertices are written to a buffer first.
+// Joins the blocks of the cliques at `offsets`, in the order of the route, into `s_out` and `z_out`; their values start at index `first` of `s` and `z`. The
+// compact route reads the start of each block from `map`, from entry `entry` on. `vertices` is a scratch buffer. Returns the index after the values.
 fn join_cliques(
     standard: bool,
     words: &[u32],
@@ -124,16 +124,16 @@ fn join_cliques(
     counts: &mut [u32],
     vertices: &mut [u32],
 ) -> usize
-    requires { ⌜ Standing (now words) (now ordering) (now offsets) × (triangle (length (now ordering)) ≤ length (now «s_out»)) ⌝ }
-    requires { ⌜ (first + length (join (rowsHere 0 (now words) (now ordering)) (inOrder standard (now offsets))) ≤ length (now s)) × (length (now z) ≡ length (now s)) ⌝ }
+    requires { ⌜ SortableCliques (now words) (now ordering) (now offsets) × (triangle (length (now ordering)) ≤ length (now «s_out»)) ⌝ }
+    requires { ⌜ (first + length (join (rowsHere 0 (now words) (now ordering)) (inRouteOrder standard (now offsets))) ≤ length (now s)) × (length (now z) ≡ length (now s)) ⌝ }
     requires { ⌜ (length (now «z_out») ≡ length (now «s_out»)) × (length (now «s_out») ≤ 65536) ⌝ }
-    requires { ⌜ Countable standard (length (now «s_out»)) (length (join (rowsHere 0 (now words) (now ordering)) (inOrder standard (now offsets)))) (now counts) ⌝ }
+    requires { ⌜ Countable standard (length (now «s_out»)) (length (join (rowsHere 0 (now words) (now ordering)) (inRouteOrder standard (now offsets)))) (now counts) ⌝ }
     requires { ⌜ 256 ≤ length (now vertices) ⌝ }
-    requires { ⌜ Starts standard (now map) entry first (mapped (λ o. length (rowsHere 0 (now words) (now ordering) o)) (inOrder standard (now offsets))) × (entry + length (now offsets) < 18446744073709551616) ⌝ }
-    ensures { λ r. ⌜ r ≡ first + length (join (rowsHere 0 (now (words .entry)) (now (ordering .entry))) (inOrder standard (now (offsets .entry)))) ⌝ }
-    ensures { λ _. ⌜ now («s_out» .exit) ≡ addColumns (join (rowsHere 0 (now (words .entry)) (now (ordering .entry))) (inOrder standard (now (offsets .entry)))) (drop first (now (s .entry))) (now («s_out» .entry)) ⌝ }
-    ensures { λ _. ⌜ now («z_out» .exit) ≡ joinZ standard (join (rowsHere 0 (now (words .entry)) (now (ordering .entry))) (inOrder standard (now (offsets .entry)))) (drop first (now (z .entry))) (now («z_out» .entry)) ⌝ }
-    ensures { λ _. ⌜ Counts standard (join (rowsHere 0 (now (words .entry)) (now (ordering .entry))) (inOrder standard (now (offsets .entry)))) (now (counts .entry)) (now (counts .exit)) ⌝ }
+    requires { ⌜ Starts standard (now map) entry first (mapped (λ o. length (rowsHere 0 (now words) (now ordering) o)) (inRouteOrder standard (now offsets))) × (entry + length (now offsets) < 18446744073709551616) ⌝ }
+    ensures { λ r. ⌜ r ≡ first + length (join (rowsHere 0 (now (words .entry)) (now (ordering .entry))) (inRouteOrder standard (now (offsets .entry)))) ⌝ }
+    ensures { λ _. ⌜ now («s_out» .exit) ≡ addColumns (join (rowsHere 0 (now (words .entry)) (now (ordering .entry))) (inRouteOrder standard (now (offsets .entry)))) (drop first (now (s .entry))) (now («s_out» .entry)) ⌝ }
+    ensures { λ _. ⌜ now («z_out» .exit) ≡ joinZ standard (join (rowsHere 0 (now (words .entry)) (now (ordering .entry))) (inRouteOrder standard (now (offsets .entry)))) (drop first (now (z .entry))) (now («z_out» .entry)) ⌝ }
+    ensures { λ _. ⌜ Counts standard (join (rowsHere 0 (now (words .entry)) (now (ordering .entry))) (inRouteOrder standard (now (offsets .entry)))) (now (counts .entry)) (now (counts .exit)) ⌝ }
 {
     let mut t = first;
     let mut i = 0;
@@ -156,8 +156,8 @@ fn join_cliques(
     t
 }
 
-// The blocks of the pattern at an offset, whose values begin at `first` and whose map entries at `entry`; where they end. The caller lends the buffers,
-// since to clear them costs more than a small pattern.
+// Joins the blocks of the pattern at offset `at`, whose values start at index `first` and map entries at `entry`. Returns the index after the values. The
+// scratch buffers `offsets` and `vertices` come from the caller, since clearing them would take longer than joining a small pattern.
 pub fn join_pattern(
     standard: bool,
     words: &[u32],

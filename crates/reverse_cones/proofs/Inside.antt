@@ -24,7 +24,7 @@ module _ (p : Pattern) where
   abbrev pub pairRows : ℕ → List ℕ → List ℕ
   pairRows base cs = join (λ c. map (pairRow base) (block p c)) cs
 
-  -- each row of some cliques
+  -- each row of the blocks of some cliques lies in the cone
   pub rows-inside : (cs : List ℕ) (k : ℕ) → k < length (pairRows 0 cs) → getD (pairRows 0 cs) k 0 < triangle (p .vertexCount)
   rows-inside cs k l =
       let o = getD (pairRows 0 cs) k 0 in
@@ -42,7 +42,7 @@ module _ (p : Pattern) where
             triangle-column i j (p .vertexCount) le (sorted-bounded p (members (cliqueAt p c)) j hj),
           )
 
-  -- so no column stands on a row behind it
+  -- no column of H is in a row past the end of the cone
   pub no-column : (o : ℕ) → triangle (p .vertexCount) ≤ o → columnCount (ownRows true p) o ≡ 0
   no-column o h =
       let os = pairRows 0 (below (cliqueCount p)) in

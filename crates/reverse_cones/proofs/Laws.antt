@@ -1,4 +1,4 @@
--- Parts of buffers that were lent and written, and the counts of the standard route.
+-- Slices of buffers that a call wrote to, and the counts of the standard route.
 use Prim.Native.Nat.{ℕ, _+_, _-_, _≤_}
 use native.Mathlib.Nat.{add-sub-cancel-left}
 use native.Mathlib.Omega.{arith}
@@ -14,38 +14,28 @@ use Rattle.layout.specs.Patterns.{Pattern}
 use Rattle.layout.specs.Problem.{zero64}
 use Rattle.layout.proofs.Tests.{lt-or-le}
 use Rattle.layout.proofs.Triangles.{triangle-mono}
-use Rattle.layout.proofs.Buffers.{length-tail}
 use Rattle.reverse_standard.proofs.Laws.{averages}
 use Rattle.reverse_blocks.specs.Joins.{joinZ, Counts, Countable, ownRows}
 use Rattle.reverse_blocks.proofs.Room.{length-part}
 use Rattle.reverse_cones.specs.Parts.{wholeValues, zAveraged, zAveragedBy, writtenAt, CountsRows, Cleared, ClearsRows}
 use Rattle.reverse_cones.proofs.Inside.{no-column}
 
--- ---- parts of buffers
+-- ---- slices of buffers
 
--- n values from `at` on were lent, and a call replaced all of them
+-- a call replaced the n values from index `at` on
 pub replaced : (ys old : List Float) (at n : ℕ) → length ys ≡ n → take at old ++ (ys ++ drop n (drop at old)) ≡ writtenAt at ys old
 replaced ys old at n e = ap (λ (k : ℕ). take at old ++ (ys ++ drop k (drop at old))) (sym e)
 
--- all that is after the first m
+-- the slice from m to the end is the suffix from m on
 pub rest-whole : (m : ℕ) (xs : List Float) → take (length xs - m) (drop m xs) ≡ drop m xs
 rest-whole m xs = take-all (length xs - m) (drop m xs) (omega (arith, length-drop m xs))
 
--- as many as before have as many after the first m
-pub rests-same : (m : ℕ) (xs ys : List Float) → length ys ≡ length xs → length (take (length ys - m) (drop m ys)) ≡ length (take (length xs - m) (drop m xs))
-rests-same m xs ys e = length-tail ys m ∙ ap (λ (n : ℕ). n - m) e ∙ sym (length-tail xs m)
-
--- n values from `at` on were lent, and are ys now
+-- a call that was passed the n values from index `at` on left ys there
 pub put-same : (ys new old : List Float) (at n : ℕ) → at + n ≤ length old → new ≡ ys → length new ≡ length (take (at + n - at) (drop at old))
     → take at old ++ (new ++ drop (at + n - at) (drop at old)) ≡ writtenAt at ys old
 put-same ys new old at n h e l =
     let size : length ys ≡ at + n - at = sym (ap length e) ∙ l ∙ length-part at n old h ∙ sym (add-sub-cancel-left at n) in
     ap (λ (r : List Float). take at old ++ (r ++ drop (at + n - at) (drop at old))) e ∙ replaced ys old at (at + n - at) size
-
--- and hold what f makes of the values after the first t
-pub put-made : (f : List Float → List Float) (vs new old : List Float) (t at n : ℕ) → at + n ≤ length old → new ≡ f (take (length vs - t) (drop t vs))
-    → length new ≡ length (take (at + n - at) (drop at old)) → take at old ++ (new ++ drop (at + n - at) (drop at old)) ≡ writtenAt at (f (drop t vs)) old
-put-made f vs new old t at n h e l = put-same (f (drop t vs)) new old at n h (e ∙ ap f (rest-whole t vs)) l
 
 pub length-whole : (standard : Bool) (vs : List Float) → length (wholeValues standard vs) ≡ length vs
 length-whole true vs = length-map vs (add binary64 zero64)
@@ -61,24 +51,24 @@ pub countable : (standard : Bool) (n k : ℕ) (counts : List ℕ) → k ≤ 2621
 countable true n k counts h room clear = (room, λ o l. omega (arith, clear o))
 countable false n k counts h room clear = tt
 
--- a cone has few rows
+-- a PSD cone has at most 65,536 rows
 pub few-rows : (v : ℕ) → v ≤ 256 → triangle v ≤ 65536
 few-rows v h = omega (arith, triangle-mono v 256 h)
 
--- the counts of os are in the table
+-- averaging with the table of counts is averaging over the rows os
 averaged-by : (standard : Bool) (os before counts : List ℕ) (ws : List Float) → CountsRows standard (length ws) counts → Cleared standard before
     → Counts standard os before counts → zAveragedBy standard counts ws ≡ zAveraged standard os ws
 averaged-by true os before counts ws room clear c = averages os counts ws (λ o l. omega (arith, c o (omega (arith, room)), clear o))
 averaged-by false os before counts ws room clear c = refl
 
--- z of a cut cone, from what the calls left
+-- z of a decomposed cone, from the results of the calls
 pub averaged-cut : (standard : Bool) (os before counts : List ℕ) (vs zeros new ws out : List Float) → CountsRows standard (length ws) counts → Cleared standard before
     → Counts standard os before counts → out ≡ zAveragedBy standard counts ws → ws ≡ joinZ standard os vs new → new ≡ zeros
     → out ≡ zAveraged standard os (joinZ standard os vs zeros)
 averaged-cut standard os before counts vs zeros new ws out room clear c e w z =
     e ∙ averaged-by standard os before counts ws room clear c ∙ ap (zAveraged standard os) (w ∙ ap (joinZ standard os vs) z)
 
--- no row of the pattern is behind its cone's n, so that nothing stays counted
+-- all rows of the pattern are below its cone's n, so all counts are 0 again
 pub cleared-again : (standard : Bool) (p : Pattern) (n : ℕ) (before counts after : List ℕ) → n ≡ triangle (p .vertexCount) → Cleared standard before
     → Counts standard (ownRows standard p) before counts → ClearsRows standard n counts after → Cleared standard after
 cleared-again true p n before counts after e clear c gone = λ o. elim (lt-or-le o n) [

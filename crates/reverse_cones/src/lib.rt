@@ -1,5 +1,5 @@
-// One cone's rows of s and z joined, on either route: whole, or from the blocks of the pattern that cuts it.
-// `standard` says whether the route is the standard one; if not, it is the compact one.
+// Joins the rows of s and z of one cone, on either route: an undecomposed cone, or a decomposed one from the blocks of its pattern.
+// `standard` is true for the standard route and false for the compact one.
 ghost use mathlib.Core.Path.{_≡_};
 ghost use Prim.Native.Nat.{_+_, _≤_};
 ghost use lib.ListN.{length, drop};
@@ -13,9 +13,9 @@ ghost use Rattle.reverse_blocks.specs.Joins.{downSizes};
 ghost use Rattle.reverse_cones.specs.Parts.{wholeValues, zAveragedBy, sCut, zCut, writtenAt, CountsRows, Cleared, ClearsRows};
 use supernode_tree::Pattern;
 
-// ---- a whole cone
+// ---- an undecomposed cone
 
-// The values on a cone's rows: summed from +0.0 on the standard route, copied on the compact one.
+// Writes `values`, a cone's values, to `out`: added to +0.0 on the standard route (so -0.0 becomes +0.0), copied on the compact one.
 fn whole_values(standard: bool, out: &mut [f64], values: &[f64])
     requires { ⌜ length (now values) ≡ length (now out) ⌝ }
     ensures { λ _. ⌜ now (out .exit) ≡ wholeValues standard (now (values .entry)) ⌝ }
@@ -27,7 +27,7 @@ fn whole_values(standard: bool, out: &mut [f64], values: &[f64])
     }
 }
 
-// One of s and z on n rows, from row `row` on; the values begin at t.
+// Joins s or z of an undecomposed cone: reads `n` values of `values` from index `t` on and writes them to `out` from row `row` on.
 pub fn join_whole(standard: bool, n: usize, row: usize, t: usize, values: &[f64], out: &mut [f64])
     requires { ⌜ (t + n ≤ length (now values)) × (row + n ≤ length (now out)) ⌝ }
     ensures { λ _. ⌜ now (out .exit) ≡ writtenAt row (wholeValues standard (part t (t + n) (now (values .entry)))) (now (out .entry)) ⌝ }
@@ -37,9 +37,9 @@ pub fn join_whole(standard: bool, n: usize, row: usize, t: usize, values: &[f64]
     whole_values(standard, &mut out[row..e], &values[t..b]);
 }
 
-// ---- a cone that a pattern cuts
+// ---- a decomposed cone
 
-// How many rows it has.
+// Counts the rows of the cone of the pattern at offset `at`.
 pub fn cone_rows(words: &[u32], at: usize) -> usize
     requires { ⌜ RightPattern (patternAt (now words) at) × (patternAt (now words) at .vertexCount ≤ 256) ⌝ }
     ensures { λ r. ⌜ r ≡ triangle (patternAt (now (words .entry)) at .vertexCount) ⌝ }
@@ -49,7 +49,8 @@ pub fn cone_rows(words: &[u32], at: usize) -> usize
     k * (k + 1) / 2
 }
 
-// On the standard route z is divided by each row's count where that is above 1, and nothing stays counted; on the compact one z stays.
+// Averages z on the standard route: divides each row by its count where that is above 1, and resets the counts of the rows to 0.
+// On the compact route leaves `z` and `counts` unchanged.
 fn average(standard: bool, z: &mut [f64], counts: &mut [u32])
     requires { ⌜ CountsRows standard (length (now z)) (now counts) ⌝ }
     ensures { λ _. ⌜ now (z .exit) ≡ zAveragedBy standard (now (counts .entry)) (now (z .entry)) ⌝ }
@@ -60,7 +61,8 @@ fn average(standard: bool, z: &mut [f64], counts: &mut [u32])
     }
 }
 
-// s and z on the rows of the cone, whose blocks' values begin at t and whose map entries at `entry`; where they end. No count is above 0 before and after.
+// Writes s and z of a decomposed cone to `s_out` and `z_out`. The values of its blocks start at index `t`, its cone map entries at `entry`.
+// On the standard route all `counts` are 0 before and after. Returns the index where the values of the blocks end.
 fn join_rows(
     standard: bool,
     words: &[u32],
@@ -109,7 +111,7 @@ fn join_rows(
     end
 }
 
-// The same on n rows from row `row` on.
+// Writes s and z of a decomposed cone to its `n` rows, from row `row` on. Otherwise like `join_rows`.
 pub fn join_cut(
     standard: bool,
     words: &[u32],

@@ -1,4 +1,4 @@
--- A list replaced element by element, and the averages by the table.
+-- A list rewritten element by element, and averages taken with a table of counts.
 use Prim.Native.Nat.{ℕ, _+_, _<_}
 use native.Mathlib.Decide.{ℕ-discrete}
 use native.Mathlib.Omega.{arith}
@@ -14,9 +14,9 @@ use Rattle.layout.proofs.Joins.{map-same}
 use Rattle.layout.proofs.Buffers.{length-mapped}
 use Rattle.reverse_standard.specs.Averages.{averagedBy, shared, Clears}
 
--- a list whose elements are replaced in order, each by what f says of its place
+-- a list whose elements are replaced in order, element i by f i
 module _ {A : Type 0} (f : ℕ → A) (old : List A) where
-  -- the next is not yet replaced
+  -- element i is still the old one after i replacements
   pub mapped-next : (i : ℕ) (d : A) → getD (written (map f (below i)) old) i d ≡ getD old i d
   mapped-next i d =
       ap (λ (k : ℕ). getD (written (map f (below i)) old) k d) (omega (arith, length-mapped f i))
@@ -24,14 +24,14 @@ module _ {A : Type 0} (f : ℕ → A) (old : List A) where
       ∙ getD-drop (length (map f (below i))) old 0 d
       ∙ ap (λ (k : ℕ). getD old k d) (omega (arith, length-mapped f i))
 
--- one count more is cleared
+-- clearing the count at index i extends the cleared prefix by one
 pub clears-more : (i : ℕ) (old new : List ℕ) → i < length new → Clears i old new → Clears (i + 1) old (set new i 0)
 clears-more i old new h c o = elim (ℕ-discrete o i) [
   | yes e ↦ (λ l. ap (λ (k : ℕ). getD (set new i 0) k 0) e ∙ getD-set-same new i 0 0 h, λ g. absurd (omega arith))
   | no n ↦ let same = getD-set-other new i o 0 0 n in (λ l. same ∙ c o .0 (omega (arith, n)), λ g. same ∙ c o .1 (omega arith))
 ]
 
--- the averages by a table are those by the columns
+-- averages by a table of counts equal those by the columns of H
 pub averages : (os counts : List ℕ) (ws : List Float) → ((o : ℕ) → o < length ws → getD counts o 0 ≡ columnCount os o)
     → map (averagedBy counts ws) (below (length ws)) ≡ map (averaged os ws) (below (length ws))
 averages os counts ws c =

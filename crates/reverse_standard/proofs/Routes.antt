@@ -1,4 +1,4 @@
--- A list read from its end.
+-- Reading a list from its end.
 use Prim.Native.Nat.{ℕ, suc, _-_, _≤_, _<_}
 use native.Mathlib.Omega.{arith}
 use mathlib.Core.Path.{_≡_, ap, _∙_}

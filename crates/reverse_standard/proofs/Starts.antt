@@ -1,4 +1,4 @@
--- Where blocks begin that the cone map tells of: the next one, and those after others.
+-- Where blocks start according to the cone map: the next block, block i, and the blocks after a prefix.
 use Prim.Native.Nat.{ℕ, zero, suc, _+_, _*_, _≤_, _<_}
 use native.Mathlib.Nat.{not-suc-le-zero, le-of-suc-le-suc}
 use native.Mathlib.Numerals.{add-one}
@@ -14,7 +14,7 @@ use Rattle.layout.proofs.ConeMap.{entryFirst, entryRows, Follow, first-word}
 use Rattle.layout.proofs.Sizes.{entries-length}
 use Rattle.reverse_standard.specs.Routes.{startOf, HasEntry, Starts}
 
--- the first, and the others
+-- the first block has an entry that gives its start, and the remaining blocks start after it
 pub start-here : (standard : Bool) (ws : List ℕ) (k first n : ℕ) (ns : List ℕ) → Starts standard ws k first (n ∷ ns)
     → HasEntry standard ws k × (startOf standard first ws k ≡ first)
 start-here true ws k first n ns h = (tt, refl)
@@ -24,7 +24,7 @@ pub starts-next : (standard : Bool) (ws : List ℕ) (k first n : ℕ) (ns : List
 starts-next true ws k first n ns h = tt
 starts-next false ws k first n ns h = subst (λ (j : ℕ). Starts false ws j (first + n) ns) (sym (add-one k)) (h .2)
 
--- block i of them
+-- block i starts after the rows of the i blocks before it
 pub start-at : (standard : Bool) (ws : List ℕ) (k first : ℕ) (ns : List ℕ) (i : ℕ) → Starts standard ws k first ns → i < length ns
     → HasEntry standard ws (k + i) × (startOf standard (first + sum (take i ns)) ws (k + i) ≡ first + sum (take i ns))
 start-at true ws k first ns i h l = (tt, refl)
@@ -39,7 +39,7 @@ start-at false ws k first (n ∷ ns) (suc i) h l =
     let f : first + n + sum (take i ns) ≡ first + (n + sum (take i ns)) = omega arith in
     (omega (arith, next .0), ap (λ (j : ℕ). getD ws (j * 5 + 3) 0) (sym e) ∙ next .1 ∙ f)
 
--- some of them, and those after these
+-- the starts of concatenated blocks are those of each part, the second part starting after the first
 pub starts-append : (standard : Bool) (ws : List ℕ) (k first : ℕ) (ms ns : List ℕ) → Starts standard ws k first (ms ++ ns)
     → Starts standard ws k first ms × Starts standard ws (k + length ms) (first + sum ms) ns
 starts-append true ws k first ms ns h = (tt, tt)
@@ -53,7 +53,7 @@ starts-append false ws k first (m ∷ ms) ns h =
     let f : first + m + sum ms ≡ first + (m + sum ms) = omega arith in
     ((h .0, h .1, front), subst (λ (j : ℕ). Starts false ws j (first + (m + sum ms)) ns) e (subst (λ (j : ℕ). Starts false ws (suc k + length ms) j ns) f rest))
 
--- the words of a map whose entries follow each other tell of their blocks
+-- the words of a map whose entries follow each other give the starts of their blocks
 told : (es fs : List MapEntry) (k a b : ℕ) → drop k es ≡ fs → Follow a fs b → Starts false (mapWords es) k a (map entryRows fs)
 told es [] k a b e h = tt
 told es (f ∷ fs) k a b e h = (

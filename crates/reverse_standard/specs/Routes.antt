@@ -1,4 +1,4 @@
--- How the routes of a joining differ: true stands for the standard one, false for the compact one.
+-- Where the routes of a joining differ: the Bool is true on the standard route and false on the compact one.
 use Prim.Native.Nat.{ℕ, suc, _+_, _*_, _≤_}
 use mathlib.Core.Path.{_≡_}
 use mathlib.Core.Bool.{Bool, true, false}
@@ -6,27 +6,27 @@ use mathlib.Core.List.{List, [], _∷_, reverse}
 use lib.ListN.{length, getD}
 use lib.Ieee.{Float, add, binary64}
 
--- z where old stands: the standard route adds, the compact one keeps the last
+-- the new z at a row that held old: the standard route adds v, the compact one overwrites with v
 abbrev pub zValue : Bool → Float → Float → Float
 zValue true old v = add binary64 old v
 zValue false old v = v
 
--- the cliques in the order of the route
-abbrev pub inOrder : Bool → List ℕ → List ℕ
-inOrder true os = os
-inOrder false os = reverse os
+-- the cliques in the order in which the route walks them
+abbrev pub inRouteOrder : Bool → List ℕ → List ℕ
+inRouteOrder true os = os
+inRouteOrder false os = reverse os
 
--- where the values of a block begin: counted on the standard route, the first row of entry k of the map's words on the compact one
+-- where the values of a block start: the counted offset on the standard route, the first row in entry k of the cone map's words on the compact one
 abbrev pub startOf : Bool → ℕ → List ℕ → ℕ → ℕ
 startOf true counted ws k = counted
 startOf false counted ws k = getD ws (k * 5 + 3) 0
 
--- which the map has
+-- the cone map has all words of entry k; the standard route needs none
 abbrev pub HasEntry : Bool → List ℕ → ℕ → Type 0
 HasEntry true ws k = Unit {0}
 HasEntry false ws k = k * 5 + 5 ≤ length ws
 
--- the compact route's map says of blocks of ns rows, from entry k on, that they begin one after the other, from `first` on
+-- on the compact route: blocks of ns rows have entries from k on, and these give consecutive starts, the first being `first`
 abbrev pub Starts : Bool → List ℕ → ℕ → ℕ → List ℕ → Type 0
 Starts true ws k first ns = Unit {0}
 Starts false ws k first [] = Unit {0}

@@ -1,6 +1,6 @@
 // What the two routes of a joining do differently. The standard one sums every row from +0.0, walks the cliques from first to last, counts where each
-// block's values begin, adds z and averages it where blocks overlap. The compact one walks from last to first, reads in the cone map where they begin and
-// keeps the last z. `standard` says which it is.
+// block's values start, adds z and averages it where blocks overlap. The compact one walks from last to first, reads the starts from the cone map and
+// keeps the last z. `standard` is true on the standard route.
 ghost use mathlib.Core.Path.{_≡_};
 ghost use mathlib.Core.List.{map};
 ghost use Prim.Native.Nat.{_≤_, _<_};
@@ -12,21 +12,21 @@ ghost use lib.Ieee.{add, div, ofInt, binary64};
 ghost use Rattle.layout.specs.Lists.{below};
 ghost use Rattle.layout.specs.Problem.{zero64, one64};
 ghost use Rattle.reverse_standard.specs.Averages.{averagedBy, shared, Clears};
-ghost use Rattle.reverse_standard.specs.Routes.{zValue, inOrder, startOf, HasEntry};
+ghost use Rattle.reverse_standard.specs.Routes.{zValue, inRouteOrder, startOf, HasEntry};
 
-// The words of an entry of the cone map, and which of them is its first augmented row.
+// The number of words of a cone map entry, and the index of its first augmented row among them.
 const ENTRY_WORDS: usize = 5;
 
 const FIRST_ROW: usize = 3;
 
-// The two scalars of a solution.
+// The two scalars of a solution, τ and κ.
 pub struct Scalars {
     pub tau: f64,
     pub kappa: f64,
 }
 
 impl Scalars {
-    // A joined solution has both at 1.0, whatever they were.
+    // Returns the scalars of a joined solution: 1.0 for both, whatever they were.
     pub fn joined(self) -> Scalars
         ensures { λ r. ⌜ (r .tau ≡ one64) × (r .kappa ≡ one64) ⌝ }
     {
@@ -37,7 +37,7 @@ impl Scalars {
     }
 }
 
-// The rows of a cone that is not decomposed: one column of H stands on each.
+// Writes the rows of an undecomposed cone on the standard route: `out[i]` becomes 0.0 + `values[i]`, as H has one entry in each such row.
 pub fn sum_rows(out: &mut [f64], values: &[f64])
     requires { ⌜ length (now values) ≡ length (now out) ⌝ }
     ensures { λ _. ⌜ now (out .exit) ≡ map (add binary64 zero64) (now (values .entry)) ⌝ }
@@ -49,7 +49,7 @@ pub fn sum_rows(out: &mut [f64], values: &[f64])
     }
 }
 
-// z on a row where old stands and a block has new.
+// Returns the new z of a row that has `old` and to which a block brings `new`: their sum on the standard route, `new` on the compact one.
 pub fn z_value(standard: bool, old: f64, new: f64) -> f64
     ensures { λ r. ⌜ r ≡ zValue standard old new ⌝ }
 {
@@ -59,10 +59,10 @@ pub fn z_value(standard: bool, old: f64, new: f64) -> f64
     new
 }
 
-// The offset of the route's clique i: the standard route goes from first to last, the compact one from last to first.
+// Returns the offset of the `i`-th clique that the route walks: the standard route goes from first to last, the compact one from last to first.
 pub fn offset_at(standard: bool, offsets: &[usize], i: usize) -> usize
     requires { ⌜ i < length (now offsets) ⌝ }
-    ensures { λ r. ⌜ r ≡ getD (inOrder standard (now (offsets .entry))) i 0 ⌝ }
+    ensures { λ r. ⌜ r ≡ getD (inRouteOrder standard (now (offsets .entry))) i 0 ⌝ }
 {
     let mut k = offsets.len() - 1 - i;
     if standard {
@@ -71,7 +71,8 @@ pub fn offset_at(standard: bool, offsets: &[usize], i: usize) -> usize
     offsets[k]
 }
 
-// Where the values of the route's next block begin: counted on the standard route, read in its entry of the cone map on the compact one.
+// Returns where the values of the route's next block start: `counted` on the standard route, the first row in entry `entry` of the cone map on the
+// compact one.
 pub fn block_start(standard: bool, counted: usize, map: &[u32], entry: usize) -> usize
     requires { ⌜ HasEntry standard (now map) entry ⌝ }
     ensures { λ r. ⌜ r ≡ startOf standard counted (now (map .entry)) entry ⌝ }
@@ -82,7 +83,7 @@ pub fn block_start(standard: bool, counted: usize, map: &[u32], entry: usize) ->
     map[entry * ENTRY_WORDS + FIRST_ROW] as usize
 }
 
-// Divides `v` by `count`, which is above 0: a division by zero would raise a flag that a caller may trap. Returns the quotient.
+// Divides `v` by `count`, which must be above 0: a division by zero would raise a floating-point flag that a caller may trap. Returns the quotient.
 fn quotient(v: f64, count: u32) -> f64
     requires { ⌜ 0 < count ⌝ }
     ensures { λ r. ⌜ r ≡ div binary64 v (ofInt binary64 (pos count)) ⌝ }
@@ -90,7 +91,7 @@ fn quotient(v: f64, count: u32) -> f64
     v / count as f64
 }
 
-// Returns `count`, or 1 where it is 0.
+// Returns `count`, or 1 where it is 0, as a divisor that is never 0.
 fn at_least_one(count: u32) -> u32
     ensures { λ r. ⌜ r ≡ cond (ltb 1 count) count 1 ⌝ }
 {
@@ -100,8 +101,8 @@ fn at_least_one(count: u32) -> u32
     1
 }
 
-// Averages z on a row where `count` columns stand, whose sum is `v`. It divides by 1 where there are none, so that the compiler
-// can select instead of branching on counts that cannot be predicted. Returns the quotient where `count` is above 1, and else `v`.
+// Averages the sum `v` of `count` columns of H in a row of z. It divides by 1 where `count` is below 2, so that the compiler can select
+// instead of branching on counts that cannot be predicted. Returns the quotient where `count` is above 1, and `v` otherwise.
 fn row_average(v: f64, count: u32) -> f64
     ensures { λ r. ⌜ r ≡ shared count v ⌝ }
 {
@@ -112,7 +113,7 @@ fn row_average(v: f64, count: u32) -> f64
     average
 }
 
-// Divides each row by the number of its columns where that is above 1, and counts no column on it any more.
+// Divides each row of `z` by its number of columns of H where that is above 1, and sets these counts in `counts` to 0 for the next use.
 pub fn take_averages(z: &mut [f64], counts: &mut [u32])
     requires { ⌜ length (now z) ≤ length (now counts) ⌝ }
     ensures { λ _. ⌜ now (z .exit) ≡ map (averagedBy (now (counts .entry)) (now (z .entry))) (below (length (now (z .entry)))) ⌝ }

@@ -27,6 +27,6 @@ module _ (m : ℕ) (codes : List ℕ) (sides : List Float) where
   length-moved (suc k) =
       omega (arith, ap length (ap (movedSides m codes sides) (sym (add-one k)) ∙ moved-more k), length-append (movedSides m codes sides k) (movedSide k), length-map codes (codeValue (part (k * m) (k * m + m) sides)), length-moved k)
 
--- one more of count equal runs
+-- run k + 1 of count runs of n elements ends within the list
 pub run-ends : (n k count size : ℕ) → suc k ≤ count → count * n ≤ size → k * n + n ≤ size
 run-ends n k count size l h = omega (arith, mul-le-mul-right n l)

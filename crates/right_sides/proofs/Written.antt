@@ -1,22 +1,22 @@
--- What the cuts with several right sides have where nothing is refused, and what their writers write of it.
+-- The cuts with several right sides where nothing is refused: the preconditions of their writers, and what these write.
 use Prim.Native.Nat.{ℕ, zero, suc, _+_, _-_, _*_, _≤_, _<_}
 use native.Mathlib.Nat.{le-refl, le-of-eq, mul-le-mul-right}
 use native.Mathlib.Omega.{arith}
-use mathlib.Core.Path.{_≡_, refl, sym, ap, ap₂, subst, _∙_}
-use mathlib.Core.Bool.{Bool, true, false, cond, _&&_}
+use mathlib.Core.Path.{_≡_, sym, ap, ap₂, subst, _∙_}
+use mathlib.Core.Bool.{cond, _&&_}
 use mathlib.Core.List.{List, [], _∷_, _++_, map, append-nil}
 use lib.ListN.{length, getD, set, drop, length-map}
 use lib.Seq.{drop-append-add, drop-drop}
 use lib.Dec.{T, leb, lit<}
 use lib.Ieee.{Float}
-use Rattle.layout.specs.Lists.{below, join, part, written}
+use Rattle.layout.specs.Lists.{below, part, written}
 use Rattle.layout.specs.Problem.{Problem, withB, compact}
 use Rattle.layout.specs.Blocks.{compactRows, blockRowCount, overlapCount}
 use Rattle.layout.specs.Checks.{layout, checks, refusal}
 use Rattle.layout.specs.Compact.{compactB, rowValue}
-use Rattle.layout.specs.Answers.{Augmented, lengths, orElse, output, roomy, sizes}
+use Rattle.layout.specs.Answers.{Augmented, lengths, roomy, sizes}
 use Rattle.layout.proofs.Tests.{and-iff, leb-iff}
-use Rattle.layout.proofs.Accepted.{accepted-sound, accepted-checked}
+use Rattle.layout.proofs.Accepted.{accepted-checked}
 use Rattle.layout.proofs.Buffers.{output-kept}
 use Rattle.layout.proofs.Joins.{join-same}
 use Rattle.layout.proofs.Members.{has-below}
@@ -32,22 +32,17 @@ use Rattle.codes.specs.Codes.{cutCode, RowsInside}
 use Rattle.codes.proofs.Rows.{accepted-inside}
 use Rattle.sparsevector.specs.Values.{codeValue}
 use Rattle.sparsevector.proofs.Rows.{compact-values}
-use Rattle.compact_constraints.proofs.Laws.{codes-count}
 use Rattle.side_numbers.proofs.Laws.{told, another-room, only-side}
 use Rattle.right_sides.specs.Sides.{movedSides}
+use Rattle.layout.proofs.Sizes.{compact-b}
 
--- ---- the rows of a problem that the compact route accepts
+-- ---- the augmented rows of a problem that the compact route accepts
 
 module _ (p : Problem) (ok : refusal compact p ≡ 0) where
   few-rows : blockRowCount (layout p) ≤ 262144
   few-rows =
       let ps = layout p in
       leb-iff (blockRowCount ps) 262144 .0 (and-iff (leb (blockRowCount ps) 262144) (leb (overlapCount ps) 131072) .0 (passed 10 (checks compact p) tt ok) .0)
-
-  -- b is as long
-  rows-of-b : length (compactB p) ≡ blockRowCount (layout p)
-  rows-of-b =
-      length-map (compactRows (layout p)) (rowValue (p .b)) ∙ sym (length-map (compactRows (layout p)) cutCode) ∙ codes-count (accepted-sound compact p ok)
 
   inside : RowsInside (p .m) (map cutCode (compactRows (layout p)))
   inside = accepted-inside p ok (p .m) (le-refl (p .m))
@@ -85,15 +80,15 @@ module _ (p : Problem) (low high : List Float) (out : Limits) (done : limitsRefu
   pub low-taken : Taken compact (withB p low) (lengths (out .cut))
   low-taken = (low-accepted, rooms .1)
 
-  -- what the writer of high asks
+  -- the precondition of the writer of high
   pub high-asked : (k : ℕ) → k ≡ blockRowCount (layout p)
       → (k ≤ 262144) × ((1 * k ≤ length (out .high)) × (1 * p .m ≤ length high) × RowsInside (p .m) (map cutCode (compactRows (layout p))))
   high-asked k e = (
     omega (arith, e, few-rows (withB p low) low-accepted),
-    (omega (arith, e, rows-of-b (withB p low) low-accepted, leb-iff (length (compactB (withB p low))) (length (out .high)) .0 (rooms .0)), omega (arith, accepted-checked compact (withB p high) high-accepted .lengthB), inside (withB p low) low-accepted),
+    (omega (arith, e, compact-b (withB p low) low-accepted, leb-iff (length (compactB (withB p low))) (length (out .high)) .0 (rooms .0)), omega (arith, accepted-checked compact (withB p high) high-accepted .lengthB), inside (withB p low) low-accepted),
   )
 
-  -- and writes
+  -- what the writer of high writes
   pub high-written : (old : List Float) {new : List Float} → new ≡ written (movedSides (p .m) (map cutCode (compactRows (layout p))) high 1) old → new ≡ written (compactB (withB p high)) old
   high-written old w =
       let codes = map cutCode (compactRows (layout p)) in
@@ -102,7 +97,7 @@ module _ (p : Problem) (low high : List Float) (out : Limits) (done : limitsRefu
       ∙ ap (λ (b : List Float). map (codeValue b) codes) (only-side (p .m) high (accepted-checked compact (withB p high) high-accepted .lengthB))
       ∙ compact-values (withB p high) high-accepted)
 
--- ---- many sides
+-- ---- many right sides
 
 pub many-refused : (r : ℕ) → (r ≡ 0 → ⊥) → (count : ℕ) (p : Problem) (before : Augmented)
     → r ≡ sidesRefusal p count (p .b) (lengths before) → CutMany count p before before r
@@ -111,7 +106,7 @@ many-refused r n count p before e = record {
   tables = record { objective = objective-kept r n _ _; constrained = constrained-kept r n _ _; map = output-kept r _ _ n };
 }
 
--- the room of each output, and of those of which one needs less
+-- each output is long enough for its needed length, and stays so where one needed length is smaller
 room-at : (i : ℕ) (ks rs : List ℕ) → T (roomy ks rs) → i < length ks → getD ks i 0 ≤ getD rs i 0
 room-at i [] rs h l = absurd (omega (arith, l))
 room-at i (k ∷ ks) [] h l = absurd h
@@ -129,7 +124,7 @@ less-room (suc i) more (k ∷ ks) (r ∷ rs) h t =
     let (here, rest) = and-iff (leb k r) (roomy (set ks i more) rs) .0 t in
     and-iff (leb k r) (roomy ks rs) .1 (here, less-room i more ks rs h rest)
 
--- a longer list written over a shorter one
+-- writing a list over a shorter one leaves only the longer one
 written-over : {A : Type 0} (xs ys old : List A) → length ys ≤ length xs → written xs (written ys old) ≡ written xs old
 written-over {A = A} xs ys old l =
     let e : length xs ≡ length ys + (length xs - length ys) = omega (arith, l) in
@@ -169,22 +164,22 @@ module _ (count : ℕ) (p : Problem) (out : Augmented) (done : sidesRefusal p co
       let more : 1 * x ≤ count * x = mul-le-mul-right x (fit .some) in
       (first-accepted, less-room 7 (count * x) (sizes compact first) (lengths out) (omega (arith, more)) sides-room)
 
-  -- the first side is inside the list
+  -- the first right side lies within the list
   pub first-inside : p .m ≤ length (p .b)
   first-inside = let more : 1 * p .m ≤ count * p .m = mul-le-mul-right (p .m) (fit .some) in omega (arith, more, fit .filled)
 
-  -- what the writer of the sides asks
+  -- the precondition of the writer of the right sides
   pub sides-asked : (k : ℕ) → k ≡ blockRowCount (layout p)
       → (k ≤ 262144) × ((count * k ≤ length (out .b)) × (count * p .m ≤ length (p .b)) × RowsInside (p .m) (map cutCode (compactRows (layout p))))
   sides-asked k e =
       let x = length (compactB first) in
       let room : count * x ≤ length (out .b) = room-at 7 (set (sizes compact first) 7 (count * x)) (lengths out) sides-room (lit< tt) in
-      let same : k ≡ x = e ∙ sym (rows-of-b first first-accepted) in (
+      let same : k ≡ x = e ∙ sym (compact-b first first-accepted) in (
         omega (arith, e, few-rows first first-accepted),
         (subst (λ (j : ℕ). count * j ≤ length (out .b)) (sym same) room, le-of-eq (sym (fit .filled)), inside first first-accepted),
       )
 
-  -- and writes, over the first side's b
+  -- what the writer writes over the first side's b
   moved-sides : movedSides (p .m) (map cutCode (compactRows (layout p))) (p .b) count ≡ sidesB p count (p .b)
   moved-sides =
       let codes = map cutCode (compactRows (layout p)) in

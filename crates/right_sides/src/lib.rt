@@ -1,4 +1,4 @@
-// b of each of several right sides over the augmented rows of the compact cut.
+// Writes the augmented b of the compact cut for each of several right sides.
 ghost use mathlib.Core.Path.{_≡_};
 ghost use mathlib.Core.List.{map};
 ghost use Prim.Native.Nat.{_*_, _≤_};
@@ -12,7 +12,7 @@ ghost use Rattle.right_sides.specs.Sides.{movedSides};
 use constants::scratch;
 use tables::Table;
 
-// Writes the values of `count` sides of m values, one after another, to the augmented rows with these codes, side by side.
+// Writes the values of `count` right sides of `m` values each, taken from `sides`, to `out`: side after side, one value per row code in `codes`.
 fn move_sides(out: &mut [f64], codes: &[u32], m: usize, sides: &[f64], count: u32)
     requires { ⌜ (count * length (now codes) ≤ length (now out)) × (count * m ≤ length (now sides)) × RowsInside m (now codes) ⌝ }
     ensures { λ _. ⌜ now (out .exit) ≡ written (movedSides m (now (codes .entry)) (now (sides .entry)) count) (now (out .entry)) ⌝ }
@@ -28,7 +28,7 @@ fn move_sides(out: &mut [f64], codes: &[u32], m: usize, sides: &[f64], count: u3
     }
 }
 
-// Writes b of each side by the codes of the `rows` augmented rows, which it writes to their table once.
+// Writes the row codes of the `rows` augmented rows to `table` once, and then the augmented b of each right side to `out`.
 fn sides_by_table(
     m: u32,
     cones: &[u32],
@@ -49,8 +49,8 @@ fn sides_by_table(
     move_sides(out, &table[..rows], m as usize, sides, side_count);
 }
 
-// Writes b of `side_count` sides over more augmented rows than `write_sides` has a table for. It is called from two places, and does enough
-// itself, so that the compiler gives it a frame of its own, which a small problem never enters and which is left before the next call.
+// Writes the augmented b of `side_count` right sides where `write_sides` has too small a table. It is called from two places and does enough
+// itself to be compiled with its own stack frame: a small problem never enters this frame, and it is left before the next call.
 fn with_large_table(
     m: u32,
     cones: &[u32],
@@ -110,8 +110,8 @@ fn with_large_table(
     );
 }
 
-// Writes b of `side_count` sides of m values over the `rows` augmented rows of accepted cones and patterns, side by side. A small problem
-// has a small table.
+// Writes the augmented b of `side_count` right sides of `m` values each, over the `rows` augmented rows of accepted cones and patterns, to `out`,
+// side after side. Small problems use a small table.
 pub fn write_sides(
     m: u32,
     cones: &[u32],

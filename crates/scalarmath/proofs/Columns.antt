@@ -1,4 +1,4 @@
--- The column of an index t below triangle 256, from the integer root of 8t + 1.
+-- The column of an svec index t below triangle 256, from the integer root of 8t + 1.
 use Prim.Native.Nat.{ℕ, zero, suc, _+_, _-_, _*_, _/_, _≤_, _<_}
 use native.Mathlib.Nat.{mul-le-mul}
 use native.Mathlib.Omega.{arith}

@@ -8,13 +8,13 @@ use lib.Pow.{pow-pos, pow-mono, pow-add}
 use lib.Count.{leadingZeros, leading-length}
 use Rattle.layout.proofs.Tests.{lt-or-le}
 
--- v is below the square after r, so r is no smaller than the root
+-- v is below the square of r + 1, so r is at least the root
 abbrev pub Reaches : ℕ → ℕ → Type 0
 Reaches v r = v < (r + 1) * (r + 1)
 
 -- ---- the first guess
 
--- 2 ^ 16, halved once for each two leading zeros
+-- 2 ^ 16, halved once for every two leading zeros
 abbrev pub guess : ℕ → ℕ
 guess v = 65536 / 2 ^ (leadingZeros 32 v / 2)
 

@@ -1,4 +1,4 @@
-// Where each column of the packed upper triangle starts, as the standard layout prints it: one number a line, column 0 first.
+// The start of each column in the packed upper triangle, as the standard layout prints it: one number per line, column 0 first.
 ghost use mathlib.Core.Path.{_≡_};
 ghost use Prim.Native.Nat.{_≤_};
 ghost use Rattle.layout.specs.Triangle.{triangle};
@@ -262,6 +262,7 @@ const COLUMN_STARTS: [u32; 256] = [
     32640,
 ];
 
+// Returns the svec index of the first entry of column `j`.
 pub fn column_start(j: u32) -> u32
     requires { ⌜ j ≤ 255 ⌝ }
     ensures { λ r. ⌜ r ≡ triangle j ⌝ }

@@ -1,6 +1,6 @@
-// clarabel's algebra/scalarmath.rs: triangular numbers, the exact integer root, and pairs against their
-// places in the packed upper triangle. The Rust's triangular_index(k - 1) + 1 is triangular_number(k)
-// here, so that column 0 needs no case of its own.
+// clarabel's algebra/scalarmath.rs: triangular numbers, the exact integer root, and the svec index of a pair (its
+// index in the packed upper triangle) and back. The Rust's triangular_index(k - 1) + 1 is triangular_number(k)
+// here, so that column 0 needs no special case.
 mod column_starts;
 
 ghost use mathlib.Core.Path.{_≡_};
@@ -11,7 +11,7 @@ ghost use Rattle.layout.specs.Calls.PairBack.{PairBack};
 use constants::limit;
 use constants::refusal;
 
-// The number of pairs i <= j < k, which is also where column k starts.
+// Returns the number of pairs i <= j < `k`, which is also the svec index where column `k` starts.
 pub fn triangular_number(k: u32) -> u32
     requires { ⌜ k ≤ 65535 ⌝ }
     ensures { λ r. ⌜ r ≡ triangle k ⌝ }
@@ -19,8 +19,8 @@ pub fn triangular_number(k: u32) -> u32
     (k * (k + 1)) >> 1
 }
 
-// The largest r with r * r <= v, by Newton's iteration. The leading zeros of v give the first guess, a
-// power of two whose square is above v; a guess falls while its square is above v, and not below the root.
+// Returns the largest r with r * r <= `v`, by Newton's iteration. The leading zeros of `v` give the first guess, a
+// power of two whose square is above `v`; guesses fall while their square is above `v`, but never below the root.
 pub fn isqrt(v: u32) -> u32
     ensures { λ r. ⌜ (r * r ≤ v) × (v < (r + 1) * (r + 1)) ⌝ }
 {
@@ -36,7 +36,7 @@ pub fn isqrt(v: u32) -> u32
     r
 }
 
-// The place of the pair (i, j), in either order: its row after the start of its column.
+// Returns the svec index of the pair (`i`, `j`), in either order: the start of its column plus its row.
 pub fn coord_to_upper_triangular_index(i: u32, j: u32) -> u32
     requires { ⌜ (i ≤ 255) × (j ≤ 255) ⌝ }
     ensures { λ r. ⌜ r ≡ pairIndex i j ⌝ }
@@ -53,7 +53,7 @@ pub struct Coord {
     pub col: u32,
 }
 
-// The pair that stands at the place index.
+// Returns the pair at the svec index `index`.
 pub fn upper_triangular_index_to_coord(index: u32) -> Coord
     requires { ⌜ index ≤ 32895 ⌝ }
     ensures { λ r. ⌜ (r .row ≡ indexRow index) × (r .col ≡ indexColumn index) ⌝ }
@@ -65,7 +65,7 @@ pub fn upper_triangular_index_to_coord(index: u32) -> Coord
     }
 }
 
-// The public call: the place of the pair (i, j) to out[0].
+// Writes the svec index of the pair (`i`, `j`) to `out[0]`. Public call; returns the refusal number, or 0.
 pub fn pair_index(i: u32, j: u32, out: &mut [u32]) -> u32
     ensures { λ r. ⌜ PairIndex i j (now (out .entry)) (now (out .exit)) r ⌝ }
 {
@@ -82,7 +82,7 @@ pub fn pair_index(i: u32, j: u32, out: &mut [u32]) -> u32
     refusal::DONE
 }
 
-// The public call: the row of the place index to out[0], its column to out[1].
+// Writes the row of the svec index `index` to `out[0]` and its column to `out[1]`. Public call; returns the refusal number, or 0.
 pub fn pair_back(index: u32, out: &mut [u32]) -> u32
     ensures { λ r. ⌜ PairBack index (now (out .entry)) (now (out .exit)) r ⌝ }
 {

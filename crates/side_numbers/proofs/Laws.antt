@@ -1,8 +1,8 @@
--- The order of the checks with several right sides, the room of another b, and a single side of a list.
+-- The order of the checks with several right sides, check 11 with another b, and a list of a single right side.
 use Prim.Native.Nat.{ℕ, zero, suc, _+_, _-_, _*_, _≤_}
 use native.Mathlib.Nat.{le-of-suc-le-suc, zero-mul}
 use native.Mathlib.Omega.{arith}
-use mathlib.Core.Path.{_≡_, refl, sym, ap, _∙_}
+use mathlib.Core.Path.{_≡_, refl, ap, _∙_}
 use mathlib.Core.Bool.{Bool, true, false, cond, _&&_}
 use mathlib.Core.List.{List, [], _∷_, _++_}
 use lib.ListN.{length, take, drop}
@@ -21,7 +21,7 @@ pub told : (t : Bool) (k : ℕ) → cond t 0 (suc k) ≡ 0 → T t
 told true k e = tt
 told false k e = absurd (omega arith)
 
--- ---- checks 1 to 7 and 16
+-- ---- checks 1 to 7 and 16 with limits
 
 module _ (r m : ℕ) (low high : List Float) where
   pub limits-length : cond (leb r 4) r 0 ≡ 0 → ¬ (length high ≡ m) → limitsOrder r m low high ≡ 4
@@ -30,14 +30,14 @@ module _ (r m : ℕ) (low high : List Float) where
   pub limits-late : cond (leb r 4) r 0 ≡ 0 → length high ≡ m → limitsOrder r m low high ≡ orElse (cond (atMost low high) 0 16) r
   limits-late e h = rw (e, eq-eqb (length high) m h)
 
-  -- what they say where none fails
+  -- what holds where none of them fails
   pub limits-passed : limitsOrder r m low high ≡ 0 → (r ≡ 0) × (length high ≡ m)
   limits-passed e =
       let (a, b) = both-zero (cond (leb r 4) r 0) (orElse (cond (eqb (length high) m) 0 4) (orElse (cond (atMost low high) 0 16) r)) e in
       let (c, d) = both-zero (cond (eqb (length high) m) 0 4) (orElse (cond (atMost low high) 0 16) r) b in
       (both-zero (cond (atMost low high) 0 16) r d .1, eqb-iff (length high) m .0 (told (eqb (length high) m) 3 c))
 
--- ---- checks 1 to 7 of many sides
+-- ---- checks 1 to 7 of several right sides
 
 module _ (r m count size : ℕ) where
   pub sides-length : cond (leb r 3) r 0 ≡ 0 → ¬ (size ≡ count * m) → sidesOrder r m count size ≡ 4
@@ -46,14 +46,14 @@ module _ (r m count size : ℕ) where
   pub sides-late : cond (leb r 3) r 0 ≡ 0 → size ≡ count * m → sidesOrder r m count size ≡ r
   sides-late e h = rw (e, eq-eqb size (count * m) h)
 
-  -- what they say where none fails
+  -- what holds where none of them fails
   pub sides-passed : sidesOrder r m count size ≡ 0 → (r ≡ 0) × (size ≡ count * m)
   sides-passed e =
       let (a, b) = both-zero (cond (leb r 3) r 0) (orElse (cond (eqb size (count * m)) 0 4) r) e in
       let (c, d) = both-zero (cond (eqb size (count * m)) 0 4) r b in
       (d, eqb-iff size (count * m) .0 (told (eqb size (count * m)) 3 c))
 
--- ---- the room of another b
+-- ---- check 11 with another b
 
 swap : (a b c : Bool) → (a && (b && c)) ≡ (b && (a && c))
 swap true b c = refl
@@ -75,7 +75,7 @@ pub another-room : (k room : ℕ) (ks rooms : List ℕ) → 8 ≤ length ks → 
     → roomy (withAnother k ks) (withAnother room rooms) ≡ (leb k room && roomy ks rooms)
 another-room k room ks rooms h l = another 8 k room ks rooms h l
 
--- ---- a single side of a list
+-- ---- a list of a single right side
 
 pub only-side : (m : ℕ) (b : List Float) → length b ≡ m → part (0 * m) (0 * m + m) b ≡ b
 only-side m b e =

@@ -1,8 +1,7 @@
-// The refusal numbers of a compact cut with several right sides, in order: each is chosen from what single checks gave.
+// The refusal numbers of a compact cut with several right sides: puts the numbers of the single checks in the order of document 02.
 ghost use mathlib.Core.Path.{_≡_};
 ghost use mathlib.Core.Bool.{cond, _&&_};
 ghost use Prim.Native.Nat.{_≤_};
-ghost use lib.ListN.{length};
 ghost use lib.Dec.{leb};
 ghost use Rattle.layout.specs.Answers.{orElse};
 ghost use Rattle.layout.specs.Between.{atMost};
@@ -10,12 +9,12 @@ ghost use Rattle.side_numbers.specs.Order.{limitsOrder, sidesOrder};
 use constants::refusal;
 use covered_rows::Covered;
 
-// How many right sides one call takes.
+// The largest number of right sides in one call.
 const MOST_SIDES: u32 = 64;
 
-// ---- numbers in order
+// ---- the order of numbers
 
-// The first of two numbers that is not 0.
+// Returns `first`, or `second` where `first` is 0.
 fn first_of(first: u32, second: u32) -> u32
     ensures { λ r. ⌜ r ≡ orElse first second ⌝ }
 {
@@ -25,7 +24,7 @@ fn first_of(first: u32, second: u32) -> u32
     second
 }
 
-// A number that is at most `most`, and otherwise 0.
+// Returns `number` where it is at most `most`, and 0 otherwise.
 fn up_to(number: u32, most: u32) -> u32
     ensures { λ r. ⌜ r ≡ cond (leb number most) number 0 ⌝ }
 {
@@ -35,7 +34,7 @@ fn up_to(number: u32, most: u32) -> u32
     0
 }
 
-// Number 9 where a right side is not right.
+// Returns 9 where check 9 failed for a right side, and 0 where it passed (`right`).
 fn nine(right: bool) -> u32
     ensures { λ r. ⌜ r ≡ cond right 0 9 ⌝ }
 {
@@ -47,7 +46,7 @@ fn nine(right: bool) -> u32
 
 // ---- limits of a right side
 
-// Each value of `low` is at most that of `high`; a NaN is not.
+// Returns whether the lists are equally long and each value of `low` is at most the one of `high`; false where either is NaN.
 fn at_most(low: &[f64], high: &[f64]) -> bool
     ensures { λ r. ⌜ r ≡ atMost (now (low .entry)) (now (high .entry)) ⌝ }
 {
@@ -65,7 +64,7 @@ fn at_most(low: &[f64], high: &[f64]) -> bool
     true
 }
 
-// Check 16, 16 or 0.
+// Makes check 16. Returns 16 or 0.
 fn check_limits(low: &[f64], high: &[f64]) -> u32
     ensures { λ r. ⌜ r ≡ cond (atMost (now (low .entry)) (now (high .entry))) 0 16 ⌝ }
 {
@@ -75,7 +74,8 @@ fn check_limits(low: &[f64], high: &[f64]) -> u32
     refusal::LIMITS
 }
 
-// Checks 1 to 7 with limits, where those with `low` alone gave the number r: the length of `high` belongs to 4, and 16 comes after it.
+// Makes checks 1 to 7 and 16 with limits, where checks 1 to 7 with `low` alone gave the number `r`: the length of `high` belongs to 4, and 16 comes
+// after 4. Returns the first number that is not 0, or 0.
 pub fn refuse_limits(r: u32, m: u32, low: &[f64], high: &[f64]) -> u32
     ensures { λ t. ⌜ t ≡ limitsOrder r m (now (low .entry)) (now (high .entry)) ⌝ }
 {
@@ -89,7 +89,8 @@ pub fn refuse_limits(r: u32, m: u32, low: &[f64], high: &[f64]) -> u32
     first_of(check_limits(low, high), r)
 }
 
-// Checks 9 and 10 with limits, where 10 gave the number `ten`: 9 of low, then of high. Returns the first number that is not 0, or 0.
+// Makes checks 9 and 10 with limits, where check 10 gave the number `ten`: 9 for low, then 9 for high, then 10. Returns the first number that is
+// not 0, or 0.
 pub fn refuse_limits_rows(c: Covered, ten: u32) -> u32
     ensures { λ r. ⌜ r ≡ orElse (cond (c .first) 0 9) (orElse (cond (c .further) 0 9) ten) ⌝ }
 {
@@ -98,7 +99,7 @@ pub fn refuse_limits_rows(c: Covered, ten: u32) -> u32
 
 // ---- many right sides
 
-// Check 1 of a count of right sides, 1 or 0.
+// Makes check 1 of a number of right sides. Returns 1 or 0.
 pub fn check_count(count: u32) -> u32
     ensures { λ r. ⌜ r ≡ cond (leb 1 count && leb count 64) 0 1 ⌝ }
 {
@@ -111,7 +112,8 @@ pub fn check_count(count: u32) -> u32
     refusal::DONE
 }
 
-// Checks 1 to 7 of many sides, where those of the first side alone gave the number r: the length of the whole list belongs to 4.
+// Makes checks 1 to 7 of `count` right sides, where those with the first side alone gave the number `r`: the length `size` of the whole list belongs
+// to 4. Returns the first number that is not 0, or 0.
 pub fn refuse_lengths(r: u32, m: u32, count: u32, size: usize) -> u32
     requires { ⌜ count ≤ 64 ⌝ }
     ensures { λ t. ⌜ t ≡ sidesOrder r m count size ⌝ }
@@ -126,21 +128,21 @@ pub fn refuse_lengths(r: u32, m: u32, count: u32, size: usize) -> u32
     r
 }
 
-// Checks 9 and 10 of the first of many sides, where 10 gave the number `ten`. Returns the first number that is not 0, or 0.
+// Makes checks 9 and 10 of the first of several right sides, where check 10 gave the number `ten`. Returns the first number that is not 0, or 0.
 pub fn refuse_first(c: Covered, ten: u32) -> u32
     ensures { λ r. ⌜ r ≡ orElse (cond (c .first) 0 9) ten ⌝ }
 {
     first_of(nine(c.first), ten)
 }
 
-// Check 9 of the sides after the first, then 11, which gave the number `eleven`. Returns the first number that is not 0, or 0.
+// Makes check 9 of the right sides after the first, then check 11, which gave the number `eleven`. Returns the first number that is not 0, or 0.
 pub fn refuse_further(c: Covered, eleven: u32) -> u32
     ensures { λ r. ⌜ r ≡ orElse (cond (c .further) 0 9) eleven ⌝ }
 {
     first_of(nine(c.further), eleven)
 }
 
-// How long the first side is in a list of this size: m, or less where the list is shorter.
+// Returns the length of the first right side in a list of length `size`: `m`, or `size` where the list is shorter.
 pub fn first_size(m: u32, size: usize) -> usize
     ensures { λ r. ⌜ r ≡ cond (leb m size) m size ⌝ }
 {

@@ -1,4 +1,4 @@
--- What checks 1 to 7 say of the tables.
+-- Bounds that checks 1 to 7 give on the tables.
 use Prim.Native.Nat.{suc}
 use native.Mathlib.Nat.{le-of-eq}
 use native.Mathlib.Omega.{arith}

@@ -1,29 +1,23 @@
--- The number of the cut with limits, as checks 1 to 7 with low, the length of high, 16, then 9 and 10 and the room give it.
+-- The refusal number of the cut with limits: checks 1 to 7 with low, the length of high, 16, then 9, 10 and 11.
 use Prim.Native.Nat.{ℕ, zero, suc, _+_, _-_, _*_}
-use native.Mathlib.Nat.{zero-mul}
-use native.Mathlib.Omega.{arith}
-use mathlib.Core.Path.{_≡_, refl, sym, ap, ap₂, _∙_}
+use mathlib.Core.Path.{_≡_, refl, sym, ap, _∙_}
 use mathlib.Core.Bool.{Bool, true, false, cond, _&&_, and-true}
 use mathlib.Core.List.{List, [], _∷_}
-use lib.ListN.{length, getD, take, drop}
-use lib.Seq.{take-all}
-use lib.Dec.{T, leb, eqb}
+use lib.ListN.{length, getD}
+use lib.Dec.{leb, eqb}
 use lib.Ieee.{Float}
-use borrow.Author.Tests.{eq-eqb, ne-eqb}
 use Rattle.layout.specs.Lists.{part}
 use Rattle.layout.specs.Problem.{Problem, withB, compact}
 use Rattle.layout.specs.Checks.{layout, coveredRows, valuesOn, check9, check10, check, firstFailing}
 use Rattle.layout.specs.Answers.{orElse, roomy, problemRefusal, sizes}
-use Rattle.layout.proofs.Tests.{eqb-iff}
 use Rattle.layout.specs.Between.{atMost, limitsFailing, limitsSizes, limitsRefusal}
 use Rattle.layout.proofs.OtherSide.{covers}
 use Rattle.layout.proofs.Between.{limits-in-order, limits-sizes}
-use Rattle.checks.proofs.Order.{first-given, both-zero}
 use Rattle.covered_rows.specs.Covered.{sidesOn}
 use Rattle.side_numbers.specs.Order.{withAnother, limitsOrder}
 use Rattle.side_numbers.proofs.Laws.{only-side}
 
--- ---- numbers in order
+-- ---- refusal numbers in order
 
 regroup : (a b c d e : ℕ) → orElse a (orElse b (orElse c (orElse d e))) ≡ orElse (orElse a (orElse b (orElse c d))) e
 regroup zero zero zero d e = refl
@@ -31,18 +25,18 @@ regroup zero zero (suc c) d e = refl
 regroup zero (suc b) c d e = refl
 regroup (suc a) b c d e = refl
 
--- the first of three that is given
-given-first : (a b c x : ℕ) → x ≡ a → (x ≡ 0 → ⊥) → x ≡ orElse (orElse a b) c
+-- the first of three numbers, where it is not 0
+pub given-first : (a b c x : ℕ) → x ≡ a → (x ≡ 0 → ⊥) → x ≡ orElse (orElse a b) c
 given-first zero b c x e n = absurd (n e)
 given-first (suc a) b c x e n = e
 
--- check 9 of two right sides, then check 10
+-- check 9 on two right sides, then check 10
 pub nines : (a b c : Bool) → orElse (cond a 0 9) (orElse (cond b 0 9) (cond c 0 10)) ≡ firstFailing (check 9 (a && b) ∷ check 10 c ∷ [])
 nines true true c = refl
 nines true false c = refl
 nines false b c = refl
 
--- ---- a single side of a list
+-- ---- a single right side as a list of sides
 
 pub only-covers : (p : Problem) (b : List Float) → length b ≡ p .m → sidesOn (coveredRows (layout p)) (p .m) 0 1 b ≡ covers p b
 only-covers p b e =
@@ -64,11 +58,11 @@ module _ (p : Problem) (low high : List Float) where
   abbrev room : List ℕ → ℕ
   room rooms = cond (roomy (limitsSizes p low high) rooms) 0 11
 
-  -- one of checks 1 to 7 fails, or 16
+  -- refused by one of checks 1 to 7, or by 16
   pub stopped-early : (rooms : List ℕ) (t : ℕ) → t ≡ limitsOrder (problemRefusal (withB p low)) (p .m) low high → (t ≡ 0 → ⊥) → t ≡ limitsRefusal p low high rooms
   stopped-early rooms t e n = given-first early later (room rooms) t e n ∙ ap (λ (k : ℕ). orElse k (room rooms)) (sym in-order)
 
-  -- then check 9 or 10
+  -- refused by check 9 or 10, once these have passed
   module _ (passed : limitsOrder (problemRefusal (withB p low)) (p .m) low high ≡ 0) where
     then-later : limitsFailing p low high ≡ later
     then-later = in-order ∙ ap (λ (k : ℕ). orElse k later) passed
@@ -87,7 +81,7 @@ module _ (p : Problem) (low high : List Float) where
         → t ≡ 0 → limitsFailing p low high ≡ 0
     accepted-limits t e z = then-later ∙ sym e ∙ z
 
-  -- then the room
+  -- refused by check 11 or not at all, once 9 and 10 have passed
   pub by-rooms : limitsFailing p low high ≡ 0 → (needs rooms : List ℕ) → needs ≡ sizes compact (withB p low)
       → cond (roomy (withAnother (getD needs 7 0) needs) rooms) 0 11 ≡ limitsRefusal p low high rooms
   by-rooms ok needs rooms e =

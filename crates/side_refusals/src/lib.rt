@@ -1,4 +1,4 @@
-// The refusals of the compact cut with several right sides, in order: with limits, and with many sides.
+// The refusals, in order, of the compact cut with more than one right side: with low and high limits, and with many right sides.
 ghost use mathlib.Core.Path.{_≡_};
 ghost use mathlib.Core.Bool.{cond};
 ghost use Prim.Native.Nat.{_*_, _≤_, _<_};
@@ -14,13 +14,12 @@ ghost use Rattle.side_refusals.specs.Tables.{TablesFew};
 use constants::refusal;
 use constants::route;
 
-// The compact route.
-// Where b stands among the outputs of a cut.
+// The index of b among the outputs of a cut.
 const RIGHT_SIDE: usize = 7;
 
-// ---- what each output needs
+// ---- required lengths of the outputs
 
-// The length of each output of a single compact cut, from the counts of accepted blocks.
+// Writes to `out` the required length of each output of a single compact cut, from the counts of rows, overlaps and cones of accepted blocks.
 fn cut_needs(
     n: u32,
     m: u32,
@@ -57,7 +56,8 @@ fn cut_needs(
 
 // ---- limits of a right side
 
-// Check 11 with limits: the room of `high` beside those of a single cut's outputs.
+// Makes check 11 of the cut with limits: `high_room` is compared with the length of b in a single cut, and `rooms` with `needs`.
+// Returns 11 or 0.
 fn check_limits_rooms(needs: &[u32], rooms: &[usize], high_room: usize) -> u32
     requires { ⌜ (8 ≤ length (now needs)) × (8 ≤ length (now rooms)) ⌝ }
     ensures { λ r. ⌜ r ≡ cond (roomy (withAnother (getD (now (needs .entry)) 7 0) (now (needs .entry))) (withAnother «high_room» (now (rooms .entry)))) 0 11 ⌝ }
@@ -68,8 +68,8 @@ fn check_limits_rooms(needs: &[u32], rooms: &[usize], high_room: usize) -> u32
     utils::check_rooms(needs, rooms)
 }
 
-// Checks 1 to 11 of the cut with limits in order: the number of the first that fails, or 0. `rooms` has the room of each output of the
-// cut with `low`, `high_room` that of the augmented `high`.
+// Makes checks 1 to 11 of the cut with limits in order. `rooms` holds the length of each output of the cut with `low`, `high_room` that of
+// the augmented `high`. Returns the number of the first check that fails, or 0.
 pub fn refuse_between(
     n: u32,
     m: u32,
@@ -139,7 +139,7 @@ pub fn refuse_between(
 
 // ---- many right sides
 
-// Check 11 of many sides: b needs its length in a single cut once for each side.
+// Makes check 11 for `count` right sides: multiplies the length of b in `needs` by `count`, then compares. Returns 11 or 0.
 fn check_sides_rooms(needs: &mut [u32], count: u32, rooms: &[usize]) -> u32
     requires { ⌜ (8 ≤ length (now needs)) × (count * getD (now needs) 7 0 < 4294967296) ⌝ }
     ensures { λ r. ⌜ r ≡ cond (roomy (set (now (needs .entry)) 7 (count * getD (now (needs .entry)) 7 0)) (now (rooms .entry))) 0 11 ⌝ }
@@ -148,7 +148,8 @@ fn check_sides_rooms(needs: &mut [u32], count: u32, rooms: &[usize]) -> u32
     utils::check_rooms(needs, rooms)
 }
 
-// Checks 1 to 11 of 1 to 64 sides in order, the first of which is lent by itself too: of a further side only check 9 looks at the values.
+// Makes checks 1 to 11 for 1 to 64 right sides in order; `first` is the first of `sides`. For further sides only check 9 depends on the
+// values. Returns the number of the first check that fails, or 0.
 fn refuse_sides(
     count: u32,
     n: u32,
@@ -227,7 +228,8 @@ fn refuse_sides(
     side_numbers::refuse_further(c, room)
 }
 
-// Checks 1 to 11 of the cut with many sides in order: the number of the first that fails, or 0.
+// Makes checks 1 to 11 of the cut with `count` right sides in order, `count` itself included. Returns the number of the first check that
+// fails, or 0.
 pub fn refuse_many(
     count: u32,
     n: u32,

@@ -1,4 +1,4 @@
--- For the codes of right rows, the values written are those of the compact cut's b.
+-- For the row codes of an accepted problem, the values written are those of the compact cut's b.
 use Prim.Native.Nat.{_+_, _≤_, _<_}
 use native.Mathlib.Omega.{arith}
 use mathlib.Core.Path.{_≡_, refl, ap₂}
@@ -25,6 +25,6 @@ row-values b (x ∷ R) h =
     let (here, rest) = every-cons (kept 0) (λ x. originalRow x < 65536) x R .0 h in
     ap₂ (λ (v : Float) (vs : List Float). v ∷ vs) (row-value b x here) (row-values b R rest)
 
--- what a caller cites
+-- the values by the codes of the compact rows are the augmented b
 pub compact-values : (p : Problem) → refusal compact p ≡ 0 → map (codeValue (p .b)) (map cutCode (compactRows (layout p))) ≡ compactB p
 compact-values p ok = row-values (p .b) (compactRows (layout p)) (accepted-small p ok)

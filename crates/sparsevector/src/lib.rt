@@ -1,4 +1,4 @@
-// b over the augmented rows: its values that are not zero move to their rows, and +0.0 stands on all others.
+// b over the augmented rows: values other than zero move to the rows that own them, and all other rows get +0.0.
 ghost use mathlib.Core.Path.{_≡_};
 ghost use mathlib.Core.List.{map};
 ghost use Prim.Native.Nat.{_≤_};
@@ -8,7 +8,7 @@ ghost use Rattle.codes.specs.Codes.{RowInside, RowsInside};
 ghost use Rattle.sparsevector.specs.Values.{codeValue};
 use codes::FIRST_OVERLAP;
 
-// The value on a row with this code: a zero of either sign becomes +0.0, a NaN is kept.
+// Returns the value of `b` at an augmented row with this `code`: +0.0 at an overlap; a zero of either sign becomes +0.0, and a NaN is kept.
 pub fn code_value(code: u32, b: &[f64]) -> f64
     requires { ⌜ RowInside (length (now b)) code ⌝ }
     ensures { λ r. ⌜ r ≡ codeValue (now (b .entry)) code ⌝ }
@@ -23,7 +23,7 @@ pub fn code_value(code: u32, b: &[f64]) -> f64
     v
 }
 
-// Writes b's values to the augmented rows.
+// Writes to `out` the value of `b` at each augmented row, given by its code in `codes`.
 pub fn move_values(out: &mut [f64], codes: &[u32], b: &[f64])
     requires { ⌜ (length (now codes) ≤ length (now out)) × RowsInside (length (now b)) (now codes) ⌝ }
     ensures { λ _. ⌜ now (out .exit) ≡ written (map (codeValue (now (b .entry))) (now (codes .entry))) (now (out .entry)) ⌝ }

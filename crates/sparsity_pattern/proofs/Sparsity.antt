@@ -1,4 +1,4 @@
--- Check 5 as walks over the patterns.
+-- Check 5 as loops over the patterns.
 use Prim.Native.Nat.{ℕ, suc}
 use native.Mathlib.Omega.{arith}
 use mathlib.Core.Bool.{Bool, true, _&&_}
@@ -8,7 +8,7 @@ use lib.Dec.{leb, ltb}
 use borrow.Author.Tests.{le-leb}
 use Rattle.layout.specs.Lists.{rises}
 
--- ---- rising numbers, none of them below the least
+-- ---- strictly increasing numbers, none below `least`
 
 abbrev pub risesFrom : ℕ → List ℕ → Bool
 risesFrom least [] = true

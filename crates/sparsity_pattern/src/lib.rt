@@ -1,15 +1,15 @@
-// Check 5: pattern words end right, name their PSD cones in order, and their orderings are permutations.
+// Check 5: the pattern words are complete, name their PSD cones in increasing order, and have permutations as orderings.
 ghost use mathlib.Core.Path.{_≡_};
 ghost use mathlib.Core.Bool.{true};
 ghost use lib.ListN.{drop};
 ghost use Rattle.layout.specs.Lists.{all};
 ghost use Rattle.layout.specs.Checks.{originsRise, patternsRead};
 ghost use Rattle.layout.specs.Patterns.{readPattern, readPatterns, patterns, endsRight};
-ghost use Rattle.supernode_tree.specs.Reads.{whole, patternAt};
+ghost use Rattle.supernode_tree.specs.Reads.{isWhole, patternAt};
 ghost use Rattle.sparsity_pattern.specs.Sparsity.{patternRight};
 use supernode_tree::Pattern;
 
-// Each orig_index is above the one before it.
+// Returns whether each pattern's `orig_index` is above the one before it.
 fn origins_rise(count: u32, words: &[u32]) -> bool
     requires { ⌜ endsRight (readPatterns count (now words)) ≡ true ⌝ }
     ensures { λ r. ⌜ r ≡ originsRise (patterns count (now (words .entry))) ⌝ }
@@ -30,10 +30,10 @@ fn origins_rise(count: u32, words: &[u32]) -> bool
     true
 }
 
-// The pattern at an offset names a PSD cone of its dimension, and its ordering is a permutation: a short one, since check 1
+// Returns whether the pattern at word `at` names a PSD cone of its dimension and its ordering is a permutation, which is short, since check 1
 // bounds the dimension by 256.
 fn pattern_right(cones: &[u32], words: &[u32], at: usize) -> bool
-    requires { ⌜ whole (readPattern (drop at (now words))) ≡ true ⌝ }
+    requires { ⌜ isWhole (readPattern (drop at (now words))) ≡ true ⌝ }
     ensures { λ r. ⌜ r ≡ patternRight (now (cones .entry)) (patternAt (now (words .entry)) at) ⌝ }
 {
     let p = Pattern::here(words, at);
@@ -45,7 +45,7 @@ fn pattern_right(cones: &[u32], words: &[u32], at: usize) -> bool
     utils::is_short_permutation(&words[a..e])
 }
 
-// Each pattern names a PSD cone of its dimension, and its ordering is a permutation.
+// Returns whether each pattern names a PSD cone of its dimension and its ordering is a permutation.
 fn patterns_right(cones: &[u32], count: u32, words: &[u32]) -> bool
     requires { ⌜ endsRight (readPatterns count (now words)) ≡ true ⌝ }
     ensures { λ r. ⌜ r ≡ all (patternRight (now (cones .entry))) (patterns count (now (words .entry))) ⌝ }
@@ -62,7 +62,7 @@ fn patterns_right(cones: &[u32], count: u32, words: &[u32]) -> bool
     true
 }
 
-// Check 5. Words that end early are found before any of their counts is used.
+// Returns whether check 5 passes. Words that end early are found before any of their counts is used.
 pub fn check_patterns(cones: &[u32], count: u32, words: &[u32]) -> bool
     ensures { λ r. ⌜ r ≡ patternsRead (now (cones .entry)) count (now (words .entry)) ⌝ }
 {

@@ -1,4 +1,4 @@
--- The patterns of NaNs: those above infinity's.
+-- The bit patterns of NaNs: those above the pattern of infinity.
 use Prim.Native.Nat.{ℕ, _%_, _≤_, _<_}
 use mathlib.Core.Path.{_≡_}
 use mathlib.Core.Bool.{not}

@@ -1,4 +1,4 @@
--- The front of an output, as long as a list: all of the output where the list is longer.
+-- The prefix of an output that is as long as a list; all of the output where the list is longer.
 use Prim.Native.Nat.{ℕ, _+_, _≤_, _<_}
 use native.Mathlib.Omega.{arith}
 use mathlib.Core.Path.{_≡_, refl, sym, _∙_}

@@ -1,4 +1,4 @@
--- Two doubles are alike bit for bit, save for which NaN.
+-- Whether two doubles are equal bit for bit, all NaNs being equal.
 use mathlib.Core.Bool.{Bool, not, _&&_, cond}
 use lib.Dec.{eqb}
 use lib.Ieee.{Float, binary64, isNan, toBits}

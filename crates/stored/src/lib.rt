@@ -1,11 +1,11 @@
-// Stored answers. A file is text of hexadecimal numbers, 8 digits for a u32 and 16 for an f64's bits, each
-// with one byte after it, a space or a line's end. So a number is one read, and the descriptor is the cursor.
+// Reads and compares stored answers. A file is text of hexadecimal numbers, 8 digits for a u32 and 16 for the bits of an f64, each
+// followed by one byte, a space or a line feed. So each number is one read, and the file descriptor is the cursor.
 //
-// It begins with how many cases it has. A case is how many lists of u32 it has, then each list: its length
-// and its numbers; then the same of its lists of f64. A case is held in a buffer of u32 and one of f64, in
-// which its lists lie one after the other. Those of u32 are numbered from 0 and those of f64 from 16, and word
-// k of the first buffer says where list k starts: it ends where the next one starts. No contract can say what
-// a file holds, so the functions that read promise no more than bounds and lengths.
+// A file begins with its number of cases. A case is its number of u32 lists, then each list as its length
+// and its numbers; then the same for its f64 lists. A case is kept in a u32 buffer and an f64 buffer, its lists
+// one after the other. The u32 lists are numbered from 0 and the f64 lists from 16; word k of the u32 buffer is
+// the start of list k, which ends where list k + 1 starts. No contract can say what a file contains, so the
+// functions that read one promise only bounds and lengths.
 ghost use mathlib.Core.Path.{_≡_};
 ghost use Prim.Native.Nat.{_<_, _≤_};
 ghost use lib.ListN.{length, take, getD};
@@ -16,7 +16,7 @@ ghost use Rattle.layout.specs.Lists.{sameBy};
 ghost use Rattle.stored.specs.Same.{alikeValues};
 use libc::STDOUT_FILENO;
 
-// The number that all bytes but the last spell, up to 16 digits.
+// Returns the number that the hexadecimal digits in `text`, all bytes but the last, spell; only the last 16 digits count.
 fn number(text: &[u8]) -> u64 {
     let mut n = 0;
     let mut k = 1;
@@ -28,7 +28,7 @@ fn number(text: &[u8]) -> u64 {
     n
 }
 
-// The next u32; 0 where the file has ended.
+// Reads and returns the next u32; 0 at the end of the file.
 pub fn word(fd: i32) -> u32
     ensures { λ r. ⌜ r < 4294967296 ⌝ }
 {
@@ -37,7 +37,7 @@ pub fn word(fd: i32) -> u32
     (number(&text) % 0x1_0000_0000) as u32
 }
 
-// The f64 of a bit pattern. Which NaN is free, and from_bits is not defined at one.
+// Returns the f64 with the bit pattern `bits`. NaNs come from a division, as `from_bits` is not defined for them; which NaN it is does not matter.
 fn of_bits(bits: u64) -> f64
     ensures { λ r. ⌜ r ≡ ofBits binary64 bits ⌝ }
 {
@@ -48,7 +48,7 @@ fn of_bits(bits: u64) -> f64
     }
 }
 
-// The next f64.
+// Reads and returns the next f64.
 fn value(fd: i32) -> f64 {
     let mut text = [0u8; 17];
     io::read_full(fd, &mut text);
@@ -61,7 +61,7 @@ fn least(a: usize, b: usize) -> usize
     if a < b { a } else { b }
 }
 
-// Reads a case's lists of u32, up to 15 of them, cut where the buffer ends.
+// Reads a case's u32 lists, at most 15, into `words` and their starts into its first words. Lists are cut off where the buffer ends.
 pub fn load_words(fd: i32, words: &mut [u32])
     requires { ⌜ CaseRoom (length (now words)) ⌝ }
     ensures { λ _. ⌜ length (now (words .exit)) ≡ length (now (words .entry)) ⌝ }
@@ -81,7 +81,7 @@ pub fn load_words(fd: i32, words: &mut [u32])
     }
 }
 
-// The same of its lists of f64, whose starts stand from the 17th word on.
+// Reads a case's f64 lists, at most 15, into `values`, and their starts into `words` from index 16 on.
 pub fn load_values(fd: i32, words: &mut [u32], values: &mut [f64])
     requires { ⌜ CaseRoom (length (now words)) × CaseRoom (length (now values)) ⌝ }
     ensures { λ _. ⌜ (length (now (words .exit)) ≡ length (now (words .entry))) × (length (now (values .exit)) ≡ length (now (values .entry))) ⌝ }
@@ -101,14 +101,14 @@ pub fn load_values(fd: i32, words: &mut [u32], values: &mut [f64])
     }
 }
 
-// The i-th number of a list; 0 where there is none.
+// Returns element `i` of `list`; 0 where there is none.
 pub fn item(list: &[u32], i: usize) -> u32
     ensures { λ r. ⌜ r ≡ getD (now (list .entry)) i 0 ⌝ }
 {
     if i < list.len() { list[i] } else { 0 }
 }
 
-// The i-th number of a list of f64; 0 where there is none.
+// Returns element `i` of a `list` of f64; 0.0 where there is none.
 pub fn value_item(list: &[f64], i: usize) -> f64 {
     if i < list.len() { list[i] } else { 0.0 }
 }
@@ -118,7 +118,7 @@ struct Span {
     end: usize,
 }
 
-// Where list k lies in a buffer of n numbers; from 0 to 0 where the words do not say.
+// Returns the bounds of list `k` in a buffer of `n` elements; 0 and 0 where the starts in `words` give none within the buffer.
 fn bounds(words: &[u32], k: u8, n: usize) -> Span
     ensures { λ r. ⌜ (r .from ≤ r .end) × (r .end ≤ n) × (r .from ≡ listFrom (now (words .entry)) k n) × (r .end ≡ listEnd (now (words .entry)) k n) ⌝ }
 {
@@ -135,7 +135,7 @@ fn bounds(words: &[u32], k: u8, n: usize) -> Span
     Span { from: 0, end: 0 }
 }
 
-// List k; empty where there is none.
+// Returns the u32 list `k`; empty where there is none.
 pub fn words_at(words: &[u32], k: u8) -> &[u32]
     ensures { λ r. ⌜ now r ≡ listAt (now (words .entry)) (now (words .entry)) k ⌝ }
 {
@@ -145,6 +145,7 @@ pub fn words_at(words: &[u32], k: u8) -> &[u32]
     &words[from..end]
 }
 
+// Returns the f64 list `k`; empty where there is none.
 pub fn values_at<'a>(words: &[u32], values: &'a [f64], k: u8) -> &'a [f64]
     ensures { λ r. ⌜ now r ≡ listAt (now (values .entry)) (now (words .entry)) k ⌝ }
 {
@@ -154,7 +155,8 @@ pub fn values_at<'a>(words: &[u32], values: &'a [f64], k: u8) -> &'a [f64]
     &values[from..end]
 }
 
-// The room for list k, with what an output holds before a call, so that a place not written shows.
+// Fills `out` with values that differ from index to index, so that an element that a call does not write is noticed.
+// Returns its prefix with the length of list `k`.
 pub fn words_room<'a>(out: &'a mut [u32], words: &[u32], k: u8) -> &'a mut [u32]
     ensures { λ r. ⌜ now r ≡ take (length (listAt (now (words .entry)) (now (words .entry)) k)) (wordsBefore (length (now (out .entry)))) ⌝ }
 {
@@ -167,6 +169,7 @@ pub fn words_room<'a>(out: &'a mut [u32], words: &[u32], k: u8) -> &'a mut [u32]
     &mut out[..n]
 }
 
+// Does for f64 outputs what `words_room` does: fills `out` and returns its prefix with the length of list `k`.
 pub fn values_room<'a>(out: &'a mut [f64], words: &[u32], values: &[f64], k: u8) -> &'a mut [f64]
     ensures { λ r. ⌜ now r ≡ take (length (listAt (now (values .entry)) (now (words .entry)) k)) (valuesBefore (length (now (out .entry)))) ⌝ }
 {
@@ -179,7 +182,7 @@ pub fn values_room<'a>(out: &'a mut [f64], words: &[u32], values: &[f64], k: u8)
     &mut out[..n]
 }
 
-// Whether an output begins with a list.
+// Returns whether `list` is a prefix of `out`.
 pub fn same_words(out: &[u32], list: &[u32]) -> bool
     ensures { λ r. ⌜ r ≡ sameBy eqb (take (length (now (list .entry))) (now (out .entry))) (now (list .entry)) ⌝ }
 {
@@ -196,7 +199,7 @@ pub fn same_words(out: &[u32], list: &[u32]) -> bool
     true
 }
 
-// Bit for bit, save for which NaN.
+// Returns whether `x` and `y` are equal bit for bit, all NaNs being equal.
 fn alike_values(x: f64, y: f64) -> bool
     ensures { λ r. ⌜ r ≡ alikeValues x y ⌝ }
 {
@@ -209,6 +212,7 @@ fn alike_values(x: f64, y: f64) -> bool
     f64::to_bits(x) == f64::to_bits(y)
 }
 
+// Returns whether `list` is a prefix of `out`, bit for bit, all NaNs being equal.
 pub fn same_values(out: &[f64], list: &[f64]) -> bool
     ensures { λ r. ⌜ r ≡ sameBy alikeValues (take (length (now (list .entry))) (now (out .entry))) (now (list .entry)) ⌝ }
 {
@@ -225,12 +229,12 @@ pub fn same_values(out: &[f64], list: &[f64]) -> bool
     true
 }
 
-// ---- whether a call leaves what is stored
+// ---- comparing a call's outputs with the stored ones
 
-// No call answers this number: an output does not hold what is stored.
+// The result where an output differs from the stored one: no call returns this number.
 const DIFFERS: u32 = 4294967295;
 
-// A call's answer, where its output holds list k.
+// Returns `answer` where list `k` is a prefix of `out`, and `DIFFERS` otherwise.
 pub fn holds(answer: u32, words: &[u32], k: u8, out: [u32; 4096]) -> u32 {
     if same_words(&out, words_at(words, k)) {
         answer
@@ -239,6 +243,7 @@ pub fn holds(answer: u32, words: &[u32], k: u8, out: [u32; 4096]) -> u32 {
     }
 }
 
+// Returns `answer` where the f64 list `k` is a prefix of `out`, and `DIFFERS` otherwise.
 pub fn values_hold<'a>(
     answer: u32,
     words: &'a [u32],
@@ -253,7 +258,7 @@ pub fn values_hold<'a>(
     }
 }
 
-// The cut's answer, where the outputs hold what is stored.
+// Compares all outputs of a cut with the stored ones. Returns `answer` where they are equal, and `DIFFERS` otherwise.
 pub fn cut_answer<'a>(
     answer: u32,
     words: &'a [u32],
@@ -285,7 +290,7 @@ pub fn cut_answer<'a>(
     r
 }
 
-// A family's line: how many cases it has, or how many are equal before one that is not.
+// Prints the line of a family of cases: how many cases it has, or how many were equal before the first that was not.
 pub fn report(name: &[u8], cases: u32, equal: u32) {
     io::write_all(STDOUT_FILENO, name);
     io::write_all(STDOUT_FILENO, b": ");

@@ -1,4 +1,4 @@
--- The words after some of k cliques, and the offsets at which they start.
+-- The words after some of k cliques, and the offsets where the cliques start.
 use Prim.Native.Nat.{ℕ, suc, _+_, _-_, _*_, _≤_, _<_}
 use native.Mathlib.Nat.{lt-of-mul-lt-mul-right, suc-mul}
 use native.Mathlib.Numerals.{add-one}
@@ -11,7 +11,7 @@ use lib.ListN.{length, getD, drop, set}
 use lib.Seq.{getD-set-same, getD-set-other, getD-drop}
 use Rattle.layout.specs.Patterns.{Read, read, andThen, Clique, noClique, readClique, readCliques}
 use Rattle.layout.proofs.Tests.{lt-or-le}
-use Rattle.supernode_tree.specs.Reads.{whole, Whole, rest, valueOr, cliquesFrom}
+use Rattle.supernode_tree.specs.Reads.{isWhole, Whole, rest, valueOr, cliquesFrom}
 use Rattle.supernode_tree.specs.Offsets.{OffsetsEvery}
 use Rattle.supernode_tree.proofs.Many.{whole-read, first-whole, many-value, front-whole, back-whole, back-rest, back-value}
 
@@ -24,13 +24,13 @@ whole-front ws at s k l h =
     front-whole readClique s (k - s) (drop at ws) (rw e at h)
 
 module _ (ws : List ℕ) (first k : ℕ) (h : Whole ws first k) where
-  -- from an offset after a cliques the others stand
+  -- at an offset after a cliques, the other k - a are complete
   module _ (a at : ℕ) (l : a ≤ k) (e : drop at ws ≡ after ws first a) where
-    split : whole (readCliques (a + (k - a)) (drop first ws)) ≡ true
+    split : isWhole (readCliques (a + (k - a)) (drop first ws)) ≡ true
     split = let q : k ≡ a + (k - a) = omega arith in rw q at h
 
     pub after-whole : Whole ws at (k - a)
-    after-whole = ap (λ (x : List ℕ). whole (readCliques (k - a) x)) e ∙ back-whole readClique a (k - a) (drop first ws) split
+    after-whole = ap (λ (x : List ℕ). isWhole (readCliques (k - a) x)) e ∙ back-whole readClique a (k - a) (drop first ws) split
 
     pub after-from : cliquesFrom ws at (k - a) ≡ drop a (cliquesFrom ws first k)
     after-from =
@@ -68,7 +68,7 @@ module _ (ws : List ℕ) (first k : ℕ) (h : Whole ws first k) where
 -- ---- offsets written in order
 
 module _ (ws : List ℕ) (first step : ℕ) where
-  -- those before i are written
+  -- the first i offsets are written
   abbrev pub Written : ℕ → List ℕ → Type 0
   Written i out = (j : ℕ) → j < i → drop (getD out j 0) ws ≡ after ws first (j * step)
 
@@ -87,6 +87,6 @@ module _ (ws : List ℕ) (first step : ℕ) where
 pub more-steps : (i step : ℕ) → (i + 1) * step ≡ i * step + step
 more-steps i step = rw (add-one) (suc-mul i step)
 
--- the offset to write is inside
+-- the index of the offset to write is inside the table
 pub inside : (i n step left k : ℕ) → 0 < left → left + i * step ≡ k → k ≤ n * step → i < n
 inside i n step left k l e m = lt-of-mul-lt-mul-right step (omega arith)

@@ -1,4 +1,4 @@
--- Reading words from an offset on: `readMembers`, `readClique` of `drop at ws`.
+-- Reads of members, cliques and heads from an offset on: `readMembers`, `readClique` and `readHead` of `drop at ws`.
 use Prim.Native.Nat.{ℕ, _+_, _-_, _≤_, _<_}
 use native.Mathlib.Numerals.{add-one}
 use native.Mathlib.Omega.{arith}
@@ -12,7 +12,7 @@ use lib.Dec.{leb}
 use borrow.Author.Tests.{le-leb, lt-leb, leb-true, leb-false}
 use Rattle.layout.specs.Patterns.{Read, read, short, andThen, readHead, readMembers, readClique, endsRight}
 use Rattle.layout.proofs.Tests.{differ, lt-or-le}
-use Rattle.supernode_tree.specs.Reads.{headOf, patternRead, cliqueOf, cliqueRead, whole}
+use Rattle.supernode_tree.specs.Reads.{headOf, patternRead, cliqueOf, cliqueRead, isWhole}
 use Rattle.supernode_tree.specs.declared.Clique.{Clique as CliqueAt}
 use Rattle.supernode_tree.specs.declared.CliqueRead.{CliqueRead}
 use Rattle.supernode_tree.specs.declared.CliqueRead.the-variants.{Clique as FoundClique}
@@ -96,7 +96,7 @@ pub head-whole : (ws : List ℕ) (at : ℕ) → at + 3 + getD ws (at + 1) 0 ≤ 
     }) (drop (at + 3 + getD ws (at + 1) 0) ws)
 head-whole ws at h = rw (drop-three ws at (omega arith), members-read (getD ws (at + 1) 0) (at + 3) ws h)
 
--- ---- cliques and heads that stand whole
+-- ---- complete cliques and heads
 
 pub clique-short-parts : (ws : List ℕ) (at : ℕ) → at + 3 ≤ length ws → length ws < at + 3 + getD ws (at + 1) 0 + getD ws (at + 2) 0
     → readClique (drop at ws) ≡ short
@@ -105,8 +105,8 @@ clique-short-parts ws at h l = elim (lt-or-le (length ws) (at + 3 + getD ws (at 
   | inr m ↦ clique-short-separator ws at m (omega arith)
 ]
 
--- a clique that stands whole ends within the words
-pub clique-fits : (ws : List ℕ) (at : ℕ) → whole (readClique (drop at ws)) ≡ true
+-- a complete clique ends inside the words
+pub clique-fits : (ws : List ℕ) (at : ℕ) → isWhole (readClique (drop at ws)) ≡ true
     → at + 3 + getD ws (at + 1) 0 + getD ws (at + 2) 0 ≤ length ws
 clique-fits ws at w = elim (lt-or-le (length ws) (at + 3)) [
   | inl l ↦ stands (clique-short ws at l)
@@ -117,7 +117,7 @@ clique-fits ws at w = elim (lt-or-le (length ws) (at + 3)) [
 ]
   where
     stands : {A : Type 0} → readClique (drop at ws) ≡ short → A
-    stands e = absurd (differ (whole (readClique (drop at ws))) w (ap whole e))
+    stands e = absurd (differ (isWhole (readClique (drop at ws))) w (ap isWhole e))
 
 pub room-after : (at size n : ℕ) → at ≤ n → leb size (n - at) ≡ leb (at + size) n
 room-after at size n l = elim (lt-or-le n (at + size)) [
@@ -125,21 +125,21 @@ room-after at size n l = elim (lt-or-le n (at + size)) [
   | inr h ↦ le-leb size (n - at) (omega arith) ∙ sym (le-leb (at + size) n h)
 ]
 
--- what is too short for three words holds neither a clique nor a head
+-- where three words are not left, there is no complete clique and no complete head
 module _ (ws : List ℕ) (at : ℕ) (f : leb (at + 3) (length ws) ≡ false) where
-  pub clique-none : whole (readClique (drop at ws)) ≡ false
-  clique-none = ap whole (clique-short ws at (leb-false (at + 3) (length ws) f))
+  pub clique-none : isWhole (readClique (drop at ws)) ≡ false
+  clique-none = ap isWhole (clique-short ws at (leb-false (at + 3) (length ws) f))
 
-  pub head-none : whole (readHead (drop at ws)) ≡ false
-  head-none = ap whole (head-short ws at (leb-false (at + 3) (length ws) f))
+  pub head-none : isWhole (readHead (drop at ws)) ≡ false
+  head-none = ap isWhole (head-short ws at (leb-false (at + 3) (length ws) f))
 
--- the counts a and e of a clique, and v of a head, as they are read
+-- completeness of a clique with counts a and e, and of a head with v vertices, by the counts that are read
 module _ (ws : List ℕ) (at a e : ℕ) (p : a ≡ getD ws (at + 1) 0) (q : e ≡ getD ws (at + 2) 0) where
-  pub clique-stands : leb (at + 3) (length ws) ≡ true → leb (at + 3 + (a + e)) (length ws) ≡ whole (readClique (drop at ws))
+  pub clique-stands : leb (at + 3) (length ws) ≡ true → leb (at + 3 + (a + e)) (length ws) ≡ isWhole (readClique (drop at ws))
   clique-stands t = elim (lt-or-le (length ws) (at + 3 + getD ws (at + 1) 0 + getD ws (at + 2) 0)) [
     | inl n ↦
-        lt-leb (at + 3 + (a + e)) (length ws) (omega arith) ∙ sym (ap whole (clique-short-parts ws at (leb-true (at + 3) (length ws) t) n))
-    | inr n ↦ le-leb (at + 3 + (a + e)) (length ws) (omega arith) ∙ sym (ap whole (clique-whole ws at n))
+        lt-leb (at + 3 + (a + e)) (length ws) (omega arith) ∙ sym (ap isWhole (clique-short-parts ws at (leb-true (at + 3) (length ws) t) n))
+    | inr n ↦ le-leb (at + 3 + (a + e)) (length ws) (omega arith) ∙ sym (ap isWhole (clique-whole ws at n))
   ]
 
   pub clique-made : at + 3 + getD ws (at + 1) 0 + getD ws (at + 2) 0 ≤ length ws
@@ -148,12 +148,12 @@ module _ (ws : List ℕ) (at a e : ℕ) (p : a ≡ getD ws (at + 1) 0) (q : e �
   clique-made h = rw (p, q) (sym (clique-whole ws at h))
 
 module _ (ws : List ℕ) (at v : ℕ) (p : v ≡ getD ws (at + 1) 0) where
-  pub head-stands : leb (at + 3) (length ws) ≡ true → leb (at + 3 + v) (length ws) ≡ whole (readHead (drop at ws))
+  pub head-stands : leb (at + 3) (length ws) ≡ true → leb (at + 3 + v) (length ws) ≡ isWhole (readHead (drop at ws))
   head-stands t = elim (lt-or-le (length ws) (at + 3 + getD ws (at + 1) 0)) [
     | inl n ↦
         lt-leb (at + 3 + v) (length ws) (omega arith)
-        ∙ sym (ap whole (head-short-ordering ws at (leb-true (at + 3) (length ws) t) (omega (arith, leb-true (at + 3) (length ws) t))))
-    | inr n ↦ le-leb (at + 3 + v) (length ws) (omega arith) ∙ sym (ap whole (head-whole ws at n))
+        ∙ sym (ap isWhole (head-short-ordering ws at (leb-true (at + 3) (length ws) t) (omega (arith, leb-true (at + 3) (length ws) t))))
+    | inr n ↦ le-leb (at + 3 + v) (length ws) (omega arith) ∙ sym (ap isWhole (head-whole ws at n))
   ]
 
   pub head-made : at + 3 + getD ws (at + 1) 0 ≤ length ws
@@ -161,7 +161,7 @@ module _ (ws : List ℕ) (at v : ℕ) (p : v ≡ getD ws (at + 1) 0) where
       ≡ readHead (drop at ws)
   head-made h = rw p (sym (head-whole ws at h))
 
-pub head-fits : (ws : List ℕ) (at : ℕ) → whole (readHead (drop at ws)) ≡ true → at + 3 + getD ws (at + 1) 0 ≤ length ws
+pub head-fits : (ws : List ℕ) (at : ℕ) → isWhole (readHead (drop at ws)) ≡ true → at + 3 + getD ws (at + 1) 0 ≤ length ws
 head-fits ws at w = elim (lt-or-le (length ws) (at + 3)) [
   | inl l ↦ stands (head-short ws at l)
   | inr l ↦ elim (lt-or-le (length ws) (at + 3 + getD ws (at + 1) 0)) [
@@ -171,18 +171,18 @@ head-fits ws at w = elim (lt-or-le (length ws) (at + 3)) [
 ]
   where
     stands : {A : Type 0} → readHead (drop at ws) ≡ short → A
-    stands e = absurd (differ (whole (readHead (drop at ws))) w (ap whole e))
+    stands e = absurd (differ (isWhole (readHead (drop at ws))) w (ap isWhole e))
 
 -- ---- one read after another
 
 module _ {A B : Type 0} where
-  -- whether words end right does not depend on what is made of the parts read
+  -- whether a read ends with the words does not depend on the value made from what is read
   pub ends-made : (r : Read A) (f : A → B) → endsRight (andThen r (λ a ws. read (f a) ws)) ≡ endsRight r
   ends-made (read a []) f = refl
   ends-made (read a (w ∷ ws)) f = refl
   ends-made short f = refl
 
--- all is read: no word is left after the offset
+-- a read up to an offset ends with the words exactly if the offset is at or after their end
 pub ends-at : {A : Type 0} (a : A) (ws : List ℕ) (at : ℕ) → endsRight (read a (drop at ws)) ≡ leb (length ws) at
 ends-at a ws at = go (drop at ws) (length-drop at ws)
   where
@@ -190,7 +190,7 @@ ends-at a ws at = go (drop at ws) (length-drop at ws)
     go [] e = sym (le-leb (length ws) at (omega arith))
     go (w ∷ l) e = sym (lt-leb (length ws) at (omega arith))
 
--- the words at a found clique, and after it
+-- the clique that is read, and the words after it
 pub clique-found : (ws : List ℕ) (at : ℕ) (r : CliqueRead) (q : CliqueAt) → cliqueRead ws r ≡ readClique (drop at ws) → r ≡ FoundClique q
     → readClique (drop at ws) ≡ read (cliqueOf ws q) (drop (q .next) ws)
 clique-found ws at r q e f = sym e ∙ ap (cliqueRead ws) f
@@ -202,7 +202,7 @@ head-found ws at r p e f = sym e ∙ ap (patternRead ws) f
 pub length-part : (at k : ℕ) (ws : List ℕ) → at + k ≤ length ws → length (take k (drop at ws)) ≡ k
 length-part at k ws h = length-take-le k (drop at ws) (omega (arith, length-drop at ws))
 
--- two parts that follow each other
+-- two adjacent parts of the words are one part
 pub part-part : (ws : List ℕ) (a b c : ℕ) → a ≤ b → b ≤ c → take (b - a) (drop a ws) ++ take (c - b) (drop b ws) ≡ take (c - a) (drop a ws)
 part-part ws a b c h l =
     let e : c - a ≡ b - a + (c - b) = omega arith in

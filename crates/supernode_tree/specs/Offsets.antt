@@ -1,4 +1,4 @@
--- Where cliques stand among the words.
+-- The offsets of cliques in the words.
 use Prim.Native.Nat.{ℕ, suc, _*_, _<_}
 use mathlib.Core.Path.{_≡_}
 use mathlib.Core.List.{List}
@@ -11,7 +11,7 @@ abbrev pub OffsetsEvery : ℕ → List ℕ → ℕ → ℕ → List ℕ → Type
 OffsetsEvery step ws first k offsets =
     (i : ℕ) → i * step < k → drop (getD offsets i 0) ws ≡ rest (readCliques (i * step) (drop first ws))
 
--- a clique is read at its offset
+-- clique c is read at offset c
 abbrev pub OffsetsOf : List ℕ → ℕ → ℕ → List ℕ → Type 0
 OffsetsOf ws first k offsets =
     (c : ℕ) → c < k

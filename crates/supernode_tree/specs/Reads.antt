@@ -1,4 +1,4 @@
--- What the offsets of a read clique stand for.
+-- The cliques and patterns that offsets into the words represent.
 use Prim.Native.Nat.{ℕ, _+_, _-_, _≤_, _<_}
 use mathlib.Core.Path.{_≡_}
 use mathlib.Core.Bool.{Bool, true, false}
@@ -27,7 +27,7 @@ abbrev pub cliqueRead : List ℕ → CliqueRead → Read P.Clique
 cliqueRead ws (Found c) = read (cliqueOf ws c) (drop (c .next) ws)
 cliqueRead ws Short = short
 
--- the parts follow each other from at on, and end within n words
+-- a clique's parts follow each other from offset `at` on, and end within n words
 abbrev pub CliqueInside : ℕ → ℕ → CliqueRead → Type 0
 CliqueInside n at (Found c) =
     (c .snode ≡ at + 3) × (c .separator ≡ c .snode + c .«snode_count») × (c .next ≡ c .separator + c .«separator_count») × (c .next ≤ n)
@@ -47,7 +47,7 @@ abbrev pub patternRead : List ℕ → PatternRead → Read Head
 patternRead ws (FoundP p) = read (headOf ws p) (drop (p .cliques) ws)
 patternRead ws ShortP = short
 
--- the parts follow each other from at on, and end within n words; the vertex count is a word
+-- a pattern's parts follow each other from offset `at` on, and end within n words; the vertex count fits in a word
 abbrev pub PatternInside : ℕ → ℕ → PatternRead → Type 0
 PatternInside n at (FoundP p) =
     (p .ordering ≡ at + 3) × (p .cliques ≡ p .ordering + p .«vertex_count») × (p .cliques ≤ n) × (p .«vertex_count» < 4294967296)
@@ -60,23 +60,27 @@ module _ {A : Type 0} where
   valueOr d (read a ws) = a
   valueOr d short = d
 
--- words that end early read as a pattern that no check lets pass
+-- the pattern at an offset; where the words end early, one that checks 6 and 7 refuse
 abbrev pub patternAt : List ℕ → ℕ → P.Pattern
 patternAt ws at = valueOr P.noPattern (P.readPattern (drop at ws))
+
+-- the clique at an offset; an incomplete one is read as one without vertices
+abbrev pub cliqueHere : List ℕ → ℕ → P.Clique
+cliqueHere ws at = valueOr P.noClique (P.readClique (drop at ws))
 
 -- ---- cliques from an offset on
 
 module _ {A : Type 0} where
-  abbrev pub whole : Read A → Bool
-  whole (read a ws) = true
-  whole short = false
+  abbrev pub isWhole : Read A → Bool
+  isWhole (read a ws) = true
+  isWhole short = false
 
-  -- the words after it
+  -- the words after what is read
   abbrev pub rest : Read A → List ℕ
   rest (read a ws) = ws
   rest short = []
 
-  -- what is read left aside: whether it was read, and the words after it
+  -- whether something is read, and the words after it, without what is read
   abbrev pub ended : Read A → Read (Unit {0})
   ended (read a ws) = read tt ws
   ended short = short
@@ -85,13 +89,13 @@ abbrev pub endRead : List ℕ → End → Read (Unit {0})
 endRead ws (At at) = read tt (drop at ws)
 endRead ws ShortE = short
 
--- k cliques stand whole from the offset on
+-- k complete cliques start at the offset
 abbrev pub Whole : List ℕ → ℕ → ℕ → Type 0
-Whole ws at k = whole (P.readCliques k (drop at ws)) ≡ true
+Whole ws at k = isWhole (P.readCliques k (drop at ws)) ≡ true
 
 abbrev pub cliquesFrom : List ℕ → ℕ → ℕ → List P.Clique
 cliquesFrom ws at k = valueOr [] (P.readCliques k (drop at ws))
 
--- the offsets are those of a part of the words
+-- us are the words from `m .start` to `m .end`
 abbrev pub MembersOf : List ℕ → List ℕ → Members → Type 0
 MembersOf ws us m = (take (m .end - m .start) (drop (m .start) ws) ≡ us) × (m .start ≤ m .end) × (m .end ≤ length ws)

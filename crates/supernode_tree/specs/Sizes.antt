@@ -6,11 +6,11 @@ use lib.Dec.{leb}
 use Rattle.layout.specs.Triangle.{triangle}
 use Rattle.layout.specs.Patterns.{Clique, blockSize}
 
--- a clique's block has no more than n vertices
-abbrev pub atMost : ℕ → Clique → Bool
-atMost n c = leb (blockSize c) n
+-- a clique's block has at most n vertices
+abbrev pub blockAtMost : ℕ → Clique → Bool
+blockAtMost n c = leb (blockSize c) n
 
--- a block's rows, and the overlaps among them
+-- the rows of a clique's block, and how many of them are overlaps
 abbrev pub dimOf : Clique → ℕ
 dimOf c = triangle (blockSize c)
 

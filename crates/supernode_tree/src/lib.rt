@@ -1,4 +1,4 @@
-// Cliques and patterns read off their words, by offsets: clarabel's `SuperNodeTree` without its vectors.
+// Reads cliques and patterns from their words, by offsets: clarabel's `SuperNodeTree` without its vectors.
 ghost use mathlib.Core.Path.{_≡_};
 ghost use Prim.Native.Nat.{_+_, _*_, _≤_, _<_};
 ghost use mathlib.Core.Bool.{true};
@@ -10,15 +10,15 @@ ghost use Rattle.layout.specs.Triangle.{triangle};
 ghost use Rattle.layout.specs.Patterns.{noClique, members as cliqueMembers, blockSize, readClique, readCliques, readHead, readPattern, readPatterns, endsRight};
 ghost use Rattle.layout.specs.Blocks.{blockRows, overlapRows};
 ghost use Rattle.layout.specs.Checks.{RightPattern};
-ghost use Rattle.supernode_tree.specs.Reads.{patternAt, rest, whole, Whole, cliquesFrom, MembersOf, cliqueRead, CliqueInside, patternRead, PatternInside, endRead, ended};
+ghost use Rattle.supernode_tree.specs.Reads.{patternAt, rest, isWhole, Whole, cliquesFrom, MembersOf, cliqueRead, CliqueInside, patternRead, PatternInside, endRead, ended};
 ghost use Rattle.supernode_tree.specs.declared.CliqueRead.the-variants.{Clique as Found};
 ghost use Rattle.supernode_tree.specs.declared.PatternRead.the-variants.{Pattern as FoundPattern};
 ghost use Rattle.supernode_tree.specs.Offsets.{OffsetsEvery, OffsetsOf};
-ghost use Rattle.supernode_tree.specs.Sizes.{atMost};
+ghost use Rattle.supernode_tree.specs.Sizes.{blockAtMost};
 
 // ---- words
 
-// The word at an offset.
+// Returns the word at offset `at`.
 fn word(words: &[u32], at: usize) -> usize
     requires { ⌜ at < length (now words) ⌝ }
     ensures { λ r. ⌜ r ≡ getD (now (words .entry)) at 0 ⌝ }
@@ -27,19 +27,19 @@ fn word(words: &[u32], at: usize) -> usize
     words[at] as usize
 }
 
-// Whether so many words stand from an offset on.
+// Returns whether there are `size` words from offset `at` on.
 fn has_room(words: &[u32], at: usize, size: usize) -> bool
     ensures { λ r. ⌜ r ≡ leb (at + size) (length (now (words .entry))) ⌝ }
 {
     at <= words.len() && size <= words.len() - at
 }
 
-// The words before a clique's members: its parent and two counts; and before a pattern's ordering: its cone and two counts.
+// The number of words before a clique's members (its parent and two counts), and before a pattern's ordering (its cone and two counts).
 pub const HEAD_WORDS: usize = 3;
 
 // ---- cliques and patterns at an offset
 
-// A clique of a pattern's words, by offsets into them.
+// A clique, by offsets into the words: its snode members start at `snode`, its separator members at `separator`, and it ends before `next`.
 pub struct Clique {
     pub parent: u32,
     pub snode: usize,
@@ -57,9 +57,9 @@ pub enum CliqueRead {
 impl Clique {
     pub const NO_PARENT: u32 = constants::NONE;
 
-    // Whether the words at an offset hold a clique to its end.
+    // Returns whether the words from offset `at` on hold a complete clique.
     fn stands(words: &[u32], at: usize) -> bool
-        ensures { λ r. ⌜ r ≡ whole (readClique (drop at (now (words .entry)))) ⌝ }
+        ensures { λ r. ⌜ r ≡ isWhole (readClique (drop at (now (words .entry)))) ⌝ }
     {
         if !has_room(words, at, HEAD_WORDS) {
             return false;
@@ -71,7 +71,7 @@ impl Clique {
         )
     }
 
-    // The clique at an offset, if its words do not end early.
+    // Returns the clique at offset `at`, or `Short` if the words end before the clique does.
     pub fn read(words: &[u32], at: usize) -> CliqueRead
         ensures { λ r. ⌜ cliqueRead (now (words .entry)) r ≡ readClique (drop at (now (words .entry))) ⌝ }
         ensures { λ r. ⌜ CliqueInside (length (now (words .entry))) at r ⌝ }
@@ -82,9 +82,9 @@ impl Clique {
         CliqueRead::Clique(Clique::here(words, at))
     }
 
-    // The clique at an offset where one stands whole: its counts need no test.
+    // Returns the clique at offset `at`, which must be complete: its counts are not checked.
     pub fn here(words: &[u32], at: usize) -> Clique
-        requires { ⌜ whole (readClique (drop at (now words))) ≡ true ⌝ }
+        requires { ⌜ isWhole (readClique (drop at (now words))) ≡ true ⌝ }
         ensures { λ r. ⌜ cliqueRead (now (words .entry)) (Found r) ≡ readClique (drop at (now (words .entry))) ⌝ }
         ensures { λ r. ⌜ CliqueInside (length (now (words .entry))) at (Found r) ⌝ }
     {
@@ -103,7 +103,7 @@ impl Clique {
         }
     }
 
-    // The side of its block.
+    // Returns the side of the clique's block: its number of vertices.
     pub fn get_nblk(self) -> usize
         requires { ⌜ self .«snode_count» + self .«separator_count» < 18446744073709551616 ⌝ }
         ensures { λ r. ⌜ r ≡ self .«snode_count» + self .«separator_count» ⌝ }
@@ -112,7 +112,7 @@ impl Clique {
     }
 }
 
-// A pattern of words, by offsets into them: its ordering has vertex_count numbers, its first clique stands at cliques.
+// A pattern, by offsets into the words: its ordering has `vertex_count` words from `ordering` on, its first clique starts at `cliques`.
 pub struct Pattern {
     pub orig_index: u32,
     pub vertex_count: usize,
@@ -127,9 +127,9 @@ pub enum PatternRead {
 }
 
 impl Pattern {
-    // Whether the words at an offset hold a pattern to the end of its ordering.
+    // Returns whether the words from offset `at` on hold a complete head: a pattern up to the end of its ordering.
     fn stands(words: &[u32], at: usize) -> bool
-        ensures { λ r. ⌜ r ≡ whole (readHead (drop at (now (words .entry)))) ⌝ }
+        ensures { λ r. ⌜ r ≡ isWhole (readHead (drop at (now (words .entry)))) ⌝ }
     {
         if !has_room(words, at, HEAD_WORDS) {
             return false;
@@ -137,7 +137,7 @@ impl Pattern {
         has_room(words, at + HEAD_WORDS, word(words, at + 1))
     }
 
-    // All of the pattern at an offset but its cliques, if these words do not end early.
+    // Returns the pattern at offset `at` without its cliques, or `Short` if the words end before its ordering does.
     pub fn read(words: &[u32], at: usize) -> PatternRead
         ensures { λ r. ⌜ patternRead (now (words .entry)) r ≡ readHead (drop at (now (words .entry))) ⌝ }
         ensures { λ r. ⌜ PatternInside (length (now (words .entry))) at r ⌝ }
@@ -148,9 +148,9 @@ impl Pattern {
         PatternRead::Pattern(Pattern::here(words, at))
     }
 
-    // The same where these words stand whole: the vertex count needs no test.
+    // Returns the same where the head is complete: the vertex count is not checked.
     pub fn here(words: &[u32], at: usize) -> Pattern
-        requires { ⌜ whole (readHead (drop at (now words))) ≡ true ⌝ }
+        requires { ⌜ isWhole (readHead (drop at (now words))) ≡ true ⌝ }
         ensures { λ r. ⌜ patternRead (now (words .entry)) (FoundPattern r) ≡ readHead (drop at (now (words .entry))) ⌝ }
         ensures { λ r. ⌜ PatternInside (length (now (words .entry))) at (FoundPattern r) ⌝ }
     {
@@ -170,13 +170,13 @@ impl Pattern {
 
 // ---- walks over words that may end early
 
-// The offset after what was read, if its words do not end early.
+// The offset after what was read, or `Short` if the words end early.
 enum End {
     At(usize),
     Short,
 }
 
-// Where count cliques from an offset on end.
+// Returns the offset after `count` cliques that start at `first`, or `Short` if the words end early.
 fn cliques_end(words: &[u32], first: usize, count: u32) -> End
     ensures { λ r. ⌜ endRead (now (words .entry)) r ≡ ended (readCliques count (drop first (now (words .entry)))) ⌝ }
 {
@@ -193,7 +193,7 @@ fn cliques_end(words: &[u32], first: usize, count: u32) -> End
     End::At(at)
 }
 
-// Where the pattern at an offset ends.
+// Returns the offset after the pattern at offset `at`, or `Short` if the words end early.
 fn pattern_end(words: &[u32], at: usize) -> End
     ensures { λ r. ⌜ endRead (now (words .entry)) r ≡ ended (readPattern (drop at (now (words .entry)))) ⌝ }
 {
@@ -204,7 +204,7 @@ fn pattern_end(words: &[u32], at: usize) -> End
     cliques_end(words, p.cliques, p.clique_count)
 }
 
-// The words hold count patterns, and end with the last.
+// Returns whether `words` hold `count` complete patterns and nothing after them.
 pub fn patterns_end(count: u32, words: &[u32]) -> bool
     ensures { λ r. ⌜ r ≡ endsRight (readPatterns count (now (words .entry))) ⌝ }
 {
@@ -220,9 +220,9 @@ pub fn patterns_end(count: u32, words: &[u32]) -> bool
     words.len() <= at
 }
 
-// ---- walks over words that stand whole
+// ---- walks over complete words
 
-// Where the words after count cliques start.
+// Returns the offset after `count` complete cliques that start at `first`.
 pub fn cliques_next(words: &[u32], first: usize, count: u32) -> usize
     requires { ⌜ Whole (now words) first count ⌝ }
     ensures { λ r. ⌜ rest (readCliques count (drop first (now (words .entry)))) ≡ drop r (now (words .entry)) ⌝ }
@@ -237,18 +237,18 @@ pub fn cliques_next(words: &[u32], first: usize, count: u32) -> usize
     at
 }
 
-// Where the words after a pattern start.
+// Returns the offset after the complete pattern at offset `at`.
 pub fn pattern_next(words: &[u32], at: usize) -> usize
-    requires { ⌜ whole (readPattern (drop at (now words))) ≡ true ⌝ }
+    requires { ⌜ isWhole (readPattern (drop at (now words))) ≡ true ⌝ }
     ensures { λ r. ⌜ rest (readPattern (drop at (now (words .entry)))) ≡ drop r (now (words .entry)) ⌝ }
 {
     let p = Pattern::here(words, at);
     cliques_next(words, p.cliques, p.clique_count)
 }
 
-// ---- offsets, so that cliques can be had in any order
+// ---- offsets, for access to cliques in any order
 
-// Where each step-th of count cliques stands.
+// Writes the offset of every `step`-th of the `count` cliques that start at `first` to `out`.
 pub fn offsets_every(words: &[u32], first: usize, count: u32, step: u32, out: &mut [usize])
     requires { ⌜ Whole (now words) first count ⌝ }
     requires { ⌜ (0 < step) × (count ≤ length (now out) * step) ⌝ }
@@ -269,7 +269,7 @@ pub fn offsets_every(words: &[u32], first: usize, count: u32, step: u32, out: &m
     out[i] = at;
 }
 
-// Where each of count cliques stands.
+// Writes the offset of each of the `count` cliques that start at `first` to `out`.
 pub fn clique_offsets(words: &[u32], first: usize, count: u32, out: &mut [usize])
     requires { ⌜ Whole (now words) first count ⌝ }
     requires { ⌜ count ≤ length (now out) ⌝ }
@@ -278,13 +278,13 @@ pub fn clique_offsets(words: &[u32], first: usize, count: u32, out: &mut [usize]
     offsets_every(words, first, count, 1, out);
 }
 
-// The members of a clique, by offsets: where they start and end.
+// The members of a clique, by offsets into the words: they start at `start` and end before `end`.
 pub struct Members {
     pub start: usize,
     pub end: usize,
 }
 
-// The members of clique c of count, found from the last offset before it: none where there is no such clique.
+// Returns the members of clique `c` of `count`, walking from the last of the `offsets` at or before it; no members if there is no clique `c`.
 pub fn members_by(
     words: &[u32],
     first: usize,
@@ -312,7 +312,7 @@ pub fn members_by(
 
 // ---- block sizes
 
-// Of k ≤ 256, so that no product is too large.
+// Returns `k * (k + 1) / 2` for `k` up to 256, so that the product does not overflow.
 pub fn triangular_number(k: usize) -> u64
     requires { ⌜ k ≤ 256 ⌝ }
     ensures { λ r. ⌜ r ≡ triangle k ⌝ }
@@ -320,16 +320,16 @@ pub fn triangular_number(k: usize) -> u64
     (k * (k + 1) / 2) as u64
 }
 
-// How many rows some blocks have, and how many of them are overlaps.
+// The rows of some blocks, and how many of these rows are overlaps.
 pub struct Decomposed {
     pub dim: u64,
     pub overlaps: u64,
 }
 
-// How many rows the blocks of count cliques have, none of them larger than 256, and how many of them are overlaps.
+// Counts the rows and the overlaps of the blocks of `count` cliques that start at `first`; no block has more than 256 vertices.
 fn dim_and_overlaps(words: &[u32], first: usize, count: u32) -> Decomposed
     requires { ⌜ Whole (now words) first count ⌝ }
-    requires { ⌜ all (atMost 256) (cliquesFrom (now words) first count) ≡ true ⌝ }
+    requires { ⌜ all (blockAtMost 256) (cliquesFrom (now words) first count) ≡ true ⌝ }
     ensures { λ r. ⌜ r .dim ≡ sum (map (λ c. triangle (blockSize c)) (cliquesFrom (now (words .entry)) first count)) ⌝ }
     ensures { λ r. ⌜ r .overlaps ≡ sum (map (λ c. triangle (length (c .separator))) (cliquesFrom (now (words .entry)) first count)) ⌝ }
 {
@@ -350,7 +350,7 @@ fn dim_and_overlaps(words: &[u32], first: usize, count: u32) -> Decomposed
     }
 }
 
-// How many rows the blocks of a pattern that passed the checks have, and how many of them are overlaps.
+// Counts the rows and the overlaps of the blocks of the pattern at offset `at`, which passed the checks.
 pub fn get_decomposed_dim_and_overlaps(words: &[u32], at: usize) -> Decomposed
     requires { ⌜ RightPattern (patternAt (now words) at) ⌝ }
     requires { ⌜ patternAt (now words) at .vertexCount ≤ 256 ⌝ }

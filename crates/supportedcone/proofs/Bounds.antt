@@ -1,4 +1,4 @@
--- What check 1 says of a record's sizes, and so of its rows.
+-- Bounds that check 1 gives on a record's sizes and on its rows.
 use Prim.Native.Nat.{ℕ, zero, suc, _≤_}
 use native.Mathlib.Omega.{arith}
 use mathlib.Core.Path.{_≡_}

@@ -1,4 +1,4 @@
--- Document 01's corners of cone records, and the Rust file's own test of ranges, computed.
+-- Computed cases: document 01's corners of cone records, and the Rust file's own test of row ranges.
 use mathlib.Core.Path.{_≡_, refl}
 use mathlib.Core.Bool.{true, false}
 use mathlib.Core.List.{[], _∷_}
@@ -6,18 +6,18 @@ use Rattle.layout.specs.Cones.{records}
 use Rattle.layout.specs.Checks.{conesBounded, conesRead}
 use Rattle.supportedcone.specs.Ranges.{rowTotal}
 
--- a part record at the end: check 1 passes over it, check 4 does not
+-- a partial record at the end: check 1 ignores it, check 4 refuses it
 part-bounded : conesBounded (0 ∷ 2 ∷ 0 ∷ 1 ∷ 65537 ∷ []) ≡ true
 part-bounded = refl
 
 part-read : conesRead 2 (0 ∷ 2 ∷ 0 ∷ 1 ∷ 65537 ∷ []) ≡ false
 part-read = refl
 
--- a size of an unknown kind is bounded too
+-- the sizes of an unknown kind are bounded too
 unknown-kind : conesBounded (9 ∷ 0 ∷ 65537 ∷ []) ≡ false
 unknown-kind = refl
 
--- the bound of a PSD size is on the first
+-- the bound on a PSD size applies to the first size only
 psd-257 : conesBounded (6 ∷ 257 ∷ 0 ∷ []) ≡ false
 psd-257 = refl
 

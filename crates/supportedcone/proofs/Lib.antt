@@ -1,9 +1,9 @@
--- tests and sums over a list, one element at a time
+-- sums over a list, one element at a time
 pub mod Steps
--- records by number, the first row of each
+-- records by index
 pub mod Records
--- reading a record; what check 1 says of it
+-- reading a record; bounds from check 1
 pub mod Reading
 pub mod Bounds
--- corners, computed
+-- computed corner cases
 pub mod Corners

@@ -1,4 +1,4 @@
--- Records that read as no kind, and what a reading tells.
+-- Records that read as no kind, and what the result of a reading says about its record.
 use Prim.Native.Nat.{ℕ, zero, suc, _≤_, _<_}
 use mathlib.Core.Path.{_≡_, refl, sym, ap, subst, _∙_}
 use mathlib.Core.Bool.{Bool, true, false, cond}
@@ -29,7 +29,7 @@ second-unused (suc (suc (suc (suc (suc zero))))) a c n h = absurd (n refl)
 second-unused (suc (suc (suc (suc (suc (suc zero)))))) a c n h = ne-eqb c 0 h
 second-unused (suc (suc (suc (suc (suc (suc (suc k))))))) a c n h = refl
 
--- not one of the kinds with a first size
+-- a kind without a first size
 abbrev pub Unsized : ℕ → Type 0
 Unsized k = (k ≡ 0 → ⊥) × (k ≡ 1 → ⊥) × (k ≡ 2 → ⊥) × (k ≡ 5 → ⊥) × (k ≡ 6 → ⊥)
 
@@ -65,7 +65,7 @@ unread-first k a c α n h = unread (coneRecord k a c) α (first-unused k a c n h
 pub unread-kind : (k a c : ℕ) (α : Float) → Unsized k → (k ≡ 3 → ⊥) → (k ≡ 4 → ⊥) → readsAs (coneRecord k a c) α ≡ refused 4
 unread-kind k a c α n h l = unread (coneRecord k a c) α (no-kind k a c n h l)
 
--- ---- with the α that are left
+-- ---- with the α values not yet used
 
 pub unread-with : (c : Cone) (αs : List Float) → reads c ≡ false → readsWith c αs ≡ refused 4
 unread-with c αs e = go (leb (alphaCount c) (length αs)) (unread c (getD αs 0 zero64) e)
@@ -80,7 +80,7 @@ too-few c αs h = ap (λ (b : Bool). cond b (readsAs c (getD αs 0 zero64)) (ref
 pub enough : (c : Cone) (αs : List Float) → alphaCount c ≤ length αs → readsWith c αs ≡ readsAs c (getD αs 0 zero64)
 enough c αs h = ap (λ (b : Bool). cond b (readsAs c (getD αs 0 zero64)) (refused 4)) (le-leb (alphaCount c) (length αs) h)
 
--- ---- what an answer tells of the record
+-- ---- what a result says about the record
 
 abbrev isRefused : Answer → Bool
 isRefused (cone c αs) = false
@@ -104,7 +104,7 @@ told-is s c α e = go (reads c) e
     go true h = (refl, ap (recordIn c) h)
     go false h = (ap isRefused h, absurd (subst T (sym (ap isRefused h)) tt))
 
--- and of the α that are left
+-- and about the α values not yet used
 pub bad-with : (c : Cone) (αs : List Float) → reads c ≡ true → told Bad ≡ readsWith c αs → length αs < alphaCount c
 bad-with c αs r e = go (lt-or-le (length αs) (alphaCount c))
   where
@@ -119,7 +119,7 @@ is-with s c αs e = go (lt-or-le (length αs) (alphaCount c))
     go (inl l) = absurd (subst T (sym (ap isRefused (e ∙ too-few c αs l))) tt)
     go (inr l) = (told-is s c (getD αs 0 zero64) (e ∙ enough c αs l) .1, l)
 
--- ---- the record and the exponent tell the answer
+-- ---- the record and exponent determine the result
 
 caseOf : Kind → ℕ → ℕ → List Float → ReadCone
 caseOf zeroCone a c αs = Is (ZeroConeT a)

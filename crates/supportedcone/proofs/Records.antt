@@ -1,4 +1,4 @@
--- Records by number, as the words have them.
+-- Records by index into the words.
 use Prim.Native.Nat.{ℕ, _+_, _*_, _≤_, _<_}
 use native.Mathlib.Omega.{arith}
 use mathlib.Core.Path.{_≡_, refl, ap}
@@ -20,7 +20,7 @@ use Rattle.supportedcone.specs.Ranges.{rowTotal, isPsdOf}
 pub inside : (ws : List ℕ) (i : ℕ) → i < length (records ws) → i * 3 + 3 ≤ length ws
 inside ws i h = omega (arith, record-count ws)
 
--- the numbers of record i
+-- record i is made of words 3i, 3i + 1 and 3i + 2
 pub record-in : (ws : List ℕ) (i : ℕ) → i < length (records ws)
     → recordAt ws i ≡ coneRecord (getD ws (i * 3) 0) (getD ws (i * 3 + 1) 0) (getD ws (i * 3 + 2) 0)
 record-in ws i h = record-at ws i noCone (inside ws i h)
@@ -28,7 +28,7 @@ record-in ws i h = record-at ws i noCone (inside ws i h)
 pub record-out : (ws : List ℕ) (i : ℕ) → length (records ws) ≤ i → recordAt ws i ≡ noCone
 record-out ws i h = List·getD-eq-default (records ws) noCone h
 
--- the words are three to a record
+-- there is no partial record if the words are three for each record
 pub whole : (ws : List ℕ) → length (records ws) * 3 ≡ length ws → wholeRecords ws ≡ true
 whole [] e = refl
 whole (k ∷ []) e = absurd (omega arith)
@@ -41,11 +41,11 @@ part-record (k ∷ []) n = refl
 part-record (k ∷ a ∷ []) n = refl
 part-record (k ∷ a ∷ c ∷ ws) n = part-record ws (λ e. n (omega arith))
 
--- a test that every record passes
+-- if all records pass a test, record i passes it
 pub every-record : (p : Cone → Bool) (ws : List ℕ) (i : ℕ) → all p (records ws) ≡ true → i < length (records ws) → p (recordAt ws i) ≡ true
 every-record p ws i h l = passed (p (recordAt ws i)) (all-at noCone p (records ws) .0 (passes (all p (records ws)) h) i l)
 
--- check 1 of the records, and of one
+-- check 1 of all records, and of one
 both : (ws : List ℕ) → conesBounded ws ≡ true → T (leb (length (records ws)) 1024) × T (all sizesBounded (records ws))
 both ws h = and-iff (leb (length (records ws)) 1024) (all sizesBounded (records ws)) .0 (passes (conesBounded ws) h)
 
@@ -58,7 +58,7 @@ bounded-at ws i h = elim (lt-or-le i (length (records ws))) [
   | inr l ↦ ap sizesBounded (record-out ws i l)
 ]
 
--- a record that reads as no kind is none of those that do
+-- where every record reads as a kind, an index whose record reads as none has no rows
 pub unread-rows : (ws : List ℕ) (i : ℕ) → all reads (records ws) ≡ true → reads (recordAt ws i) ≡ false → rowCount (recordAt ws i) ≡ 0
 unread-rows ws i h e = elim (lt-or-le i (length (records ws))) [
   | inl l ↦ absurd (differ (reads (recordAt ws i)) (every-record reads ws i h l) e)
@@ -69,7 +69,7 @@ pub psd-in : (ws : List ℕ) (i v : ℕ) → i < length (records ws) → isPsdOf
 psd-in ws i v h =
     rw (lt-ltb i (length (records ws)) h) (ap (λ (c : Cone). eqb (c .kind) 6 && eqb (c .first) v) (record-in ws i h))
 
--- ---- what a caller has once checks 1 and 4 passed
+-- ---- facts for callers once checks 1 and 4 have passed
 
 pub cones-read : (m : ℕ) (ws : List ℕ) → _≡_ {A = ℕ} (cond (conesRead m ws) 0 4) 0 → conesRead m ws ≡ true
 cones-read m ws e = go (conesRead m ws) e

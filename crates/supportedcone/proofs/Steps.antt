@@ -1,12 +1,12 @@
--- Sums over a list, one element at a time; three elements stored.
+-- Sums over a list, one element at a time; writing three elements one by one.
 use Prim.Native.Nat.{ℕ, _+_, _≤_, _<_}
 use native.Mathlib.Numerals.{add-one}
 use native.Mathlib.Omega.{arith}
-use mathlib.Core.Path.{_≡_, refl, sym, ap, _∙_}
+use mathlib.Core.Path.{_≡_, sym, ap, _∙_}
 use mathlib.Core.List.{List, [], _∷_, map, map-append}
-use lib.ListN.{length, getD, take, drop, set, take-append-drop}
+use lib.ListN.{length, getD, take, drop, take-append-drop}
 use lib.Seq.{take-suc, take-all}
-use Rattle.layout.specs.Lists.{sum, written}
+use Rattle.layout.specs.Lists.{sum}
 use Rattle.layout.proofs.Starts.{sum-append}
 
 module _ {A : Type 0} (f : A → ℕ) where
@@ -20,9 +20,3 @@ module _ {A : Type 0} (f : A → ℕ) where
   pub total-le : (xs : List A) (i : ℕ) → sum (map f (take i xs)) ≤ sum (map f xs)
   total-le xs i =
       omega (arith, sym (ap (λ (l : List A). sum (map f l)) (take-append-drop i xs)) ∙ ap sum (map-append f (take i xs) (drop i xs)) ∙ sum-append (map f (take i xs)) (map f (drop i xs)))
-
-pub set-three : {A : Type 0} (old : List A) (a b c : A) → 3 ≤ length old → set (set (set old 0 a) 1 b) 2 c ≡ written (a ∷ b ∷ c ∷ []) old
-set-three [] a b c h = absurd (omega arith)
-set-three (x ∷ []) a b c h = absurd (omega arith)
-set-three (x ∷ y ∷ []) a b c h = absurd (omega arith)
-set-three (x ∷ y ∷ z ∷ old) a b c h = refl

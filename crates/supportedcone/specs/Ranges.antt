@@ -1,4 +1,4 @@
--- The rows of cones one after the other.
+-- Row counts of consecutive cones.
 use Prim.Native.Nat.{ℕ}
 use mathlib.Core.Bool.{Bool, _&&_}
 use mathlib.Core.List.{List, map}
@@ -8,10 +8,10 @@ use Rattle.layout.specs.Cones.{Cone, records, rowCount, isPsd}
 use Rattle.layout.specs.Lists.{sum}
 use Rattle.supportedcone.specs.Cases.{recordAt}
 
--- how many rows there are in all
+-- the number of rows of all cones together
 abbrev pub rowTotal : List Cone → ℕ
 rowTotal cs = sum (map rowCount cs)
 
--- the i-th record is there, and is a PSD cone of dimension v
+-- whether there is an i-th record and it is a PSD cone of dimension v
 abbrev pub isPsdOf : List ℕ → ℕ → ℕ → Bool
 isPsdOf ws i v = let c = recordAt ws i in ltb i (length (records ws)) && isPsd c && eqb (c .first) v

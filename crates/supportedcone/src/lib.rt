@@ -1,4 +1,4 @@
-// clarabel's solver/core/cones/supportedcone.rs: the cones, their records, rows and α; checks 1 and 4 of the records.
+// Cones as in clarabel's solver/core/cones/supportedcone.rs: reading records, counting rows and α values, and checks 1 and 4 of the records.
 ghost use mathlib.Core.Path.{_≡_};
 ghost use mathlib.Core.Bool.{true, cond};
 ghost use lib.ListN.{length};
@@ -12,7 +12,7 @@ use constants::limit;
 use constants::record;
 use constants::refusal;
 
-// A cone by value: its dimension, or its exponent, or its two counts. GenPower has its count of α first; the α stay in their table.
+// A cone as a value: its dimension, its exponent, or its two counts. GenPower holds its α count first; its α values stay in the table of α.
 pub enum SupportedCone {
     ZeroConeT(u32),
     NonnegativeConeT(u32),
@@ -23,14 +23,14 @@ pub enum SupportedCone {
     PSDTriangleConeT(u32),
 }
 
-// What a record reads as.
+// The result of reading a record: a cone, or `Bad` for a record that reads as none of the seven kinds.
 pub enum ReadCone {
     Is(SupportedCone),
     Bad,
 }
 
 impl SupportedCone {
-    // the kinds' codes
+    // codes of the kinds
     pub const ZERO: u32 = 0;
 
     pub const NONNEGATIVE: u32 = 1;
@@ -45,7 +45,8 @@ impl SupportedCone {
 
     pub const PSD_TRIANGLE: u32 = 6;
 
-    // A record, with the exponent that kind 4 carries. An unused size other than 0 is bad.
+    // Reads a record. `alpha` is the exponent of a power cone (kind 4) and is ignored for other kinds.
+    // Returns `Bad` for an unknown kind or an unused size other than 0.
     pub fn read(kind: u32, first: u32, second: u32, alpha: f64) -> ReadCone
         ensures { λ r. ⌜ told r ≡ readsAs (coneRecord kind first second) alpha ⌝ }
     {
@@ -73,7 +74,7 @@ impl SupportedCone {
         }
     }
 
-    // How many rows the cone has.
+    // Counts the rows of the cone.
     pub fn nvars(self) -> u32
         requires { ⌜ sizesBounded (recordOf self) ≡ true ⌝ }
         ensures { λ r. ⌜ r ≡ rowCount (recordOf self) ⌝ }
@@ -89,7 +90,7 @@ impl SupportedCone {
         }
     }
 
-    // How many values it takes from the table of α.
+    // Counts the values that the cone takes from the table of α.
     pub fn alpha_count(self) -> u32
         ensures { λ r. ⌜ r ≡ alphaCount (recordOf self) ⌝ }
     {
@@ -101,15 +102,15 @@ impl SupportedCone {
     }
 }
 
-// How many whole records there are.
+// Counts the complete records of three words; a partial record at the end is left out.
 pub fn record_count(cones: &[u32]) -> usize
     ensures { λ r. ⌜ r ≡ length (records (now (cones .entry))) ⌝ }
 {
     cones.len() / record::WORDS
 }
 
-// Record i, with the exponent that a power cone carries; bad where there is none of that number. A joining is not given the α:
-// kinds and rows do not depend on them, so there any exponent will do.
+// Reads record `i`, with `alpha` as the exponent of a power cone. Returns `Bad` where there is no record `i`.
+// A joining has no α table; kinds and row counts do not depend on the exponent, so it may pass any number.
 pub fn cone_at(cones: &[u32], i: usize, alpha: f64) -> ReadCone
     ensures { λ r. ⌜ told r ≡ readsAs (recordAt (now (cones .entry)) i) alpha ⌝ }
 {
@@ -120,7 +121,8 @@ pub fn cone_at(cones: &[u32], i: usize, alpha: f64) -> ReadCone
     SupportedCone::read(cones[at], cones[at + 1], cones[at + 2], alpha)
 }
 
-// Record i, with the next of the α that are left; bad where they are fewer than it takes.
+// Reads record `i`, taking its exponent from `alphas`, the part of the α table that earlier records left.
+// Returns `Bad` where `alphas` has fewer values than the cone takes.
 pub fn read_with_alpha(cones: &[u32], i: usize, alphas: &[f64]) -> ReadCone
     ensures { λ r. ⌜ told r ≡ readsWith (recordAt (now (cones .entry)) i) (now (alphas .entry)) ⌝ }
 {
@@ -137,7 +139,7 @@ pub fn read_with_alpha(cones: &[u32], i: usize, alphas: &[f64]) -> ReadCone
     ReadCone::Is(cone)
 }
 
-// Check 1 of one record, of whatever kind.
+// Checks that one record's sizes are within check 1's bounds, whatever its kind.
 fn sizes_bounded(kind: u32, first: u32, second: u32) -> bool
     ensures { λ r. ⌜ r ≡ sizesBounded (coneRecord kind first second) ⌝ }
 {
@@ -150,7 +152,7 @@ fn sizes_bounded(kind: u32, first: u32, second: u32) -> bool
     kind != SupportedCone::PSD_TRIANGLE || first <= limit::PSD_SIZE
 }
 
-// Check 1 of the cones: at most 1,024 whole records, and their sizes. A part record at the end is passed over.
+// Makes check 1 on the cones: at most 1,024 complete records, each with sizes within bounds. A partial record at the end is ignored.
 pub fn cones_bounded(cones: &[u32]) -> bool
     ensures { λ r. ⌜ r ≡ conesBounded (now (cones .entry)) ⌝ }
 {
@@ -169,7 +171,8 @@ pub fn cones_bounded(cones: &[u32]) -> bool
     true
 }
 
-// Check 4 of the records, 4 or 0: each reads as one of the seven kinds, none is a part, and their rows are m.
+// Makes check 4 on the records: each reads as one of the seven kinds, the last one is complete, and their rows sum to `m`.
+// Returns 4 or 0.
 pub fn check_cones(m: u32, cones: &[u32]) -> u32
     requires { ⌜ conesBounded (now cones) ≡ true ⌝ }
     ensures { λ r. ⌜ r ≡ cond (conesRead m (now (cones .entry))) 0 4 ⌝ }
@@ -193,7 +196,7 @@ pub fn check_cones(m: u32, cones: &[u32]) -> u32
     refusal::DONE
 }
 
-// The table of α has as many values as the cones take.
+// Checks that the table `alphas` has exactly as many values as the cones take.
 pub fn alphas_as_many(cones: &[u32], alphas: &[f64]) -> bool
     requires { ⌜ all reads (records (now cones)) ≡ true ⌝ }
     ensures { λ r. ⌜ r ≡ alphasAsMany (now (cones .entry)) (now (alphas .entry)) ⌝ }
@@ -211,7 +214,7 @@ pub fn alphas_as_many(cones: &[u32], alphas: &[f64]) -> bool
     next == alphas.len()
 }
 
-// Whether a table of `count` values of α has as many as the cones take.
+// Checks that the cones take exactly `count` values of α; needs no table.
 pub fn alphas_counted(cones: &[u32], count: usize) -> bool
     requires { ⌜ all reads (records (now cones)) ≡ true ⌝ }
     ensures { λ r. ⌜ r ≡ alphasAsMany (now (cones .entry)) (unvalued count) ⌝ }
@@ -233,7 +236,7 @@ pub fn alphas_counted(cones: &[u32], count: usize) -> bool
     next == count
 }
 
-// The rows of cone i, and none where there is no such cone.
+// Counts the rows of cone `i`. Returns 0 where there is no such cone.
 pub fn cone_rows(cones: &[u32], i: usize) -> u32
     requires { ⌜ conesBounded (now cones) ≡ true ⌝ }
     requires { ⌜ all reads (records (now cones)) ≡ true ⌝ }
@@ -245,7 +248,7 @@ pub fn cone_rows(cones: &[u32], i: usize) -> u32
     cone.nvars()
 }
 
-// Cone i is there, and is a PSD cone of dimension v.
+// Checks that there is a cone `i` and that it is a PSD cone of dimension `v`.
 pub fn is_psd_of(cones: &[u32], i: usize, v: usize) -> bool
     ensures { λ r. ⌜ r ≡ isPsdOf (now (cones .entry)) i v ⌝ }
 {

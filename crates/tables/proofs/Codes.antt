@@ -1,4 +1,4 @@
--- What a part writes to each table.
+-- The words of a part in each table.
 use Prim.Native.Nat.{ℕ, _+_, _-_, _≤_}
 use native.Mathlib.Omega.{arith}
 use mathlib.Core.Path.{_≡_, refl, ap, sym, _∙_}
@@ -23,12 +23,12 @@ use Rattle.tables.proofs.Table.{the-type}
 use Rattle.tables.specs.declared.Table.{Table}
 use Rattle.tables.specs.declared.Table.the-variants.{HRows, CutRows, StandardCones, CompactCones, ConeMap}
 
--- a list by another name: its length, and that it was written
+-- what was written is equal to another list, and as long
 pub renamed : (codes xs : List ℕ) → codes ≡ xs → (r : ℕ) (old new : List ℕ) → r ≡ length xs → new ≡ written xs old
     → (r ≡ length codes) × (new ≡ written codes old)
 renamed codes xs e r old new n w = (n ∙ sym (ap length e), w ∙ ap (λ (ys : List ℕ). written ys old) (sym e))
 
--- a whole cone, by the variant's number
+-- the number of a table's variant, which decides the words of an undecomposed cone
 abbrev tag : Table → ℕ
 tag table = tagOf the-type table
 
@@ -80,7 +80,7 @@ module _ (table : Table) (first i row k : ℕ) (p : Pattern) where
   unfolding cutCodes
   cut-map e = ap (λ (x : Table). cutCodes x first i row k p) e
 
--- ---- one part more of a table
+-- ---- one more part of a table
 
 pub codes-part : (table : Table) (first : ℕ) (x : Part) (ps : List Part)
     → codesFrom table first (x ∷ ps) ≡ partCodes table first x ++ codesFrom table (first + partRows x) ps
@@ -93,7 +93,7 @@ codes-none table first = refl
 
 module _ (table : Table) (full : List ℕ) (t first : ℕ) (h : t ≤ length full) (x : Part) (before later : List Part)
     (left : drop t full ≡ codesFrom table first before) (e : before ≡ x ∷ later) where
-  -- what is left of the table, after the part, and that the part is in it
+  -- the table up to the end of the part, the table after it, and that the part ends inside the table
   pub part-fits : (take (t + length (partCodes table first x)) full ≡ take t full ++ partCodes table first x)
       × (drop (t + length (partCodes table first x)) full ≡ codesFrom table (first + partRows x) later)
       × (t + length (partCodes table first x) ≤ length full)
@@ -101,7 +101,7 @@ module _ (table : Table) (full : List ℕ) (t first : ℕ) (h : t ≤ length ful
       part-done full (partCodes table first x) (codesFrom table (first + partRows x) later) t h
       (left ∙ ap (codesFrom table first) e ∙ codes-part table first x later)
 
-  -- a callee wrote the part to the buffer from t on, which was lent
+  -- a callee wrote the part to the buffer from index t on
   module _ (old out new : List ℕ) (room : length full ≤ length old) (same : length out ≡ length old) (done : out ≡ written (take t full) old)
       (r : ℕ) (n : r ≡ length (partCodes table first x)) (w : new ≡ written (partCodes table first x) (take (length out - t) (drop t out)))
       (rows : ℕ) (counted : rows ≡ partRows x) where

@@ -1,7 +1,7 @@
--- The cones and map entries of a cut cone, and how many words they are.
+-- The cones and map entries of a decomposed cone, and their number of words.
 use Prim.Native.Nat.{ℕ, zero, suc, _+_, _*_}
 use native.Mathlib.Omega.{arith}
-use mathlib.Core.Path.{_≡_, refl, sym, ap, ap₂, _∙_}
+use mathlib.Core.Path.{_≡_, refl, sym, ap, _∙_}
 use mathlib.Core.List.{List, [], _∷_, _++_, map, map-append, reverse, reverse-cons}
 use lib.ListN.{length, drop, length-append, length-reverse, drop-of-length-le}
 use lib.Seq.{drop-cons}
@@ -12,11 +12,11 @@ use Rattle.layout.specs.Compact.{MapEntry, blockOf, entryWords, psdWords, block
 use Rattle.layout.specs.Standard.{standardPart}
 use Rattle.layout.proofs.Members.{length-below}
 use Rattle.layout.proofs.Joins.{map-drop}
-use Rattle.layout.proofs.Starts.{join-append}
+use Rattle.layout.proofs.Starts.{join-append, join-map}
 use Rattle.layout.proofs.Sizes.{map-part, entries-length}
 use Rattle.supernode_tree.specs.Sizes.{dimOf}
 use Rattle.tables.specs.Tables.{entriesDown}
-use Rattle.blocks.proofs.Offsets.{reverse-map, join-map}
+use Rattle.blocks.proofs.Offsets.{reverse-map}
 use Rattle.tables.proofs.Laws.{threes}
 
 module _ (p : Pattern) where
@@ -48,7 +48,7 @@ module _ (p : Pattern) where
   pub map-words : (first i row k : ℕ) → length (mapWords (mapPart first (cut i row k p))) ≡ cliqueCount p * 5
   map-words first i row k = omega (arith, entries-length (mapPart first (cut i row k p)), map-part first (cut i row k p))
 
-  -- the map entries of the cliques from number c on, from the last to the first
+  -- the map entries of the cliques from number c on, from last to first
   down-from : (i k first c n : ℕ) → c + n ≡ cliqueCount p → map (blockEntry i k p first) (reverse (upFrom c n)) ≡ entriesDown i k c first (drop c (p .cliques))
   down-from i k first c zero e = sym (ap (entriesDown i k c first) (drop-of-length-le (p .cliques) {i = c} (omega arith)))
   down-from i k first c (suc n) e =
@@ -60,13 +60,13 @@ module _ (p : Pattern) where
   pub entries-down : (i row k first : ℕ) → mapPart first (cut i row k p) ≡ entriesDown i k 0 first (p .cliques)
   entries-down i row k first = down-from i k first 0 (cliqueCount p) (omega arith)
 
--- as many as there are cliques
+-- there are as many entries as cliques
 pub down-length : (i k c first : ℕ) (cs : List Clique) → length (entriesDown i k c first cs) ≡ length cs
 down-length i k c first [] = refl
 down-length i k c first (q ∷ cs) =
     omega (arith, length-append (entriesDown i k (suc c) first cs) (blockOf i k c (first + sum (map dimOf cs)) (dimOf q) ∷ []), down-length i k (suc c) first cs)
 
--- their words, and those of one clique more
+-- the words of these entries
 abbrev pub downWords : ℕ → ℕ → ℕ → ℕ → List Clique → List ℕ
 downWords i k c first cs = mapWords (entriesDown i k c first cs)
 

@@ -1,4 +1,4 @@
--- Lists written in order: one more number, three more words, the five of a map entry; and lists of as many words joined.
+-- Lists written in order: one more number, three more words, the five words of a map entry; and joins of lists of one length.
 use Prim.Native.Nat.{ℕ, zero, suc, _+_, _*_, _≤_, _<_}
 use native.Mathlib.Numerals.{add-one}
 use native.Mathlib.Omega.{arith}
@@ -15,7 +15,7 @@ use Rattle.layout.proofs.Joins.{upFrom-last}
 use Rattle.layout.proofs.Records.{record-at}
 use Rattle.layout.proofs.Buffers.{set-written}
 
--- three more
+-- three more words written
 pub three-more : {A : Type 0} (xs old : List A) (u v w : A) (t : ℕ) → t ≡ length xs → t + 2 < length old
     → set (set (set (written xs old) t u) (t + 1) v) (t + 2) w ≡ written (xs ++ (u ∷ v ∷ w ∷ [])) old
 three-more {A} xs old u v w t e h =
@@ -25,7 +25,7 @@ three-more {A} xs old u v w t e h =
     (omega (arith, length-append xs (u ∷ []), length-append (xs ++ (u ∷ [])) (v ∷ []))) h
     ∙ ap (λ (l : List A). written l old) (ap (λ (l : List A). l ++ (w ∷ [])) (append-assoc xs (u ∷ []) (v ∷ [])) ∙ append-assoc xs (u ∷ v ∷ []) (w ∷ []))
 
--- three stored at t
+-- three words stored from index t on
 module _ {A : Type 0} (o : List A) (t : ℕ) (u v w : A) (h : t + 3 ≤ length o) where
   abbrev stored : List A
   stored = set (set (set o t u) (t + 1) v) (t + 2) w
@@ -42,7 +42,7 @@ module _ {A : Type 0} (o : List A) (t : ℕ) (u v w : A) (h : t + 3 ≤ length o
       ∙ three-more (take t o) o u v w t (sym size) (omega arith)
       ∙ ap (λ (n : ℕ). (take t o ++ (u ∷ v ∷ w ∷ [])) ++ drop n o) after
 
-  -- what stands up to the three, after them, and from them on
+  -- the list up to the three words, after them, and from them on
   pub stored-front : take (t + 3) stored ≡ take t o ++ (u ∷ v ∷ w ∷ [])
   stored-front = ap (take (t + 3)) three-set ∙ take-at (take t o ++ (u ∷ v ∷ w ∷ [])) (drop (t + 3) o) (t + 3) after
 
@@ -54,7 +54,7 @@ module _ {A : Type 0} (o : List A) (t : ℕ) (u v w : A) (h : t + 3 ≤ length o
       ap (drop t) (three-set ∙ append-assoc (take t o) (u ∷ v ∷ w ∷ []) (drop (t + 3) o))
       ∙ drop-at (take t o) (u ∷ v ∷ w ∷ drop (t + 3) o) t size
 
-  -- a list written from its first element on, and one from its last on, of which rest is left
+  -- the three words extend a list written from its first element on, or from its last on, of which rest is left to write
   module _ (new rest total : List A) (e : new ≡ stored) where
     pub up-more : (old : List A) → take t o ++ (u ∷ v ∷ w ∷ rest) ≡ total → drop t o ≡ drop t old
         → (take (t + 3) new ++ rest ≡ total) × (drop (t + 3) new ≡ drop (t + 3) old)
@@ -68,7 +68,7 @@ module _ {A : Type 0} (o : List A) (t : ℕ) (u v w : A) (h : t + 3 ≤ length o
         ap (λ (l : List A). rest ++ drop t l) e ∙ ap (λ (l : List A). rest ++ l) stored-from
         ∙ sym (append-assoc rest (u ∷ v ∷ w ∷ []) (drop (t + 3) o)) ∙ f
 
--- five more
+-- five more words written
 pub five-more : {A : Type 0} (xs old : List A) (u v w x y : A) (t : ℕ) → t ≡ length xs → t + 4 < length old
     → set (set (set (set (set (written xs old) t u) (t + 1) v) (t + 2) w) (t + 3) x) (t + 4) y ≡ written (xs ++ (u ∷ v ∷ w ∷ x ∷ y ∷ [])) old
 five-more {A} xs old u v w x y t e h =
@@ -78,7 +78,7 @@ five-more {A} xs old u v w x y t e h =
     ∙ set-written (front ++ (x ∷ [])) old y (t + 4) (omega (arith, length-append xs (u ∷ v ∷ w ∷ []), length-append front (x ∷ []))) h
     ∙ ap (λ (l : List A). written l old) (ap (λ (l : List A). l ++ (y ∷ [])) (append-assoc xs (u ∷ v ∷ w ∷ []) (x ∷ [])) ∙ append-assoc xs (u ∷ v ∷ w ∷ x ∷ []) (y ∷ []))
 
--- five stored at t, of a list that is written from its last element on, of which rest is left
+-- five words stored from index t on extend a list written from its last element on, of which rest is left to write
 pub entry-more : {A : Type 0} (o : List A) (t : ℕ) (u v w x y : A) → t + 5 ≤ length o → (new rest total : List A)
     → new ≡ set (set (set (set (set o t u) (t + 1) v) (t + 2) w) (t + 3) x) (t + 4) y
     → (rest ++ (u ∷ v ∷ w ∷ x ∷ y ∷ [])) ++ drop (t + 5) o ≡ total → rest ++ drop t new ≡ total
@@ -103,14 +103,14 @@ entry-more {A} o t u v w x y h new rest total e f =
         ∙ ap (λ (n : ℕ). (take t o ++ five) ++ drop n o) after
         ∙ append-assoc (take t o) five (drop (t + 5) o)
 
--- all of it is written
+-- nothing is left: the whole list is written
 pub up-done : {A : Type 0} (out old full : List A) (t : ℕ) → t ≤ length out → take t out ++ [] ≡ full → drop t out ≡ drop t old → out ≡ written full old
 up-done {A} out old full t h e g =
     let f : take t out ≡ full = sym (append-nil (take t out)) ∙ e in
     sym (take-append-drop t out) ∙ ap₂ (λ (x y : List A). x ++ y) f g
     ∙ ap (λ (n : ℕ). full ++ drop n old) (sym (length-take-le t out h) ∙ ap length f)
 
--- one more row
+-- one more row number written
 pub count-more : (old : List ℕ) (first i : ℕ) → i < length old
     → set (written (upFrom first i) old) i (first + i) ≡ written (upFrom first (i + 1)) old
 count-more old first i h =
@@ -129,14 +129,14 @@ word-of ws i (suc (suc (suc j))) h l = absurd (omega arith)
 -- ---- joined lists
 
 module _ {A B : Type 0} where
-  -- lists of three
+  -- joined lists of three elements have three times as many elements as there are lists
   pub threes : (f : A → List B) → ((x : A) → length (f x) ≡ 3) → (xs : List A) → length (join f xs) ≡ length xs * 3
   threes f h [] = refl
   threes f h (x ∷ xs) = omega (arith, length-append (f x) (join f xs), h x, threes f h xs)
 
 -- ---- a list written part by part
 
--- what is left of a list is a part and the rest
+-- where the elements left are xs and rest: the list up to the end of xs, the list after xs, and that xs ends inside it
 pub part-done : {A : Type 0} (full xs rest : List A) (t : ℕ) → t ≤ length full → drop t full ≡ xs ++ rest
     → (take (t + length xs) full ≡ take t full ++ xs) × (drop (t + length xs) full ≡ rest) × (t + length xs ≤ length full)
 part-done {A} full xs rest t h e = (

@@ -77,7 +77,7 @@ cut-rows first (cut i r k p ∷ ps) =
     ap (λ (xs : List ℕ). map cutCode (patternRows p r first) ++ xs) (cut-rows (first + blockRows p) ps)
     ∙ sym (map-append cutCode (patternRows p r first) (rowsFrom (first + blockRows p) ps))
 
--- ---- the table from the first part on is the layout's
+-- ---- the table from the first part on is that of the layout
 
 pub table-is : (table : Table) (ps : List Part) → codesFrom table 0 ps ≡ tableOf table ps
 table-is HRows ps = h-rows 0 ps
@@ -86,7 +86,7 @@ table-is StandardCones ps = standard-cones 0 ps
 table-is CompactCones ps = compact-cones 0 ps
 table-is ConeMap ps = cone-map 0 ps
 
--- ---- how many words a table has
+-- ---- the number of words of a table
 
 cones-length : (f : Part → List ℕ) → ((x : Part) → length (f x) ≡ partCones x * 3) → (ps : List Part) → length (join f ps) ≡ coneCount ps * 3
 cones-length f h [] = refl
@@ -107,7 +107,7 @@ table-length CompactCones ps h = cones-length compactPart part ps
     part (cut i row k p) = compact-words p i row k
 table-length ConeMap ps h = omega (arith, entries-length (coneMap ps), map-count 0 ps)
 
--- ---- the augmented rows that a table holds are few
+-- ---- the augmented rows of a table are within the bound
 
 pub few-rows : (table : Table) (a b : ℕ) → Few table b → a ≤ b → Few table a
 few-rows HRows a b few l = tt

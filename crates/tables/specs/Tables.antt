@@ -1,8 +1,7 @@
--- The tables, and what each part writes to them.
+-- The tables, and the part of each that a cone makes up.
 use Prim.Native.Nat.{ℕ, suc, _+_, _*_, _≤_}
 use mathlib.Core.Bool.{Bool, true, false}
 use mathlib.Core.List.{List, [], _∷_, _++_, map}
-use lib.ListN.{length}
 use Rattle.layout.specs.Lists.{join, sum, upFrom}
 use Rattle.layout.specs.Cones.{Cone, rowCount}
 use Rattle.layout.specs.Patterns.{Pattern, Clique}
@@ -15,7 +14,7 @@ use Rattle.blocks.specs.Codes.{standardPatternRows}
 use Rattle.tables.specs.declared.Table.{Table}
 use Rattle.tables.specs.declared.Table.the-variants.{HRows, CutRows, StandardCones, CompactCones, ConeMap}
 
--- the table of the parts
+-- a table of the parts
 abbrev pub tableOf : Table → List Part → List ℕ
 tableOf HRows ps = standardRows ps
 tableOf CutRows ps = map cutCode (compactRows ps)
@@ -23,7 +22,7 @@ tableOf StandardCones ps = join standardPart ps
 tableOf CompactCones ps = join compactPart ps
 tableOf ConeMap ps = mapWords (coneMap ps)
 
--- how many words it has
+-- how many words a table has
 abbrev pub tableLength : Table → List Part → ℕ
 tableLength HRows ps = blockRowCount ps
 tableLength CutRows ps = blockRowCount ps
@@ -31,7 +30,7 @@ tableLength StandardCones ps = coneCount ps * 3
 tableLength CompactCones ps = coneCount ps * 3
 tableLength ConeMap ps = coneCount ps * 5
 
--- augmented rows are few where the table holds them
+-- n augmented rows are within the bound, for the tables that hold augmented row numbers
 abbrev pub Few : Table → ℕ → Type 0
 Few HRows n = Unit {0}
 Few CutRows n = n ≤ 262144
@@ -41,12 +40,12 @@ Few ConeMap n = n ≤ 262144
 
 -- ---- part by part
 
--- the cones of a part: true stands for the standard route, false for the compact one
+-- the cones of a part: on the standard route for true, on the compact one for false
 abbrev pub routePart : Bool → Part → List ℕ
 routePart true x = standardPart x
 routePart false x = compactPart x
 
--- a whole cone, number i with record c, from its row `row` on, with `first` augmented rows before it
+-- a table's words for an undecomposed cone, number i with record c and first row `row`, with `first` augmented rows before it
 unfoldable pub wholeCodes : Table → ℕ → ℕ → Cone → ℕ → List ℕ
 wholeCodes HRows first i c row = upFrom row (rowCount c)
 wholeCodes CutRows first i c row = upFrom row (rowCount c)
@@ -54,7 +53,7 @@ wholeCodes StandardCones first i c row = standardPart (whole i c row)
 wholeCodes CompactCones first i c row = compactPart (whole i c row)
 wholeCodes ConeMap first i c row = mapWords (mapPart first (whole i c row))
 
--- cone i cut by pattern p, number k, with `first` augmented rows before it
+-- a table's words for cone i, decomposed by pattern p, number k, with `first` augmented rows before it
 unfoldable pub cutCodes : Table → ℕ → ℕ → ℕ → ℕ → Pattern → List ℕ
 cutCodes HRows first i row k p = standardPatternRows p row
 cutCodes CutRows first i row k p = map cutCode (patternRows p row first)
@@ -66,14 +65,14 @@ abbrev pub partCodes : Table → ℕ → Part → List ℕ
 partCodes table first (whole i c row) = wholeCodes table first i c row
 partCodes table first (cut i row k p) = cutCodes table first i row k p
 
--- the table from some parts on, with `first` augmented rows before them
+-- a table's words for some parts, with `first` augmented rows before them
 unfoldable pub codesFrom : Table → ℕ → List Part → List ℕ
 codesFrom table first [] = []
 codesFrom table first (x ∷ ps) = partCodes table first x ++ codesFrom table (first + partRows x) ps
 
 -- ---- the map entries of cliques
 
--- from the last to the first, where the first has number c, and with `first` augmented rows before them
+-- the entries of cliques numbered from c on, from last to first, with `first` augmented rows before them
 abbrev pub entriesDown : ℕ → ℕ → ℕ → ℕ → List Clique → List MapEntry
 entriesDown i k c first [] = []
 entriesDown i k c first (q ∷ qs) = entriesDown i k (suc c) first qs ++ (blockOf i k c (first + sum (map dimOf qs)) (dimOf q) ∷ [])

@@ -1,4 +1,4 @@
-// The tables that follow from the cones and the patterns alone: rows of H, rows of the compact route, cones, the cone map.
+// Writes the tables that depend on the cones and patterns only: the rows of H, the compact route's rows, the cones, and the cone map.
 ghost use mathlib.Core.Path.{_≡_};
 ghost use mathlib.Core.Bool.{true};
 ghost use mathlib.Core.List.{[], _∷_, map, reverse};
@@ -12,7 +12,7 @@ ghost use Rattle.layout.specs.Blocks.{cut, parts, blockRows, blockRowCount};
 ghost use Rattle.layout.specs.Checks.{Sound, RightPattern, noCone};
 ghost use Rattle.layout.specs.Compact.{coneWords, mapPart, mapWords, psdWords};
 ghost use Rattle.supernode_tree.specs.Reads.{patternAt, Whole, cliquesFrom};
-ghost use Rattle.supernode_tree.specs.Sizes.{atMost, dimOf};
+ghost use Rattle.supernode_tree.specs.Sizes.{blockAtMost, dimOf};
 ghost use Rattle.tables.specs.Tables.{tableOf, routePart, wholeCodes, cutCodes, entriesDown, Few};
 use constants::entry;
 use constants::entry::NO_PATTERN;
@@ -23,7 +23,7 @@ use supernode_tree::Clique;
 use supernode_tree::Pattern;
 use supportedcone::SupportedCone;
 
-// The rows of H; the compact route's rows, coded for its cut; the cones of either route; the cone map.
+// The tables: the rows of H; the compact route's rows, coded for its cut; the cones of each route; the cone map.
 pub enum Table {
     HRows,
     CutRows,
@@ -32,9 +32,9 @@ pub enum Table {
     ConeMap,
 }
 
-// ---- a whole cone
+// ---- an undecomposed cone
 
-// The numbers from first on; how many.
+// Writes the `count` numbers `first`, `first + 1`, .. to `out`. Returns how many.
 fn count_up(out: &mut [u32], first: u32, count: u32) -> usize
     requires { ⌜ (count ≤ length (now out)) × (first + count < 4294967296) ⌝ }
     ensures { λ r. ⌜ r ≡ count ⌝ }
@@ -48,7 +48,7 @@ fn count_up(out: &mut [u32], first: u32, count: u32) -> usize
     i as usize
 }
 
-// Three words at t.
+// Writes three words to `out` from index `t` on.
 fn put(out: &mut [u32], t: usize, a: u32, b: u32, c: u32)
     requires { ⌜ t + 3 ≤ length (now out) ⌝ }
     ensures { λ _. ⌜ now (out .exit) ≡ set (set (set (now (out .entry)) t a) (t + 1) b) (t + 2) c ⌝ }
@@ -58,7 +58,7 @@ fn put(out: &mut [u32], t: usize, a: u32, b: u32, c: u32)
     out[t + 2] = c;
 }
 
-// The words of an entry of the cone map at t.
+// Writes the five words of a cone map entry to `out` from index `t` on.
 fn put_entry(out: &mut [u32], t: usize, cone: u32, pattern: u32, clique: u32, first: u32, rows: u32)
     requires { ⌜ t + 5 ≤ length (now out) ⌝ }
     ensures { λ _. ⌜ now (out .exit) ≡ set (set (set (set (set (now (out .entry)) t cone) (t + 1) pattern) (t + 2) clique) (t + 3) first) (t + 4) rows ⌝ }
@@ -68,7 +68,7 @@ fn put_entry(out: &mut [u32], t: usize, cone: u32, pattern: u32, clique: u32, fi
     out[t + entry::ROW_COUNT] = rows;
 }
 
-// Record i; how many words.
+// Copies cone record `i` to `out`. Returns its number of words.
 fn copy_record(cones: &[u32], i: usize, out: &mut [u32]) -> usize
     requires { ⌜ (i * 3 + 3 ≤ length (now cones)) × (i < 1024) × (3 ≤ length (now out)) ⌝ }
     ensures { λ r. ⌜ r ≡ 3 ⌝ }
@@ -83,7 +83,7 @@ fn copy_record(cones: &[u32], i: usize, out: &mut [u32]) -> usize
     j
 }
 
-// What the cone at a place writes, which is whole, with `first` augmented rows before it; how many words.
+// Writes the part of `table` for the undecomposed cone at `place`, with `first` augmented rows before it. Returns the number of words.
 fn write_whole(
     table: Table,
     place: Place,
@@ -108,12 +108,12 @@ fn write_whole(
     }
 }
 
-// ---- a cut cone
+// ---- a decomposed cone
 
-// A PSD cone for each of count cliques, from the first to the last; how many words.
+// Writes the record of a PSD cone for each of `count` cliques that start at offset `first`, from first to last. Returns the number of words.
 fn cones_up(words: &[u32], first: usize, count: u32, out: &mut [u32]) -> usize
     requires { ⌜ Whole (now words) first count × (count * 3 ≤ length (now out)) ⌝ }
-    requires { ⌜ all (atMost 256) (cliquesFrom (now words) first count) ≡ true ⌝ }
+    requires { ⌜ all (blockAtMost 256) (cliquesFrom (now words) first count) ≡ true ⌝ }
     ensures { λ r. ⌜ r ≡ count * 3 ⌝ }
     ensures { λ _. ⌜ now (out .exit) ≡ written (join psdWords (map blockSize (cliquesFrom (now (words .entry)) first count))) (now (out .entry)) ⌝ }
 {
@@ -136,10 +136,10 @@ fn cones_up(words: &[u32], first: usize, count: u32, out: &mut [u32]) -> usize
     t
 }
 
-// The same from the last to the first: the last place is filled first.
+// Does the same from last to first: the cliques are read from the first on, and `out` is filled from its end.
 fn cones_down(words: &[u32], first: usize, count: u32, out: &mut [u32]) -> usize
     requires { ⌜ Whole (now words) first count × (count * 3 ≤ length (now out)) ⌝ }
-    requires { ⌜ all (atMost 256) (cliquesFrom (now words) first count) ≡ true ⌝ }
+    requires { ⌜ all (blockAtMost 256) (cliquesFrom (now words) first count) ≡ true ⌝ }
     ensures { λ r. ⌜ r ≡ count * 3 ⌝ }
     ensures { λ _. ⌜ now (out .exit) ≡ written (join psdWords (reverse (map blockSize (cliquesFrom (now (words .entry)) first count)))) (now (out .entry)) ⌝ }
 {
@@ -160,7 +160,8 @@ fn cones_down(words: &[u32], first: usize, count: u32, out: &mut [u32]) -> usize
     count as usize * record::WORDS
 }
 
-// A route's cones of the pattern at an offset, cliques from first to last or from last to first; how many words.
+// Writes a route's cone records for the pattern at offset `at`: cliques from first to last if `standard`, else from last to first. Returns the number
+// of words.
 fn pattern_cones(standard: bool, words: &[u32], at: usize, out: &mut [u32]) -> usize
     requires { ⌜ RightPattern (patternAt (now words) at) × (patternAt (now words) at .vertexCount ≤ 256) ⌝ }
     requires { ⌜ cliqueCount (patternAt (now words) at) * 3 ≤ length (now out) ⌝ }
@@ -174,8 +175,8 @@ fn pattern_cones(standard: bool, words: &[u32], at: usize, out: &mut [u32]) -> u
     cones_down(words, p.cliques, p.clique_count, out)
 }
 
-// The map entries of count cliques of one pattern, whose rows end at `end`, from the last to the first: the last place is filled first, with the first
-// clique, whose rows are the last. How many words.
+// Writes the map entries of the `count` cliques of one pattern, from last to first; their augmented rows end before row `end`. The first clique, whose rows
+// come last, is read first, so `out` is filled from its end. Returns the number of words.
 fn entries_down(
     cone: u32,
     pattern: u32,
@@ -186,7 +187,7 @@ fn entries_down(
     out: &mut [u32],
 ) -> usize
     requires { ⌜ Whole (now words) first count × (count * 5 ≤ length (now out)) ⌝ }
-    requires { ⌜ all (atMost 256) (cliquesFrom (now words) first count) ≡ true ⌝ }
+    requires { ⌜ all (blockAtMost 256) (cliquesFrom (now words) first count) ≡ true ⌝ }
     requires { ⌜ sum (map dimOf (cliquesFrom (now words) first count)) ≤ end ⌝ }
     ensures { λ r. ⌜ r ≡ count * 5 ⌝ }
     ensures { λ _. ⌜ now (out .exit) ≡ written (mapWords (entriesDown cone pattern 0 (end - sum (map dimOf (cliquesFrom (now (words .entry)) first count))) (cliquesFrom (now (words .entry)) first count))) (now (out .entry)) ⌝ }
@@ -214,7 +215,7 @@ fn entries_down(
     count as usize * entry::WORDS
 }
 
-// The map entries of the pattern at an offset, with `first` augmented rows before them; how many words.
+// Writes the map entries of the pattern at offset `at`, with `first` augmented rows before its own. Returns the number of words.
 fn pattern_entries(
     cone: u32,
     pattern: u32,
@@ -241,7 +242,8 @@ fn pattern_entries(
     )
 }
 
-// What the cone at a place writes, which the pattern at an offset cuts, with `first` augmented rows before it; how many words.
+// Writes the part of `table` for the cone at `place`, which the pattern at offset `at` decomposes, with `first` augmented rows before it. Returns the
+// number of words.
 fn write_cut(
     table: Table,
     place: Place,
@@ -274,7 +276,7 @@ fn write_cut(
 
 // ---- the tables
 
-// Writes a table of the cones, each whole or cut by its pattern; how many words.
+// Writes `table` for all cones, in order, to `out`. Returns the number of words.
 pub fn write_table(
     table: Table,
     m: u32,

@@ -1,8 +1,8 @@
-// Tells a list of test loads (document 02, Q-5): what the generator and both cuts answer for each, the length of every table, and a
-// checksum over all tables of a problem. A site holds what it prints against ours.
+// Prints a list of test loads (document 02, Q-5): the results of the generator and of both cuts for each, the length of every table, and a
+// checksum over all tables of a problem. A site compares its output with ours.
 //
-// A checksum starts from 1. Each number of a table, the bits of a value, is joined to it by exclusive or, and the draw after that is
-// the checksum with this number.
+// A checksum starts from 1. For each element of a table (for a value, its bits) the checksum is combined with the element by exclusive or, and
+// the generator's next draw from that is the new checksum.
 use libc::STDOUT_FILENO;
 use stored::item;
 
@@ -10,19 +10,19 @@ const STANDARD: u32 = 0;
 
 const COMPACT: u32 = 1;
 
-// ---- words and numbers
+// ---- text and numbers
 
 fn say(text: &[u8]) {
     io::write_all(STDOUT_FILENO, text);
 }
 
-// A number after its name.
+// Prints `name` and then the number `n`.
 fn tell(name: &[u8], n: u64) {
     say(name);
     io::print_decimal(STDOUT_FILENO, n);
 }
 
-// What a call answers.
+// Prints the name of a call and the number that it returned.
 fn tell_answer(name: &[u8], answer: u32) {
     say(b"  ");
     tell(name, answer as u64);
@@ -30,12 +30,12 @@ fn tell_answer(name: &[u8], answer: u32) {
 
 // ---- checksums
 
-// The bits of a value. A NaN's cannot be read, and no load has one.
+// Returns the bits of `v`; 0 for a NaN, whose bits cannot be read and which no load has.
 fn bits(v: f64) -> u64 {
     if v != v { 0 } else { f64::to_bits(v) }
 }
 
-// A checksum with the first `n` numbers of a table.
+// Adds the first `n` numbers of `table` to the checksum `sum`. Returns the new checksum.
 fn add_words(sum: u64, table: &[u32], n: u32) -> u64 {
     let mut s = sum;
     let mut i = 0;
@@ -46,7 +46,7 @@ fn add_words(sum: u64, table: &[u32], n: u32) -> u64 {
     s
 }
 
-// A checksum with the first `n` values of a table.
+// Adds the first `n` values of `table` to the checksum `sum`. Returns the new checksum.
 fn add_values(sum: u64, table: &[f64], n: u32) -> u64 {
     let mut s = sum;
     let mut i = 0;
@@ -57,12 +57,12 @@ fn add_values(sum: u64, table: &[f64], n: u32) -> u64 {
     s
 }
 
-// The value at a place of a table, or 0.
+// Returns the value at index `i` of `table`; 0.0 where there is none.
 fn value(table: &[f64], i: usize) -> f64 {
     if i < table.len() { table[i] } else { 0.0 }
 }
 
-// Tells the lengths of eleven tables.
+// Prints the lengths of eleven tables.
 fn tell_lengths(lengths: &[u32]) {
     say(b": lengths");
     let mut i = 0;
@@ -72,7 +72,7 @@ fn tell_lengths(lengths: &[u32]) {
     }
 }
 
-// Tells the lengths and the checksum of eleven tables, each as long as `lengths` says.
+// Prints the lengths and the checksum of eleven tables, whose lengths are in `lengths`.
 fn tell_tables<'a>(
     lengths: &'a [u32],
     p_starts: &'a [u32],
@@ -106,7 +106,44 @@ fn tell_tables<'a>(
 
 // ---- a cut
 
-// Cuts a load on a route and tells what is written.
+// Prints the result of a cut of a load and, where it was not refused, its eleven outputs.
+fn tell_outputs<'a>(
+    name: &[u8],
+    answer: u32,
+    lengths: &'a [u32],
+    p_starts: &'a [u32],
+    p_rows: &'a [u32],
+    p_values: &'a [f64],
+    q: &'a [f64],
+    a_starts: &'a [u32],
+    a_rows: &'a [u32],
+    a_values: &'a [f64],
+    b: &'a [f64],
+    cones: &'a [u32],
+    alphas: &'a [f64],
+    map: &'a [u32],
+) {
+    tell_answer(name, answer);
+    if answer == 0 {
+        tell_tables(
+            lengths,
+            p_starts,
+            p_rows,
+            p_values,
+            q,
+            a_starts,
+            a_rows,
+            a_values,
+            b,
+            cones,
+            alphas,
+            map,
+        );
+    }
+    say(b"\n");
+}
+
+// Cuts a load on a route, with outputs of the given `lengths`, and prints what is written.
 fn tell_cut<'a>(
     name: &[u8],
     route: u32,
@@ -123,26 +160,8 @@ fn tell_cut<'a>(
     cones: &'a [u32],
     alphas: &'a [f64],
     pattern: &'a [u32],
+    lengths: &'a [u32],
 ) {
-    let mut lengths = [0u32; 11];
-    decomp::sizes(
-        route,
-        n,
-        m,
-        p_starts,
-        p_rows,
-        p_values,
-        q,
-        a_starts,
-        a_rows,
-        a_values,
-        b,
-        cones,
-        alphas,
-        1,
-        pattern,
-        &mut lengths,
-    );
     let mut p_starts_out = [0u32; 32768];
     let mut p_rows_out = [0u32; 32768];
     let mut p_values_out = [0f64; 32768];
@@ -182,29 +201,84 @@ fn tell_cut<'a>(
         &mut alphas_out,
         &mut map_out,
     );
-    tell_answer(name, answer);
-    if answer == 0 {
-        tell_tables(
-            &lengths,
-            &p_starts_out,
-            &p_rows_out,
-            &p_values_out,
-            &q_out,
-            &a_starts_out,
-            &a_rows_out,
-            &a_values_out,
-            &b_out,
-            &cones_out,
-            &alphas_out,
-            &map_out,
-        );
-    }
-    say(b"\n");
+    tell_outputs(
+        name,
+        answer,
+        lengths,
+        &p_starts_out,
+        &p_rows_out,
+        &p_values_out,
+        &q_out,
+        &a_starts_out,
+        &a_rows_out,
+        &a_values_out,
+        &b_out,
+        &cones_out,
+        &alphas_out,
+        &map_out,
+    );
+}
+
+// Cuts a load on a route, with outputs of the lengths that `sizes` gives, and prints what is written.
+fn tell_route<'a>(
+    name: &[u8],
+    route: u32,
+    n: u32,
+    m: u32,
+    p_starts: &'a [u32],
+    p_rows: &'a [u32],
+    p_values: &'a [f64],
+    q: &'a [f64],
+    a_starts: &'a [u32],
+    a_rows: &'a [u32],
+    a_values: &'a [f64],
+    b: &'a [f64],
+    cones: &'a [u32],
+    alphas: &'a [f64],
+    pattern: &'a [u32],
+) {
+    let mut lengths = [0u32; 11];
+    decomp::sizes(
+        route,
+        n,
+        m,
+        p_starts,
+        p_rows,
+        p_values,
+        q,
+        a_starts,
+        a_rows,
+        a_values,
+        b,
+        cones,
+        alphas,
+        1,
+        pattern,
+        &mut lengths,
+    );
+    tell_cut(
+        name,
+        route,
+        n,
+        m,
+        p_starts,
+        p_rows,
+        p_values,
+        q,
+        a_starts,
+        a_rows,
+        a_values,
+        b,
+        cones,
+        alphas,
+        pattern,
+        &lengths,
+    );
 }
 
 // ---- a load
 
-// The first `n` numbers of a table.
+// Returns the first `n` numbers of `table`; all where it is shorter.
 fn front(table: &[u32], n: u32) -> &[u32] {
     let count = n as usize;
     if table.len() < count {
@@ -221,7 +295,7 @@ fn front_values(table: &[f64], n: u32) -> &[f64] {
     &table[..count]
 }
 
-// Tells a problem and both its cuts.
+// Prints a problem and both its cuts.
 fn tell_problem<'a>(
     lengths: &'a [u32],
     p_starts: &'a [u32],
@@ -253,7 +327,7 @@ fn tell_problem<'a>(
         pattern,
     );
     say(b"\n");
-    tell_cut(
+    tell_route(
         b"standard ",
         STANDARD,
         n,
@@ -270,7 +344,7 @@ fn tell_problem<'a>(
         alphas,
         pattern,
     );
-    tell_cut(
+    tell_route(
         b"compact ",
         COMPACT,
         n,
@@ -289,7 +363,7 @@ fn tell_problem<'a>(
     );
 }
 
-// Tells the problem at the fronts of the generator's outputs.
+// Prints the problem that the generator wrote to the front of its outputs.
 fn tell_fronts<'a>(
     lengths: &'a [u32],
     p_starts: &'a [u32],
@@ -320,15 +394,50 @@ fn tell_fronts<'a>(
     );
 }
 
-// Tells a load from its four numbers.
-fn tell_load(seed: u64, v: u32, w: u32, n: u32) {
-    tell(b"seed ", seed);
-    tell(b", v ", v as u64);
-    tell(b", w ", w as u64);
-    tell(b", n ", n as u64);
-    say(b"\n");
+// Prints the result of the generator and, where it was not refused, the problem that it wrote.
+fn tell_generated<'a>(
+    answer: u32,
+    seed: u64,
+    v: u32,
+    w: u32,
+    n: u32,
+    p_starts: &'a [u32],
+    p_rows: &'a [u32],
+    p_values: &'a [f64],
+    q: &'a [f64],
+    a_starts: &'a [u32],
+    a_rows: &'a [u32],
+    a_values: &'a [f64],
+    b: &'a [f64],
+    cones: &'a [u32],
+    alphas: &'a [f64],
+    pattern: &'a [u32],
+) {
     let mut lengths = [0u32; 11];
     generator::generate_sizes(seed, v, w, n, &mut lengths);
+    tell_answer(b"generate ", answer);
+    if answer == 0 {
+        tell_fronts(
+            &lengths,
+            p_starts,
+            p_rows,
+            p_values,
+            q,
+            a_starts,
+            a_rows,
+            a_values,
+            b,
+            cones,
+            alphas,
+            pattern,
+        );
+    } else {
+        say(b"\n");
+    }
+}
+
+// Generates the load of these four numbers and prints it with both its cuts.
+fn tell_problem_of(seed: u64, v: u32, w: u32, n: u32) {
     let mut p_starts = [0u32; 8192];
     let mut p_rows = [0u32; 8192];
     let mut p_values = [0f64; 8192];
@@ -357,25 +466,34 @@ fn tell_load(seed: u64, v: u32, w: u32, n: u32) {
         &mut alphas,
         &mut pattern,
     );
-    tell_answer(b"generate ", answer);
-    if answer == 0 {
-        tell_fronts(
-            &lengths,
-            &p_starts,
-            &p_rows,
-            &p_values,
-            &q,
-            &a_starts,
-            &a_rows,
-            &a_values,
-            &b,
-            &cones,
-            &alphas,
-            &pattern,
-        );
-    } else {
-        say(b"\n");
-    }
+    tell_generated(
+        answer,
+        seed,
+        v,
+        w,
+        n,
+        &p_starts,
+        &p_rows,
+        &p_values,
+        &q,
+        &a_starts,
+        &a_rows,
+        &a_values,
+        &b,
+        &cones,
+        &alphas,
+        &pattern,
+    );
+}
+
+// Prints the four numbers of a load, and the load.
+fn tell_load(seed: u64, v: u32, w: u32, n: u32) {
+    tell(b"seed ", seed);
+    tell(b", v ", v as u64);
+    tell(b", w ", w as u64);
+    tell(b", n ", n as u64);
+    say(b"\n");
+    tell_problem_of(seed, v, w, n);
 }
 
 // ---- the list
@@ -398,7 +516,7 @@ fn larger_loads() {
     tell_load(13, 64, 63, 3);
 }
 
-// One number out of its range in each.
+// Prints loads that are refused, each with one number out of its range.
 fn refused_loads() {
     tell_load(0, 8, 2, 4);
     tell_load(1, 1, 1, 1);

@@ -1,5 +1,5 @@
--- Consecutive numbers written where a list says: without repeats each member's place in the list stands at the member,
--- so a permutation leaves its inverse.
+-- Consecutive numbers written at the indices that a list gives: for a duplicate-free list the number at index w is the position of w
+-- in the list, so a permutation gives its inverse.
 use Prim.Native.Nat.{ℕ, suc, _+_, _≤_, _<_, zero-le, suc-le-suc}
 use native.Mathlib.Numerals.{add-one}
 use native.Mathlib.Omega.{arith}
@@ -21,13 +21,13 @@ use Rattle.layout.proofs.Distinct.{distinct-cons, distinct-length, permutation-
 use Rattle.layout.proofs.Starts.{length-written, written-front, written-rest}
 use Rattle.utils.specs.Scattered.{scattered}
 
--- ---- places
+-- ---- positions
 
--- a member of a list that is not its first is a member of the rest
+-- a member of a list that differs from the first is a member of the rest
 has-rest : (w x : ℕ) (xs : List ℕ) → (w ≡ x → ⊥) → T (has w (x ∷ xs)) → T (has w xs)
 has-rest w x xs n h = elim (has-cons w x xs .0 h) [ inl e ↦ absurd (n e) | inr k ↦ k ]
 
--- a member stands at its place
+-- a member of a list is at its position
 pub place-at : (w : ℕ) (xs : List ℕ) (d : ℕ) → T (has w xs) → (placeOf w xs < length xs) × (getD xs (placeOf w xs) d ≡ w)
 place-at w [] d h = absurd h
 place-at w (x ∷ xs) d h = go (eqb w x) refl (λ k. place-at w xs d k)
@@ -37,29 +37,29 @@ place-at w (x ∷ xs) d h = go (eqb w x) refl (λ k. place-at w xs d k)
     go true e rest = (suc-le-suc zero-le, sym (eqb-true w x e))
     go false e rest = let (l, q) = rest (has-rest w x xs (eqb-false w x e) h) in (suc-le-suc l, q)
 
--- ---- one number after the other
+-- ---- one number at a time
 
 pub length-scattered : (k : ℕ) (xs old : List ℕ) → length (scattered k xs old) ≡ length old
 length-scattered k [] old = refl
 length-scattered k (x ∷ xs) old = length-scattered (suc k) xs (set old x k) ∙ length-set old x k
 
--- the numbers from the i-th on are still to be written
+-- writing number i leaves the numbers from i + 1 on to write
 pub scattered-step : (xs old : List ℕ) (i : ℕ) → i < length xs → scattered i (drop i xs) old ≡ scattered (i + 1) (drop (i + 1) xs) (set old (getD xs i 0) i)
 scattered-step xs old i h = rw (add-one, drop-cons xs i 0 h)
 
 pub scattered-done : (xs old : List ℕ) (i : ℕ) → length xs ≤ i → scattered i (drop i xs) old ≡ old
 scattered-done xs old i h = rw (drop-of-length-le xs h)
 
--- ---- what stands where
+-- ---- the result
 
--- where no number was written
+-- an index that is not in the list is unchanged
 pub scattered-other : (k : ℕ) (xs old : List ℕ) (w d : ℕ) → (T (has w xs) → ⊥) → getD (scattered k xs old) w d ≡ getD old w d
 scattered-other k [] old w d out = refl
 scattered-other k (x ∷ xs) old w d out =
     scattered-other (suc k) xs (set old x k) w d (λ h. out (has-cons w x xs .1 (inr h)))
     ∙ getD-set-other old x w k d (λ e. out (has-cons w x xs .1 (inl e)))
 
--- without repeats the place of a member stands at the member, counted from k
+-- for a duplicate-free list, the number at a member is k plus the member's position
 pub scattered-at : (k : ℕ) (xs old : List ℕ) (w d : ℕ) → T (distinct xs) → T (has w xs) → w < length old
     → getD (scattered k xs old) w d ≡ k + placeOf w xs
 scattered-at k [] old w d once h l = absurd h
@@ -88,7 +88,7 @@ inverse-at xs w h =
     getD-map (λ w. placeOf w xs) (below (length xs)) w 0 0 (omega (arith, length-below (length xs)))
     ∙ ap (λ (v : ℕ). placeOf v xs) (getD-below (length xs) w 0 h)
 
--- what stands at a number's place in a permutation is the number
+-- the number at the position of w in a permutation is w
 pub inverse-back : (xs : List ℕ) (w : ℕ) → T (isPermutation xs) → w < length xs → getD xs (getD (inverse xs) w 0) 0 ≡ w
 inverse-back xs w p h = rw (inverse-at xs w h) (place-at w xs 0 (permutation-has xs p w .1 h) .1)
 
@@ -111,7 +111,7 @@ scattered-inverse xs old p room = ext-getD 0 (scattered 0 xs old) (written (inve
 pub permutation-below : (xs : List ℕ) (n : ℕ) → T (isPermutation xs) → length xs ≤ n → Below n xs
 permutation-below xs n p l i h = omega (arith, permutation-has xs p (getD xs i 0) .0 (has-getD xs i 0 h))
 
--- there are at most n different numbers below n
+-- a duplicate-free list of numbers below n has at most n members
 pub distinct-below : (n : ℕ) (xs : List ℕ) → T (distinct xs) → Below n xs → length xs ≤ n
 distinct-below n xs once b = omega (arith, distinct-length xs (below n) once inside, length-below n)
   where

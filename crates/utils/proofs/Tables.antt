@@ -1,4 +1,4 @@
--- The length of a table that is filled with one value. By these laws it is not counted out, which takes long for a large one.
+-- The length of a table filled with one value, as a law, because computing it takes long for a large table.
 use Prim.Native.Nat.{ℕ, _≤_}
 use mathlib.Core.Path.{_≡_, sym}
 use lib.ListN.{length, replicate, length-replicate}

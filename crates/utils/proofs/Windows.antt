@@ -1,4 +1,4 @@
--- Lists without repeats, a window of numbers at a time; marks for the numbers passed.
+-- Duplicate-free lists, tested one window of numbers at a time, with marks for the numbers seen.
 use Prim.Native.Nat.{ℕ, zero, suc, _+_, _-_, _≤_, _<_}
 use native.Mathlib.Numerals.{add-one}
 use native.Mathlib.Omega.{arith}
@@ -22,7 +22,7 @@ pub keep-all : (p : ℕ → Bool) (xs : List ℕ) → T (all p xs) → keep p xs
 keep-all p [] h = refl
 keep-all p (x ∷ xs) h = let (a, b) = and-iff (p x) (all p xs) .0 h in rw (passed (p x) a, keep-all p xs b)
 
--- ---- one number more, after those that were met
+-- ---- one more number, after those seen
 
 pub skip-more : (p : ℕ → Bool) (l : List ℕ) (x : ℕ) → p x ≡ false → T (distinct (keep p l)) → T (distinct (keep p (l ++ (x ∷ []))))
 skip-more p l x e d = rw (keep-append p l (x ∷ []), e, append-nil (keep p l)) d
@@ -38,7 +38,7 @@ new-more p l x e new d =
       ],
     ))
 
--- a number met again
+-- a number seen before is a duplicate
 pub old-more : (p : ℕ → Bool) (l : List ℕ) (x : ℕ) (rest : List ℕ) → p x ≡ true → has x l ≡ true → distinct (keep p (l ++ x ∷ rest)) ≡ false
 old-more p l x rest e old = failed (distinct (keep p (l ++ x ∷ rest))) (λ d.
     let d′ : T (distinct (keep p l ++ keep p (x ∷ rest))) = subst (λ (m : List ℕ). T (distinct m)) (keep-append p l (x ∷ rest)) d in
@@ -68,7 +68,7 @@ or-true : (a b : Bool) → b ≡ true → (a || b) ≡ true
 or-true true b e = refl
 or-true false b e = e
 
--- no mark is set
+-- cleared marks are false
 pub clear-all : (k v : ℕ) → getD (replicate k false) v false ≡ false
 clear-all zero v = refl
 clear-all (suc k) zero = refl
@@ -77,7 +77,7 @@ clear-all (suc k) (suc v) = clear-all k v
 pub marked-none : (low n : ℕ) → Marked low (replicate n false) []
 marked-none low n v h = clear-all n v
 
--- a number outside of the window
+-- a number outside the window changes no mark
 pub marked-out : (low : ℕ) (marks : List Bool) (l : List ℕ) (x : ℕ)
     → (x < low) ⊎ (low + length marks ≤ x) → Marked low marks l → Marked low marks (l ++ (x ∷ []))
 marked-out low marks l x out m v h =
@@ -95,7 +95,7 @@ marked-in low marks l x v e h m u k = sym (has-more (low + u) l x ∙ go (eqb u 
         or-false (has (low + u) l) _ (ne-eqb (low + u) x (λ d. eqb-false u v q (omega arith)))
         ∙ sym (getD-set-other marks v u true false (eqb-false u v q) ∙ m u (rw length-set at k))
 
--- ---- the numbers up to an index, after others
+-- ---- the numbers up to an index, after other numbers
 
 pub take-more : (met ws : List ℕ) (i : ℕ) → i < length ws → met ++ take (i + 1) ws ≡ (met ++ take i ws) ++ (getD ws i 0 ∷ [])
 take-more met ws i h = rw (add-one, take-suc ws i 0 h) (sym (append-assoc met (take i ws) (getD ws i 0 ∷ [])))
@@ -118,7 +118,7 @@ within-after low size x h l = rw (le-leb low x h, le-ltb (x - low) size l)
 pub within-in : (low size x : ℕ) → low ≤ x → x - low < size → within low size x ≡ true
 within-in low size x h l = rw (le-leb low x h, lt-ltb (x - low) size l)
 
--- no repeats among those with p and among those with q: none among those with r, each of which has p or q
+-- if the numbers with p and those with q are duplicate-free, so are those with r, where r implies p or q
 pub distinct-either : (p q r : ℕ → Bool) (xs : List ℕ) → ((x : ℕ) → T (r x) → T (p x) ⊎ T (q x))
     → T (distinct (keep p xs)) → T (distinct (keep q xs)) → T (distinct (keep r xs))
 distinct-either p q r [] sub d e = tt
@@ -153,7 +153,7 @@ window-more low size ws d e = distinct-either (λ x. ltb x low) (within low size
       | inr l ↦ inr (passes (within low size x) (within-in low size x l (omega (arith, ltb→lt x (low + size) h))))
     ]
 
--- a repeat within a window is a repeat
+-- a duplicate within a window is a duplicate of the whole list
 pub repeats-within : (p : ℕ → Bool) (ws : List ℕ) → distinct (keep p ws) ≡ false → distinct ws ≡ false
 repeats-within p ws e = failed (distinct ws) (λ d. fails (distinct (keep p ws)) e (distinct-keep p ws d))
 

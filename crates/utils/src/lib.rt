@@ -1,4 +1,4 @@
-// clarabel's algebra/utils.rs: the test for a permutation, and the inverse permutation, `invperm`; check 11 of several outputs.
+// From clarabel's algebra/utils.rs: the test for a permutation and the inverse permutation, `invperm`. Also check 11 for several outputs.
 ghost use mathlib.Core.Path.{_≡_};
 ghost use Prim.Native.Nat.{_≤_, _<_};
 ghost use mathlib.Core.Bool.{true, false, cond};
@@ -12,9 +12,9 @@ ghost use Rattle.utils.specs.Windows.{MarksMore};
 ghost use Rattle.utils.specs.Scattered.{scattered};
 use constants::refusal;
 
-// ---- each number below the length once
+// ---- the test for a permutation
 
-// Takes every mark off.
+// Sets every mark to false.
 pub fn clear(marks: &mut [bool])
     ensures { λ _. ⌜ now (marks .exit) ≡ replicate (length (now (marks .entry))) false ⌝ }
 {
@@ -25,7 +25,8 @@ pub fn clear(marks: &mut [bool])
     }
 }
 
-// Marks the words' numbers that are in the window from low on, unless one is marked already.
+// Marks each number of `words` that lies in the window of `marks.len()` numbers from `low` on.
+// Returns false at the first number that is already marked, and true if there is no such number.
 pub fn mark(words: &[u32], low: usize, marks: &mut [bool]) -> bool
     ensures { λ r. ⌜ MarksMore low (now (marks .entry)) (now (words .entry)) r (now (marks .exit)) ⌝ }
 {
@@ -48,7 +49,7 @@ pub fn mark(words: &[u32], low: usize, marks: &mut [bool]) -> bool
     true
 }
 
-// Whether every number of the words is below n.
+// Checks that every number of `words` is below `n`.
 pub fn all_below(words: &[u32], n: usize) -> bool
     ensures { λ r. ⌜ r ≡ all (λ x. ltb x n) (now (words .entry)) ⌝ }
 {
@@ -62,8 +63,8 @@ pub fn all_below(words: &[u32], n: usize) -> bool
     true
 }
 
-// Each number below the length stands in the words once: looked for window by window, with as many numbers in a window as there
-// are marks.
+// Checks that each number below the length occurs in `words` exactly once, in windows of `marks.len()` numbers. `marks` is overwritten;
+// its length decides the speed, not the result.
 fn permutation_by(words: &[u32], marks: &mut [bool]) -> bool
     requires { ⌜ 0 < length (now marks) ⌝ }
     ensures { λ r. ⌜ r ≡ isPermutation (now (words .entry)) ⌝ }
@@ -85,14 +86,14 @@ fn permutation_by(words: &[u32], marks: &mut [bool]) -> bool
     }
 }
 
-// The windows by which few, some and many numbers are marked.
+// Window sizes for few, some and many numbers.
 const FEW: usize = 256;
 
 const SOME: usize = 8192;
 
 const MANY: usize = 262144;
 
-// The same, in little stack: at most 256 numbers are one window, and longer words go in windows of that size.
+// Checks that `words` is a permutation of the numbers below its length, with little stack: windows of 256 numbers.
 pub fn is_short_permutation(words: &[u32]) -> bool
     ensures { λ r. ⌜ r ≡ isPermutation (now (words .entry)) ⌝ }
 {
@@ -100,8 +101,8 @@ pub fn is_short_permutation(words: &[u32]) -> bool
     permutation_by(words, &mut marks)
 }
 
-// The same, linear up to 262,144 numbers, with windows of that size for longer words; shorter ones have smaller tables to
-// clear.
+// Checks that `words` is a permutation of the numbers below its length, in linear time up to 262,144 numbers (the largest window).
+// Shorter lists use smaller windows, which are faster to clear.
 pub fn is_permutation(words: &[u32]) -> bool
     ensures { λ r. ⌜ r ≡ isPermutation (now (words .entry)) ⌝ }
 {
@@ -118,7 +119,7 @@ pub fn is_permutation(words: &[u32]) -> bool
 
 // ---- the inverse
 
-// 0, 1, .. written where the words say, in order.
+// Writes `k` at index `words[k]` of `out`, for k = 0, 1, .. in order; of numbers written to the same index the last remains.
 pub fn scatter(words: &[u32], out: &mut [u32])
     requires { ⌜ Below (length (now out)) (now words) ⌝ }
     requires { ⌜ length (now words) ≤ 4294967296 ⌝ }
@@ -132,8 +133,8 @@ pub fn scatter(words: &[u32], out: &mut [u32])
     }
 }
 
-// The place of each number in a permutation of the numbers below its length, or a refusal: 5 for what is no such
-// permutation, 11 for too short an output.
+// Writes the inverse of the permutation `p` (the index of each number in `p`) to the front of `out`. Returns 5 if `p` is no permutation
+// of the numbers below its length, 11 if `out` is too short, and 0 otherwise.
 pub fn inverse(p: &[u32], out: &mut [u32]) -> u32
     ensures { λ r. ⌜ Inverse (now (p .entry)) (now (out .entry)) (now (out .exit)) r ⌝ }
 {
@@ -149,7 +150,7 @@ pub fn inverse(p: &[u32], out: &mut [u32]) -> u32
 
 // ---- check 11
 
-// Check 11 of several outputs, 11 or 0: what each needs, and the room that it has.
+// Makes check 11 on several outputs: `needs` are the required lengths, `rooms` the actual ones. Returns 11 or 0.
 pub fn check_rooms(needs: &[u32], rooms: &[usize]) -> u32
     ensures { λ r. ⌜ r ≡ cond (roomy (now (needs .entry)) (now (rooms .entry))) 0 11 ⌝ }
 {

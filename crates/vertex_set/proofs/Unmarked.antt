@@ -1,4 +1,4 @@
--- Numbers that are once in others, by marks that are taken away, a window at a time.
+-- Duplicate-free members of another list, tested by clearing marks, one window at a time.
 use Prim.Native.Nat.{ℕ, _+_, _-_, _≤_, _<_}
 use native.Mathlib.Omega.{arith}
 use mathlib.Core.Bool.{Bool, true, false, not, _&&_, or-true, or-false}
@@ -19,16 +19,16 @@ use Rattle.utils.proofs.Windows.{has-more, new-more, old-more, within-in, windo
 use Rattle.vertex_set.specs.OnceIn.{onceIn}
 use Rattle.layout.proofs.Walks.{all-append}
 
--- a number by its place in the window, and one after it
+-- a number in the window from its offset, and a number past the window
 pub in-window : {low x : ℕ} → low ≤ x → low + (x - low) ≡ x
 in-window h = omega arith
 
 pub past-window : {low x n : ℕ} → low ≤ x → n ≤ x - low → low + n ≤ x
 past-window h k = omega arith
 
--- ---- marks that are left
+-- ---- marks not yet cleared
 
--- one mark for each number of the window that is in ms and was not met
+-- mark v is set exactly if number low + v is in ms and was not met
 abbrev pub Left : ℕ → List Bool → List ℕ → List ℕ → Type 0
 Left low marks ms met = (v : ℕ) → v < length marks → getD marks v false ≡ (has (low + v) ms && not (has (low + v) met))
 
@@ -45,7 +45,7 @@ left-none low marks ms m v h = m v h ∙ pick (has (low + v) ms)
     pick true = refl
     pick false = refl
 
--- a number outside of the window
+-- a number outside the window changes no mark
 pub left-out : (low : ℕ) (marks : List Bool) (ms l : List ℕ) (x : ℕ)
     → (x < low) ⊎ (low + length marks ≤ x) → Left low marks ms l → Left low marks ms (l ++ (x ∷ []))
 left-out low marks ms l x out m v h =
@@ -64,7 +64,7 @@ left-in low marks ms l x v e h m u k = go (eqb u v) refl
         getD-set-other marks v u false false (eqb-false u v q) ∙ m u (rw length-set at k)
         ∙ ap (λ (b : Bool). has (low + u) ms && not b) (sym (has-other (low + u) l x (λ d. eqb-false u v q (omega arith))))
 
--- what a mark that is left says
+-- what a mark that is still set says
 pub left-old : (a b : Bool) → (a && not b) ≡ true → a ≡ true
 left-old true b h = refl
 left-old false b h = h
@@ -74,7 +74,7 @@ left-new true true h = sym h
 left-new true false h = refl
 left-new false b h = absurd (differ false h refl)
 
--- ---- one number more
+-- ---- one more number
 
 module _ (p : ℕ → Bool) (ms l : List ℕ) (x : ℕ) where
   pub once-skip : p x ≡ false → T (onceIn ms (keep p l)) → T (onceIn ms (keep p (l ++ (x ∷ []))))
@@ -90,7 +90,7 @@ module _ (p : ℕ → Bool) (ms l : List ℕ) (x : ℕ) where
             (and-iff (all (λ u. has u ms) (keep p l)) (has x ms && true) .1 (a, passes _ last)),
       )
 
-  -- a number that has lost its mark was met, or is not in ms
+  -- a number without a mark was met before or is not in ms, so the test fails
   pub once-lost : (rest : List ℕ) → p x ≡ true → (has x ms && not (has x l)) ≡ false → onceIn ms (keep p (l ++ x ∷ rest)) ≡ false
   once-lost rest e lost = go (has x l) refl
     where

@@ -1,4 +1,4 @@
--- Walks over the members of a list.
+-- Passes over the members of a list.
 use Prim.Native.Nat.{ℕ, suc, _+_, _≤_, _<_}
 use native.Mathlib.Numerals.{add-one}
 use native.Mathlib.Omega.{arith}
@@ -34,7 +34,7 @@ distinct-not a k h e = ap distinct (drop-cons a k 0 h ∙ ap (λ (n : ℕ). getD
 pub distinct-done : (a : List ℕ) (k : ℕ) → length a ≤ k → distinct (drop k a) ≡ true
 distinct-done a k h = rw (drop-of-length-le a h)
 
--- ---- numbers that rise, below n
+-- ---- strictly increasing numbers below n
 
 module _ (least n : ℕ) (us : List ℕ) (i : ℕ) where
   module _ (h : i < length us) where
@@ -50,7 +50,7 @@ module _ (least n : ℕ) (us : List ℕ) (i : ℕ) where
   pub rises-done : length us ≤ i → risesBelow least n (drop i us) ≡ true
   rises-done h = rw (drop-of-length-le us h)
 
--- they are below n, and none stands twice
+-- strictly increasing numbers are duplicate-free and below n
 pub rises-once : (least n : ℕ) (us : List ℕ) → T (risesBelow least n us) → T (onceBelow n us) × ((y : ℕ) → T (has y us) → least ≤ y)
 rises-once least n [] h = (tt, λ y k. absurd k)
 rises-once least n (x ∷ xs) h =
@@ -66,7 +66,7 @@ rises-once least n (x ∷ xs) h =
       λ y k. ⊎-elim (λ e. omega arith) (λ m. omega (arith, above y m)) (has-cons y x xs .0 k),
     )
 
--- those that are below n and once, in others
+-- duplicate-free numbers below n, in another list
 pub once-in-falls : (n : ℕ) (ms us : List ℕ) → onceBelow n us ≡ false → onceBelowIn n ms us ≡ false
 once-in-falls n ms us = go (all (λ x. ltb x n) us) (distinct us) (all (λ u. has u ms) us)
   where
@@ -81,6 +81,6 @@ once-in-rest n ms us = go (all (λ x. ltb x n) us) (distinct us) (all (λ u. has
     go true d h e = and-true d h e
     go false d h e = absurd (differ false e refl)
 
--- members that rise need only be in ms
+-- strictly increasing members below n need only be tested for being in ms
 pub rising-in : (n : ℕ) (ms us : List ℕ) → risesBelow 0 n us ≡ true → onceBelowIn n ms us ≡ all (λ u. has u ms) us
 rising-in n ms us h = once-in-rest n ms us (passed _ (rises-once 0 n us (passes _ h) .0))

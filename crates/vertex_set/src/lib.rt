@@ -1,4 +1,4 @@
-// Members of words as sets: clarabel's `VertexSet`.
+// Sets of vertices as slices of words, in place of clarabel's `VertexSet`: tests for duplicates and for membership.
 ghost use mathlib.Core.Path.{_≡_};
 ghost use Prim.Native.Nat.{_<_};
 ghost use mathlib.Core.Bool.{true};
@@ -8,9 +8,9 @@ ghost use Rattle.layout.specs.Lists.{all, distinct, has};
 ghost use Rattle.utils.specs.Windows.{Marked};
 ghost use Rattle.vertex_set.specs.OnceIn.{onceIn, risesBelow, onceBelow, onceBelowIn, Unmarks};
 
-// ---- by walks
+// ---- by searching
 
-// Whether x stands in a, at place i or later.
+// Checks whether `x` occurs in `a` at index `i` or later.
 fn stands_from(a: &[u32], i: usize, x: u32) -> bool
     ensures { λ r. ⌜ r ≡ has x (drop i (now (a .entry))) ⌝ }
 {
@@ -24,7 +24,7 @@ fn stands_from(a: &[u32], i: usize, x: u32) -> bool
     false
 }
 
-// No number stands twice.
+// Checks that `a` is duplicate-free.
 pub fn is_distinct(a: &[u32]) -> bool
     ensures { λ r. ⌜ r ≡ distinct (now (a .entry)) ⌝ }
 {
@@ -39,7 +39,7 @@ pub fn is_distinct(a: &[u32]) -> bool
     true
 }
 
-// Each number is above the one before it, and below n: a clique's members are as a rule.
+// Checks that `us` is strictly increasing with all numbers below `n`, as the members of a clique usually are.
 pub fn rises_below(us: &[u32], n: usize) -> bool
     ensures { λ r. ⌜ r ≡ risesBelow 0 n (now (us .entry)) ⌝ }
 {
@@ -59,7 +59,7 @@ pub fn rises_below(us: &[u32], n: usize) -> bool
     true
 }
 
-// Each number is below n, and none stands twice.
+// Checks that `us` is duplicate-free with all numbers below `n`.
 fn once_below(us: &[u32], n: usize) -> bool
     ensures { λ r. ⌜ r ≡ onceBelow n (now (us .entry)) ⌝ }
 {
@@ -72,8 +72,8 @@ fn once_below(us: &[u32], n: usize) -> bool
     is_distinct(us)
 }
 
-// Each member of us is in ms. It is looked for after the one before it, and then from the first on, so that members in their order
-// cost one walk over ms.
+// Checks that each member of `us` is in `ms`. Each search starts after the last match and wraps around once, so members in the same order
+// in both lists take a single pass over `ms`.
 pub fn held(us: &[u32], ms: &[u32]) -> bool
     ensures { λ r. ⌜ r ≡ all (λ u. has u (now (ms .entry))) (now (us .entry)) ⌝ }
 {
@@ -104,7 +104,7 @@ pub fn held(us: &[u32], ms: &[u32]) -> bool
     ok
 }
 
-// No number of us stands twice, and each is below n and in ms: by walks over both.
+// Checks that `us` is duplicate-free, with all numbers below `n` and in `ms`, by searching.
 fn once_in_walk(us: &[u32], ms: &[u32], n: usize) -> bool
     ensures { λ r. ⌜ r ≡ onceBelowIn n (now (ms .entry)) (now (us .entry)) ⌝ }
 {
@@ -114,9 +114,9 @@ fn once_in_walk(us: &[u32], ms: &[u32], n: usize) -> bool
     held(us, ms)
 }
 
-// ---- by marks
+// ---- with marks
 
-// Marks the words' numbers that are in the window from low on, and no other.
+// Marks the numbers of `words` that are in the window of `marks.len()` numbers from `low` on; clears all other marks.
 fn mark_only(words: &[u32], low: usize, marks: &mut [bool])
     ensures { λ _. ⌜ Marked low (now (marks .exit)) (now (words .entry)) ⌝ }
 {
@@ -136,7 +136,7 @@ fn mark_only(words: &[u32], low: usize, marks: &mut [bool])
     }
 }
 
-// Each of the words' numbers in the window is marked, and loses its mark, so that it is met once.
+// Checks that each number of `words` in the window is marked, and clears its mark, so that a duplicate fails.
 fn unmark(words: &[u32], low: usize, marks: &mut [bool]) -> bool
     ensures { λ r. ⌜ Unmarks low (now (marks .entry)) (now (words .entry)) r ⌝ }
 {
@@ -159,8 +159,8 @@ fn unmark(words: &[u32], low: usize, marks: &mut [bool]) -> bool
     true
 }
 
-// No number of us stands twice, and each is in ms, where those of us are below n: looked for window by window, with as many numbers
-// in a window as there are marks.
+// Checks that `us`, whose numbers are below `n`, is duplicate-free with all numbers in `ms`. Works in windows of `marks.len()` numbers;
+// `marks` is overwritten.
 fn once_in_by(us: &[u32], ms: &[u32], n: usize, marks: &mut [bool]) -> bool
     requires { ⌜ all (λ x. ltb x n) (now us) ≡ true ⌝ }
     requires { ⌜ 0 < length (now marks) ⌝ }
@@ -179,10 +179,10 @@ fn once_in_by(us: &[u32], ms: &[u32], n: usize, marks: &mut [bool]) -> bool
     }
 }
 
-// So many numbers are walked over; a right pattern's cliques have no more.
+// Lists of up to this length are searched rather than marked; the cliques of a valid pattern are no longer.
 const FEW: usize = constants::scratch::VERTICES;
 
-// No number of us stands twice, and each is below n and in ms: by walks over both where they are short, else by marks.
+// Checks that `us` is duplicate-free, with all numbers below `n` and in `ms`: by searching if both are short, otherwise with `marks`.
 pub fn once_in(us: &[u32], ms: &[u32], n: usize, marks: &mut [bool]) -> bool
     requires { ⌜ 0 < length (now marks) ⌝ }
     ensures { λ r. ⌜ r ≡ onceBelowIn n (now (ms .entry)) (now (us .entry)) ⌝ }

@@ -1,10 +1,10 @@
-//! Problem files over lent slices.
+//! Problem files over slices that the caller passes.
 
 use super::answer;
 use crate::Refusal;
 
-/// A problem's tables with floats as their 64-bit patterns, as a file has them: a NaN keeps all its bits. Nothing is checked
-/// before a call checks it.
+/// A problem's tables with floats as their 64-bit patterns, as a file has them: a NaN keeps all its bits. Only the calls check
+/// them.
 ///
 /// ```
 /// use tejiwakpa::flat::FileTables;
@@ -86,7 +86,7 @@ pub struct FileOutputs<'a> {
     pub pattern_words: &'a mut [u32],
 }
 
-/// The whole little-endian words of a file's bytes, a quarter as many as bytes.
+/// Writes the complete little-endian words of a file's bytes, `file.len() / 4` of them.
 ///
 /// ```
 /// let mut out = [0; 2];
@@ -95,12 +95,12 @@ pub struct FileOutputs<'a> {
 /// # Ok::<(), tejiwakpa::Refusal>(())
 /// ```
 pub fn file_words(file: &[u8], out: &mut [u32]) -> Result<(), Refusal> {
-    // SAFETY: `c` says what its calls ask for, and slices are it.
+    // SAFETY: `c` says what its calls require; slices meet it.
     answer(unsafe { c::chordal_file_words(file.as_ptr(), file.len(), out.as_mut_ptr(), out.len()) })
 }
 
-/// The tables of a file of `length` bytes, of which the whole words are lent. How long each output has to be can be read off
-/// the first eight words.
+/// Writes the tables of a file of `length` bytes, whose complete words are `words`. The first eight words give the needed length
+/// of each output.
 ///
 /// ```
 /// use tejiwakpa::flat::{file_words, read_file, FileOutputs};
@@ -148,7 +148,7 @@ pub fn read_file(words: &[u32], length: usize, out: &mut FileOutputs) -> Result<
     })
 }
 
-/// The file of a problem. [`file_length`] says how many bytes it has.
+/// Writes the file of a problem. [`file_length`] says how many bytes it has.
 ///
 /// ```
 /// use tejiwakpa::flat::{file_length, write_file, FileTables};
@@ -177,12 +177,12 @@ pub fn write_file(problem: &FileTables, out: &mut [u8]) -> Result<(), Refusal> {
     })
 }
 
-/// The bytes of a problem's file: the header, then each table at a multiple of 8.
+/// Returns how many bytes a problem's file has: the header, then each table at a multiple of 8.
 ///
 /// ```
 /// use tejiwakpa::flat::{file_length, FileTables};
 ///
-/// // three words end at byte 92, so that what follows begins at byte 96
+/// // three words end at byte 92, so the next table begins at byte 96
 /// let tables = FileTables { p_starts: &[0, 0, 0], q: &[0, 0], ..FileTables::default() };
 /// assert_eq!(file_length(&tables), 112);
 /// ```
@@ -206,7 +206,7 @@ pub fn file_length(problem: &FileTables) -> usize {
 
 #[rustfmt::skip]
 mod c {
-    // SAFETY: as for the other calls: pointers are never null, outputs overlap nothing, and anything may be pointed to.
+    // SAFETY: as for the other calls: pointers are never null, outputs overlap nothing, and the memory may hold anything.
     extern "C" {
         pub fn chordal_file_words(file: *const u8, file_len: usize, out: *mut u32, out_len: usize) -> u32;
         pub fn chordal_read_file(

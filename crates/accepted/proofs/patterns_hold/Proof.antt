@@ -22,7 +22,7 @@ abbrev μ-loop : tie.MeasureT-loop
 some : (n : ℕ) → (n ≡ 0 → ⊥) → 0 < n
 some n h = omega arith
 
--- the pattern was found right
+-- the pattern passed
 found : (c : tie.Else1 Inv-loop μ-loop) → let s = c .before .before .before .before .before .before .before .before .before .before .before .before .before .args in
     PatternHolds (s .cones .now) (s .words .now) (c .before .before .before .before .before .before .before .before .before .before .loop .w) (c .before .before .before .before .before .pattern-holds .result)
 found c = c .before .before .before .before .before .pattern-holds .ensures .1 (some (c .before .before .before .before .before .pattern-holds .result .next) (c .if1 .left)) .0

@@ -10,7 +10,7 @@ use native.Mathlib.Nat.{le-trans}
 use native.Mathlib.Omega.{arith}
 use Rattle.layout.specs.Patterns.{Clique, read, readClique, members, noClique}
 use Rattle.layout.proofs.Tests.{and-true, and-false, and-right}
-use Rattle.supernode_tree.specs.Reads.{cliqueOf, cliquesFrom, valueOr, whole}
+use Rattle.supernode_tree.specs.Reads.{cliqueOf, cliquesFrom, valueOr, isWhole}
 use Rattle.supernode_tree.proofs.Cliques.{members-part}
 use Rattle.supernode_tree.proofs.Many.{many-length}
 use Rattle.supernode_tree.proofs.Words.{length-part}
@@ -19,15 +19,15 @@ use Rattle.vertex_set.specs.OnceIn.{onceBelowIn}
 use Rattle.accepted.proofs.separator_holds.Statement.{statement}
 use Rattle.accepted.proofs.separator_holds.Tie as tie
 
--- a clique's members end after they start
+-- the members of a clique start before they end
 members-rise : (start separator next a b : ℕ) → separator ≡ start + a → next ≡ separator + b → start ≤ next
 members-rise start separator next a b p q = omega arith
 
--- a separator that ends where it starts is empty
+-- a separator that ends where it starts is empty, and passes
 none : (n : ℕ) (ms ws : List ℕ) (a e : ℕ) → a ≡ e → onceBelowIn n ms (take (e - a) (drop a ws)) ≡ true
 none n ms ws a e s = let z : e - a ≡ 0 = omega arith in ap (λ (k : ℕ). onceBelowIn n ms (take k (drop a ws))) z
 
--- a member that the parent's clique, which is none, does not hold
+-- a separator with a member fails if there is no parent clique
 outside : (n : ℕ) (cs : List Clique) (ws : List ℕ) (parent a e : ℕ) → length cs ≤ parent → a ≤ e → e ≤ length ws → (a ≡ e → ⊥)
     → onceBelowIn n (members (getD cs parent noClique)) (take (e - a) (drop a ws)) ≡ false
 outside n cs ws parent a e h l k some =
@@ -42,7 +42,7 @@ small : (c : tie.Else1) → let q = c .before .before .before .before .before .a
     q .«snode_count» + q .«separator_count» ≤ 256
 small c = omega (arith, c .if1 .left, c .before .get-nblk .ensures)
 
--- the parent's clique stands at its offset
+-- the parent's clique is at its offset
 parent-read : (c : tie.After-shared-slice-known3) → let a = c .before .before .before .before .before .before .before .before .before .before .before .before .args in
     let ws = a .words .now in
     readClique (drop (getD (a .offsets .now) (a .q .parent) 0) ws)
@@ -89,7 +89,7 @@ shared-slice-read-at : tie.Need-shared-slice-read-at
 shared-slice-read-at c = le-trans (c .before .before .if3 .left) (c .before .before .before .before .before .before .before .before .before .before .before .before .pre .0 .1)
 
 here-requires : tie.Need-here-requires
-here-requires c κs = ap whole (parent-read c)
+here-requires c κs = ap isWhole (parent-read c)
 
 separator-right-requires : tie.Need-separator-right-requires
 separator-right-requires c κs =

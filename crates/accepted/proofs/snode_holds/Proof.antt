@@ -8,7 +8,7 @@ use Rattle.layout.specs.Patterns.{Clique, noClique}
 use Rattle.layout.proofs.Tests.{differ, and-true, and-false}
 use Rattle.supernode_tree.specs.Reads.{valueOr}
 use Rattle.supernode_tree.proofs.Cliques.{snode-part}
-use Rattle.accepted.specs.Accepted.{Meets}
+use Rattle.accepted.specs.Accepted.{AddsOnce}
 use Rattle.accepted.proofs.Walked.{and-parts}
 use Rattle.accepted.proofs.snode_holds.Statement.{statement}
 use Rattle.accepted.proofs.snode_holds.Tie as tie
@@ -35,7 +35,7 @@ returns-2 c =
     let ws = s .words .now in
     let part = snode-part ws (s .at) (h .result) (h .ensures .1) ∙ ap (λ (r : Clique). r .snode) (ap (valueOr noClique) (h .ensures .0)) in
     λ met m.
-    let met-too = subst (λ (us : List ℕ). Meets false (s .p .«vertex_count») (s .marks .now) us (c .before .before .mark-all .last .1 .1 .1 .1 .1 .0) (c .before .before .mark-all .result)) part (c .before .before .mark-all .ensures) met m in
+    let met-too = subst (λ (us : List ℕ). AddsOnce false (s .p .«vertex_count») (s .marks .now) us (c .before .before .mark-all .last .1 .1 .1 .1 .1 .0) (c .before .before .mark-all .result)) part (c .before .before .mark-all .ensures) met m in
     (met-too .0 ∙ sym (and-true _ _ (sym (c .before .before .before .before .before .before .clique-holds .ensures) ∙ not-false _ (c .before .before .before .before .before .if1 .left))), met-too .1)
 
 pub snode-holds-spec : {M : Type 1} → statement M

@@ -10,7 +10,7 @@ use Rattle.accepted.proofs.Patterns.{ordering-fits, head-held, vertices
 use Rattle.accepted.proofs.vertices_hold.Statement.{statement}
 use Rattle.accepted.proofs.vertices_hold.Tie as tie
 
--- the head was found right
+-- the head passed
 right : (c : tie.Else1) → let s = c .before .before .before .before .before .before .args in headRight (s .cones .now) (s .w .least) (readHead (drop (s .w .next) (s .words .now))) ≡ true
 right c = sym (c .before .head-holds .ensures) ∙ not-false _ (c .if1 .left)
 

@@ -8,7 +8,7 @@ use Rattle.accepted.specs.Accepted.{noHead, headAt}
 use Rattle.accepted.proofs.with_pattern.Statement.{statement}
 use Rattle.accepted.proofs.with_pattern.Tie as tie
 
--- the head as it was read
+-- the head of the pattern read at the walk's offset is the one at that offset
 same : (c : tie.After-here) → headOf (c .before .before .args .words .now) (c .here .result) ≡ headAt (c .before .before .args .words .now) (c .before .before .args .w .next)
 same c = ap (valueOr noHead) (c .here .ensures .0)
 

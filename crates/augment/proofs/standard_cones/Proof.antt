@@ -14,7 +14,7 @@ use Rattle.augment.proofs.Laws.{length-three, three-then}
 use Rattle.augment.proofs.standard_cones.Statement.{statement}
 use Rattle.augment.proofs.standard_cones.Tie as tie
 
--- Zero(m) at the front
+-- the output with Zero(m) as its first record
 abbrev front : tie.Start → List ℕ
 front s = set (set (set (s .args .out .now) 0 0) 1 (s .args .m)) 2 0
 

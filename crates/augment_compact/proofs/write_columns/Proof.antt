@@ -38,7 +38,7 @@ M s = matrix (s .args .starts .now) (s .args .rows .now) (s .args .values .now)
 right : (s : tie.Start Inv-loop μ-loop) → RightStarts (s .args .n) (M s)
 right s = starts-right (s .args .n) (M s) (s .pre .0 .0)
 
--- where the runs of a column start
+-- the start of column c in `run_starts`
 run-start : (s : tie.Start Inv-loop μ-loop) (c : ℕ) → c ≤ s .args .n → getD (s .args .run-starts .now) c 0 ≡ runCount c (M s)
 run-start s = s .pre .0 .2 .1
 
@@ -57,12 +57,12 @@ values-length l =
     let room = columns-room (a .n) (M s) (a .codes .now) (a .place .now) (right s) (s .pre .0 .1) (s .pre .1 .0 .0) (λ (e : Entry). e .value) (l .loop .c) (l .loop .inv .0) in
     ap length (l .loop .inv .4) ∙ length-written (csc (codedColumns (l .loop .c) (sums (a .n) (M s)) (a .codes .now)) .values) (a .values-out .now) (omega (arith, room, s .pre .1 .1 .1))
 
--- the columns before c end there
+-- the start of column c is the number of entries of the columns before it
 from : {X : Type 0} (s : tie.Start Inv-loop μ-loop) (field : Entry → X) (c : ℕ) → c ≤ s .args .n
     → getD (s .args .run-starts .now) c 0 ≡ length (map field (join (λ c. c) (codedColumns c (sums (s .args .n) (M s)) (s .args .codes .now))))
 from s field c l = let a = s .args in run-start s c l ∙ sym (columns-start (a .n) (M s) (a .codes .now) (a .place .now) (right s) (s .pre .0 .1) (s .pre .1 .0 .0) field c l)
 
--- this turn's runs: where they start and end
+-- the start and end of the runs of this iteration's column
 runs-here : (s : tie.Start Inv-loop μ-loop) (c : ℕ) → c < s .args .n
     → (getD (s .args .run-starts .now) c 0 + length (runs (columnRows (M s) c)) ≡ getD (s .args .run-starts .now) (c + 1) 0)
     × (getD (s .args .run-starts .now) (c + 1) 0 ≤ runCount (s .args .n) (M s))

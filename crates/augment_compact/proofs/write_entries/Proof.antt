@@ -15,7 +15,7 @@ use Rattle.augment_compact.specs.Cut.{codedColumns, tiedRows, Behind}
 use Rattle.augment_compact.proofs.write_entries.Statement.{statement}
 use Rattle.augment_compact.proofs.write_entries.Tie as tie
 
--- the room behind a elements, counted from as many
+-- bounds on a prefix and on the room after it
 front : {a b o : ℕ} (k : ℕ) → a ≡ b → b + k ≤ o → a ≤ o
 front {b = b} k e h = rw e (le-trans (le-add-right b k) h)
 
@@ -31,7 +31,7 @@ M s = matrix (s .args .starts .now) (s .args .rows .now) (s .args .values .now)
 right : (s : tie.Start) → RightStarts (s .args .n) (M s)
 right s = starts-right (s .args .n) (M s) (s .pre .0 .0)
 
--- the columns moved have an entry for each run
+-- the moved columns, with one entry for each run
 abbrev moved : tie.Start → Csc
 moved s = csc (codedColumns (s .args .n) (sums (s .args .n) (M s)) (s .args .codes .now))
 
@@ -43,7 +43,7 @@ values-count : (s : tie.Start) → length (moved s .values) ≡ runCount (s .arg
 values-count s =
     columns-start (s .args .n) (M s) (s .args .codes .now) _ (right s) (s .pre .0 .1) (s .pre .1 .0 .1) (λ (e : Entry). e .value) (s .args .n) (le-refl (s .args .n))
 
--- where the last column ends
+-- the end of the last column
 last-start : (s : tie.Start) → getD (s .args .run-starts .now) (s .args .n) 0 ≡ runCount (s .args .n) (M s)
 last-start s = s .pre .0 .2 .1 (s .args .n) (le-refl (s .args .n))
 

@@ -31,7 +31,7 @@ mul-c c = search needs
 shared-slice-read-c : tie.Need-shared-slice-read-c Inv-loop μ-loop
 shared-slice-read-c c = search needs
 
--- an overlap's two rows, and their room
+-- the two rows that an overlap adds, and the room for them
 more : (c : tie.Then1 Inv-loop μ-loop)
     → let l = c .before .before .before in
     let codes = l .before .args .codes .now in

@@ -6,13 +6,13 @@ use lib.ListN.{length, drop, length-set}
 use borrow.Author.Tests.{lt-ltb, le-ltb}
 use borrow.Author.Needs.{needs}
 use Rattle.augment_compact.proofs.Steps.{placed-step, placed-done}
-use Rattle.augment_compact.specs.Places.{placed}
+use Rattle.augment_compact.specs.Places.{rowTable}
 use Rattle.augment_compact.proofs.write_place.Statement.{statement}
 use Rattle.augment_compact.proofs.write_place.Tie as tie
 
 abbrev Inv-loop : tie.InvT-loop
 Inv-loop place₀ codes r₀ place r =
-    (r ≤ length codes) × (length place ≡ length place₀) × (placed r (drop r codes) place ≡ placed 0 codes place₀)
+    (r ≤ length codes) × (length place ≡ length place₀) × (rowTable r (drop r codes) place ≡ rowTable 0 codes place₀)
 
 abbrev μ-loop : tie.MeasureT-loop
 μ-loop place₀ codes r₀ place r = length codes - r

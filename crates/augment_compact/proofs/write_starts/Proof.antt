@@ -1,7 +1,6 @@
 use Prim.Native.Nat.{ℕ, _≤_}
-use mathlib.Core.Path.{ap, sym, _∙_}
-use lib.ListN.{length, length-drop}
-use lib.Seq.{length-take-le}
+use mathlib.Core.Path.{sym, _∙_}
+use lib.ListN.{length}
 use Rattle.layout.specs.Runs.{runStarts, runCount}
 use Rattle.layout.proofs.Buffers.{written-after, length-tail}
 use Rattle.csc.specs.Matrix.{table}

@@ -1,10 +1,9 @@
 use Prim.Native.Nat.{ℕ, _+_, _-_, _≤_, _<_}
 use native.Mathlib.Omega.{arith}
-use mathlib.Core.Path.{_≡_, refl, sym, ap, _∙_}
-use mathlib.Core.Bool.{true, false}
-use mathlib.Core.List.{List, [], _∷_, _++_}
+use mathlib.Core.Path.{_≡_, sym, ap, _∙_}
+use mathlib.Core.List.{[], _∷_, _++_}
 use borrow.Author.Needs.{needs}
-use lib.ListN.{length, getD, set, length-append, length-set}
+use lib.ListN.{length, length-append, length-set}
 use Rattle.layout.specs.Lists.{keep, upFrom, written}
 use Rattle.layout.specs.Triangle.{triangle}
 use Rattle.layout.proofs.Buffers.{set-written}
@@ -23,13 +22,13 @@ Inv-loop places w j first rows₀ place count₀ i₀ rows count i =
 abbrev μ-loop : tie.MeasureT-loop
 μ-loop places w j first rows₀ place count₀ i₀ rows count i = j + 1 - i
 
--- rows are below 2,080
+-- the first row of a column is at most 2,080
 small : (c : tie.At-loop Inv-loop μ-loop) → c .before .before .before .before .args .first ≤ 2080
 small c =
     let s = c .before .before .before .before in
     omega (arith, s .pre .1 .0, triangle-mono (s .args .j) 64 (omega (arith, s .pre .0 .0, s .pre .0 .1)))
 
--- no more rows than were looked at
+-- no more rows are covered than were tested
 few : (c : tie.Then1 Inv-loop μ-loop)
     → let l = c .before .before .before .before in (l .loop .count ≤ l .loop .i) × (l .loop .count < length (l .loop .rows))
 few c =
@@ -38,7 +37,7 @@ few c =
     let h = rows-few (inBandAt (s .args .places .now) (s .args .w)) (triangle (s .args .j)) (l .loop .i) in
     (omega arith, omega (arith, s .pre .1 .1))
 
--- the test of the row
+-- the test of a row
 test : (c : tie.After-is-within Inv-loop μ-loop)
     → let l = c .before .before .before in let s = l .before .before .before .before in
     inBandAt (s .args .places .now) (s .args .w) (triangle (s .args .j) + l .loop .i) ≡ c .is-within .result

@@ -1,9 +1,9 @@
-use Prim.Native.Nat.{ℕ, suc, _+_, _-_, _≤_, _<_}
+use Prim.Native.Nat.{ℕ, _+_, _-_, _≤_, _<_}
 use native.Mathlib.Omega.{arith}
-use mathlib.Core.Path.{_≡_, refl, sym, ap, _∙_}
+use mathlib.Core.Path.{_≡_, sym, ap, _∙_}
 use mathlib.Core.List.{List, _++_}
 use borrow.Author.Needs.{needs}
-use lib.ListN.{length, take, drop, length-append}
+use lib.ListN.{length, length-append}
 use Rattle.layout.specs.Lists.{keep, below, upFrom, written}
 use Rattle.layout.specs.Triangle.{triangle}
 use Rattle.layout.proofs.Buffers.{written-after, length-tail}
@@ -23,7 +23,7 @@ Inv-loop places w rows₀ count₀ first₀ j₀ rows count first j =
 abbrev μ-loop : tie.MeasureT-loop
 μ-loop places w rows₀ count₀ first₀ j₀ rows count first j = length places - j
 
--- the rows of column j have room after those before it
+-- the output has room for the rows of column j after those of the earlier columns
 room : (l : tie.At-loop Inv-loop μ-loop) → l .loop .j < length (l .before .before .before .args .places .now)
     → (l .loop .count + (l .loop .j + 1) ≤ length (l .loop .rows)) × (l .loop .count + (l .loop .j + 1) ≤ 2080) × (l .loop .first + (l .loop .j + 1) ≤ 2080)
 room l m =

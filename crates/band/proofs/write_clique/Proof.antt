@@ -1,9 +1,8 @@
 use Prim.Native.Nat.{ℕ, _+_}
 use native.Mathlib.Omega.{arith}
 use mathlib.Core.Path.{_≡_, refl}
-use mathlib.Core.List.{List, [], _∷_}
+use mathlib.Core.List.{[], _∷_}
 use borrow.Author.Needs.{needs}
-use lib.ListN.{length}
 use Rattle.layout.specs.Lists.{upFrom}
 use Rattle.layout.proofs.Buffers.{written-after}
 use Rattle.layout.proofs.Members.{length-upFrom}

@@ -1,7 +1,7 @@
 use Prim.Native.Nat.{ℕ, suc, _+_, _-_, _*_, _≤_, _<_}
 use native.Mathlib.Nat.{mul-le-mul}
 use native.Mathlib.Omega.{arith}
-use mathlib.Core.Path.{_≡_, refl, sym, ap, ap₂, _∙_}
+use mathlib.Core.Path.{_≡_, sym, ap, ap₂, _∙_}
 use mathlib.Core.List.{List, _∷_, _++_}
 use borrow.Author.Needs.{needs}
 use lib.ListN.{length, length-append}
@@ -21,7 +21,7 @@ Inv-loop v w out₀ last at₀ c₀ out at c =
 abbrev μ-loop : tie.MeasureT-loop
 μ-loop v w out₀ last at₀ c₀ out at c = last - c
 
--- a clique more has room
+-- the output has room for one clique more
 room : (l : tie.At-loop Inv-loop μ-loop)
     → (l .loop .at + (l .before .before .args .w + 4) ≤ length (l .loop .out)) × (l .loop .at + (l .before .before .args .w + 4) ≤ 4420)
 room l =

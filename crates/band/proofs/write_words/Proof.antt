@@ -3,7 +3,7 @@ use native.Mathlib.Omega.{arith}
 use mathlib.Core.Path.{_≡_, refl, sym, ap, _∙_}
 use mathlib.Core.List.{List, [], _∷_, _++_}
 use borrow.Author.Needs.{needs}
-use lib.ListN.{length, take, drop, length-append}
+use lib.ListN.{length, take, drop}
 use Rattle.layout.specs.Lists.{written}
 use Rattle.layout.specs.Patterns.{cliqueWords}
 use Rattle.layout.specs.Generator.{lastClique}
@@ -18,7 +18,7 @@ use Rattle.band.proofs.write_words.Tie as tie
 abbrev head : tie.Start → List ℕ
 head s = let os = s .args .ordering .now in 0 ∷ length os ∷ (length os - s .args .w) ∷ os
 
--- what stands in the output once they are written
+-- the output after these words are written
 abbrev headed : tie.After-slice-known3 → List ℕ
 headed c =
     let u = c .before .before in

@@ -87,7 +87,7 @@ move-two-requires-2 c κs = (omega arith, omega arith)
 add-i-2 : tie.Need-add-i-2 Inv-loop μ-loop
 add-i-2 c = omega arith
 
--- one value of each is left at most
+-- at most one value of each list remains
 abbrev Nearly : ℕ → ℕ → List Float → List Float → ℕ → List Float → List Float → ℕ → List Float → List Float → Type 0
 Nearly k from s z to s-out₀ z-out₀ i s-out z-out = (i ≤ k) × (k ≤ i + 1) × Put from s to s-out₀ i s-out × Put from z to z-out₀ i z-out
 
@@ -131,7 +131,7 @@ returns c =
       put-as (a .from) (a .z .now) (a .to) (a .z-out .now) (j .if1 .i) (a .k) (j .if1 .z-out) (j .if1 .z-out) e refl (nearly j .3) .1,
     )
 
--- one value of each is left
+-- one value of each list remains
 last-left : (c : tie.Else2 Inv-loop μ-loop) → let j = c .before in
     let s = start (j .before .before) in
     let a = s .args in
@@ -174,7 +174,7 @@ mul-z-out-2 c = omega (arith, last-left (c .before .before .before))
 slice-write-z-out : tie.Need-slice-write-z-out Inv-loop μ-loop
 slice-write-z-out c = omega (arith, last-left (c .before .before .before))
 
--- and was put
+-- the last values are copied
 last-put : (c : tie.After-shared-slice-known4 Inv-loop μ-loop) → let j = c .before .before .before .before in
     let a = start (j .before .before) .args in
     let n = j .if1 .i + 1 in

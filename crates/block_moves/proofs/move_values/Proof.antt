@@ -63,7 +63,7 @@ move-two-requires c κs = (omega arith, omega arith)
 add-i-2 : tie.Need-add-i-2 Inv-loop μ-loop
 add-i-2 c = omega arith
 
--- one value is left at most
+-- at most one value remains
 nearly : (c : tie.Joined1 Inv-loop μ-loop) → let a = start (c .before .before) .args in
     (c .if1 .i ≤ a .k) × (a .k ≤ c .if1 .i + 1) × Put (a .from) (a .values .now) (a .to) (a .out .now) (c .if1 .i) (c .if1 .out)
 nearly c =
@@ -94,7 +94,7 @@ returns c =
     let a = start (j .before .before) .args in
     put-as (a .from) (a .values .now) (a .to) (a .out .now) (j .if1 .i) (a .k) (j .if1 .out) (j .if1 .out) (sym (c .if2 .taken)) refl (nearly j .2) .1
 
--- one value is left
+-- one value remains
 last-left : (c : tie.Else2 Inv-loop μ-loop) → let j = c .before in
     let a = start (j .before .before) .args in
     (a .k ≡ j .if1 .i + 1) × (a .from + j .if1 .i < length (a .values .now)) × (a .to + j .if1 .i < length (j .if1 .out))
@@ -123,7 +123,7 @@ mul-out-2 c = omega (arith, last-left (c .before .before))
 slice-write-out : tie.Need-slice-write-out Inv-loop μ-loop
 slice-write-out c = omega (arith, last-left (c .before .before))
 
--- and was put
+-- the last value is copied
 last-put : (c : tie.After-shared-slice-known2 Inv-loop μ-loop) → let j = c .before .before .before in
     let a = start (j .before .before) .args in
     let i = j .if1 .i in

@@ -40,7 +40,7 @@ module _ (e : tie.Else1) where
       Counted (joinedParts (a .cones .now) (a .count) (a .words .now)) (checked .check-joined .result .rows) (checked .check-joined .result .overlaps)
   counted = checked .check-joined .ensures .1 (e .if1 .left)
 
--- the number that was answered
+-- the number that `refuse_counted` returned
 answered : (g : tie.After-refuse-counted) → g .refuse-counted .result ≡ number (start (checked (g .before)))
 answered g =
     let e = g .before in
@@ -51,7 +51,7 @@ answered g =
     ∙ refused-late (a .n) (a .m) (a .cones .now) (a .count) (a .words .now) (given s) (rooms s) (k .check-joined .result .rows)
     (k .check-joined .result .overlaps) (counted e) (none-early e)
 
--- nothing was refused
+-- nothing is refused
 module _ (f : tie.Else2) where
   abbrev first : tie.Start
   first = start (checked (f .before .before))
@@ -103,7 +103,7 @@ change-slacks-requires c κs =
     let g = accepted (c .before .before .before .before .before .before) in
     (g .sound, ((g .slacks, g .duals), (g .room-s, g .room-z)))
 
--- after each writer
+-- the states in which x is written, and in which s and z are written
 abbrev x-written : tie.After-change-slacks → tie.After-change-x
 x-written c = c .before .before .before .before .before
 

@@ -28,7 +28,7 @@ module _ (s : tie.Start) where
   abbrev fit : Bool
   fit = let a = s .args in lengthsFit standard (a .n) (a .m) (a .rows) (a .overlaps) (a .x) (a .s) (a .z)
 
--- those that passed
+-- the tests that passed
 fine : (c : tie.Else1) → few (c .before .before) ≡ true
 fine c = sym (c .before .rows-right .ensures) ∙ not-false _ (c .if1 .left)
 

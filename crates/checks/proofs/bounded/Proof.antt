@@ -7,7 +7,7 @@ use Rattle.layout.proofs.Tests.{differ}
 use Rattle.checks.proofs.bounded.Statement.{statement}
 use Rattle.checks.proofs.bounded.Tie as tie
 
--- two tests among others
+-- two of four tests made before the other two
 among : (x a p b : Bool)
     → (a ≡ false → false ≡ (x && a && p && b)) × (p ≡ false → false ≡ (x && a && p && b)) × (a ≡ true → p ≡ true → (x && b) ≡ (x && a && p && b))
 among false a p b = (λ z. refl, λ z. refl, λ z w. refl)

@@ -23,7 +23,7 @@ given s =
     (unvalued (length (s .args .q .now))) (s .args .a-starts .now) (s .args .a-rows .now) (unvalued (length (s .args .a-values .now)))
     (unvalued (length (s .args .b .now))) (s .args .cones .now) (unvalued (length (s .args .alphas .now))) (s .args .count) (s .args .words .now)
 
--- the checks look at no value
+-- the checks depend on float tables only by their lengths
 by-lengths : (s : tie.Start) → let a = s .args in
     problemRefusal (problem (a .n) (a .m) (a .p-starts .now) (a .p-rows .now) (a .p-values .now) (a .q .now) (a .a-starts .now) (a .a-rows .now)
     (a .a-values .now) (a .b .now) (a .cones .now) (a .alphas .now) (a .count) (a .words .now)) ≡ problemRefusal (given s)

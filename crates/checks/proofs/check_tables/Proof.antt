@@ -28,7 +28,7 @@ second s = matricesRefusal (s .args .n) (s .args .m) (P s) (A s)
 abbrev third : tie.Start → ℕ
 third s = recordsRefusal (s .args .n) (s .args .m) (unvalued (s .args .q-count)) (unvalued (s .args .b-count)) (s .args .cones .now)
 
--- check 1 sees the lengths
+-- check 1 depends on float tables only by their lengths
 by-lengths : (s : tie.Start) → let a = s .args in first s ≡ bounds (a .n) (a .m) (a .a-entries) (a .p-entries) (a .cones .now)
 by-lengths s =
     let a = s .args in

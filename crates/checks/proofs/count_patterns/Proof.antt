@@ -17,7 +17,7 @@ use Rattle.checks.proofs.count_patterns.Tie as tie
 patterns-hold-requires : tie.Need-patterns-hold-requires
 patterns-hold-requires c κs = passed _ (c .before .before .pre .1)
 
--- the patterns were accepted
+-- checks 5, 6 and 7 pass
 none-refused : (c : tie.Then1) → let a = c .before .before .before .before .args in patternsRefusal (a .cones .now) (a .count) (a .words .now) ≡ 0
 none-refused c =
     let a = c .before .before .before .before .args in

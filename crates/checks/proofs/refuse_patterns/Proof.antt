@@ -36,7 +36,7 @@ all-trees : (c : tie.Else2) → let s = c .before .before .before .before .befor
     all treeRight (patterns (s .args .count) (s .args .words .now)) ≡ true
 all-trees c = sym (c .before .trees-right .ensures) ∙ not-false _ (c .if2 .left)
 
--- the others pass
+-- where checks 5 and 6 pass, check 7 fails
 cliques-fail : (c : tie.Else2) → let s = c .before .before .before .before .before .before in
     all cliquesRight (patterns (s .args .count) (s .args .words .now)) ≡ false
 cliques-fail c =

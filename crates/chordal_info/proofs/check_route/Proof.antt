@@ -17,7 +17,7 @@ use Rattle.chordal_info.proofs.check_route.Tie as tie
 abbrev here : tie.Start → List Part
 here s = parts (records (s .args .cones .now)) (patterns (s .args .count) (s .args .words .now))
 
--- checks 9 and 10
+-- whether checks 9 and 10 pass
 abbrev nine : tie.Start → Bool
 nine s = let a = s .args in entriesCheck (routeOf (a .route)) (a .m) (a .a-rows .now) (a .b .now) (here s)
 
@@ -38,7 +38,7 @@ returns c =
 entries-right-requires : tie.Need-entries-right-requires
 entries-right-requires c κs = let s = c .before .before .before .before .before in (s .pre .0, s .pre .1 .0)
 
--- check 9 as `entries_right` answers it
+-- `entries_right` returns whether check 9 passes
 answered : (c : tie.After-entries-right) → let s = c .before .before .before .before .before .before in nine s ≡ c .entries-right .result
 answered c =
     let s = c .before .before .before .before .before .before in

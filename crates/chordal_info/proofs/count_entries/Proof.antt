@@ -3,14 +3,13 @@ use native.Mathlib.Omega.{arith}
 use mathlib.Core.Path.{sym, ap, _∙_}
 use borrow.Author.Needs.{needs}
 use Rattle.layout.specs.Problem.{Route}
-use Rattle.layout.specs.Answers.{routeOf}
 use Rattle.layout.proofs.Routes.{route-standard, route-compact}
 use Rattle.csc.proofs.Runs.{count-few}
 use Rattle.chordal_info.specs.Sizes.{entriesKept}
 use Rattle.chordal_info.proofs.count_entries.Statement.{statement}
 use Rattle.chordal_info.proofs.count_entries.Tie as tie
 
--- the entries that a route keeps
+-- the number of entries that a route keeps
 abbrev kept : tie.Start → Route → ℕ
 kept s route = entriesKept route (s .args .n) (s .args .starts .now) (s .args .rows .now)
 

@@ -25,13 +25,13 @@ tall c =
     leb-iff (a .m + a .rows) 262144 .0
     (subst (λ (x : Route). T (rowsFit x (a .m) (a .rows) (a .overlaps))) (route-standard (a .route) (c .if1 .taken)) (s .pre .1 .2))
 
--- no more columns than rows are added
+-- at most 262144 columns are added
 short : (j : tie.Joined1) → j .if1 .added ≤ 262144
 short j =
     let s = j .before .before in
     ⊎-elim (λ w. omega (arith, w .1, few s)) (λ w. omega (arith, w .1, few s, s .pre .1 .3)) (j .if1 .came)
 
--- the lengths on either route
+-- the computed lengths are those of the route
 lengths : (j : tie.Joined1)
     → let a = j .before .before .args in
     let x = j .if1 in

@@ -14,14 +14,14 @@ use Rattle.clique_tree.proofs.cliques_right_by.Statement.{statement}
 use Rattle.clique_tree.proofs.cliques_right_by.Tie as tie
 
 module _ (c : tie.After-here) where
-  -- the cliques are whole
+  -- the words of all cliques are there
   whole-at : let p = c .here .result in Whole (c .before .before .before .before .args .words .now) (p .cliques) (p .«clique_count»)
   whole-at =
       let s = c .before .before .before .before in
       let ws = s .args .words .now in
       cliques-of-whole (drop (s .args .at) ws) (headOf ws (c .here .result)) _ (sym (c .here .ensures .0)) (s .pre .0 .0)
 
-  -- and the check is two tests of them
+  -- check 7 is the test of the snodes and the test of the separators
   right-at : let s = c .before .before .before .before in
       let ws = s .args .words .now in
       let p = c .here .result in
@@ -33,7 +33,7 @@ module _ (c : tie.After-here) where
       let p = c .here .result in
       ap cliquesRight (pattern-head ws (s .args .at) (headOf ws p) (p .cliques) (sym (c .here .ensures .0)) (s .pre .0 .0))
 
-  -- of which the second needs no member that is not a vertex
+  -- if the snodes are right, testing separators with the bound on members gives the same result
   below-at : let s = c .before .before .before .before in
       let p = c .here .result in
       let cs = cliquesFrom (s .args .words .now) (p .cliques) (p .«clique_count») in
@@ -63,7 +63,7 @@ returns c =
     let r = c .before .before .before in
     sym (right-at (r .before .before) ∙ and-false _ _ (sym (r .snodes-right .ensures) ∙ not-true _ (c .if1 .taken)))
 
--- a table of the same length is as long
+-- a bound on a length carries over to an equal length
 as-long : (m n k : ℕ) → m ≡ n → k ≤ n → k ≤ m
 as-long m n k e h = rw e h
 

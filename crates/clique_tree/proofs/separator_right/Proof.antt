@@ -5,7 +5,7 @@ use mir.Val.{Fits}
 use Rattle.clique_tree.proofs.separator_right.Statement.{statement}
 use Rattle.clique_tree.proofs.separator_right.Tie as tie
 
--- both parts start within the words
+-- byte offsets of both slices fit in 64 bits
 room : (s : tie.Start) → Fits w64 (s .args .a * 4) × Fits w64 (s .args .b * 4)
 room s = (omega (arith, s .pre .0), omega (arith, s .pre .1 .0))
 

@@ -25,13 +25,13 @@ Inv-loop words first count n step offsets marks₀ at₀ left₀ marks at left =
 abbrev μ-loop : tie.MeasureT-loop
 μ-loop words first count n step offsets marks₀ at₀ left₀ marks at left = left
 
--- the test of a clique
+-- the test of a clique's separator
 abbrev right : tie.After-here Inv-loop μ-loop → Clique → Bool
 right k q =
     let s = k .before .before .before .before .before .before in
     separatorBelow (s .args .n) (cliquesFrom (s .args .words .now) (s .args .first) (s .args .count)) (q .parent) (q .separator)
 
--- a clique was read, and its separator looked at
+-- the result for the separator of the clique just read
 looked : (c : tie.After-separator-right Inv-loop μ-loop)
     → let k = c .before .before .before in
     c .separator-right .result ≡ right k (cliqueOf (k .before .before .before .before .before .before .args .words .now) (k .here .result))

@@ -20,7 +20,7 @@ Inv-loop words first count n total₀ at₀ left₀ total at left = Counting n w
 abbrev μ-loop : tie.MeasureT-loop
 μ-loop words first count n total₀ at₀ left₀ total at left = left
 
--- a snode stands within the words
+-- a snode lies within the words
 ends : (c : tie.Else1 Inv-loop μ-loop) → let q = c .before .before .here .result in
     (q .snode ≤ q .separator) × (q .separator ≤ length (c .before .before .before .before .before .before .args .words .now))
 ends c = let i = c .before .before .here .ensures .1 in (starts-before _ (i .1), le-trans (starts-before _ (i .2)) (i .3))
@@ -28,7 +28,7 @@ ends c = let i = c .before .before .here .ensures .1 in (starts-before _ (i .1),
 room : (s : tie.Start Inv-loop μ-loop) (k : ℕ) → k ≤ length (s .args .words .now) → Fits w64 (k * 4)
 room s k h = omega arith
 
--- a clique was read, and its snode looked at
+-- the result for the snode of the clique just read
 looked : (c : tie.After-all-below Inv-loop μ-loop) → let h = c .before .before .before .before in
     let a = h .before .before .before .before .args in
     c .all-below .result ≡ all (λ x. ltb x (a .n)) (cliqueOf (a .words .now) (h .here .result) .snode)

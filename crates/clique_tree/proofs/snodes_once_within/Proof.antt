@@ -35,7 +35,7 @@ abbrev μ-loop : tie.MeasureT-loop
 abbrev snode : Clique → List ℕ
 snode c = c .snode
 
--- a clique was read, and its snode marked
+-- the state after the snode of the clique just read is marked
 stepped : (c : tie.After-mark Inv-loop μ-loop)
     → let t = c .before .before .before in
     let l = t .before .before in
@@ -65,7 +65,7 @@ stepped c =
       done .1,
     )
 
--- a snode stands within the words
+-- a snode lies within the words
 ends : (s : tie.Start Inv-loop μ-loop) (q : CliqueAt) (at : ℕ) → CliqueInside (length (s .args .words .now)) at (Found q) → (q .snode ≤ q .separator) × (q .separator ≤ length (s .args .words .now))
 ends s q at i = (starts-before _ (i .1), le-trans (starts-before _ (i .2)) (i .3))
 

@@ -30,7 +30,7 @@ returns c =
     let a = b .before .before .before .args in
     sym (fill-fails (a .n) (cliquesFrom (a .words .now) (a .first) (a .count)) (sym (b .snodes-fill .ensures) ∙ not-true _ (c .if1 .taken)))
 
--- the snodes fill n, and what is left is that they repeat none
+-- the snodes have n members, all below n; only the test for duplicates is left
 filled : (c : tie.Else1 Inv-loop μ-loop) → let a = c .before .before .before .before .args in
     let cs = cliquesFrom (a .words .now) (a .first) (a .count) in
     (length (snodesOf cs) ≡ a .n) × (all (λ x. ltb x (a .n)) (snodesOf cs) ≡ true) × (distinct (snodesOf cs) ≡ snodesOk (a .n) cs)

@@ -30,7 +30,7 @@ some-left k c h = omega arith
 next-le : (k c : ℕ) → c < k → c + 1 ≤ k
 next-le k c h = omega arith
 
--- the pattern's head was read
+-- the state after reading the head of the pattern
 started : (h : tie.After-here Inv-loop μ-loop)
     → let s = h .before .before in
     let ws = s .args .words .now in
@@ -41,7 +41,7 @@ started h =
     let ws = s .args .words .now in
     tree-start ws (s .args .at) (headOf ws (h .here .result)) _ (sym (h .here .ensures .0))
 
--- a clique was read and looked at
+-- the state after reading and testing a clique
 stepped : (c : tie.After-parent-right Inv-loop μ-loop)
     → let l = c .before .before .before in
     let h = l .before in

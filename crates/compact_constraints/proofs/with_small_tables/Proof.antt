@@ -18,7 +18,7 @@ use Rattle.compact_constraints.proofs.with_small_tables.Tie as tie
 few : (s : tie.Start) → s .args .rows ≤ 2048
 few s = s .pre .1 .0
 
--- the codes of the augmented rows stand at the front of their table
+-- the codes of the augmented rows are a prefix of the table
 abbrev start : tie.After-write-starts-and-b → tie.Start
 start w = w .before .before .before .before .before .before .before .before .before .before .before .before .before .before
 

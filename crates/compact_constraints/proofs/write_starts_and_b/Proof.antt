@@ -27,7 +27,7 @@ start w = w .before .before .before .before .before .before .before .before .bef
 abbrev filled : tie.After-write-table → List ℕ
 filled w = w .write-table .last .1 .1 .1 .1 .1 .0
 
--- the codes stand at the front of their table
+-- the codes are a prefix of the table
 taken : (w : tie.After-write-table) → (take (start w .args .rows) (filled w) ≡ codes (start w)) × (start w .args .rows ≤ length (filled w))
 taken w = let s = start w in front (codes s) (s .args .table .now) (count s) (s .pre .1 .0 .2) (w .write-table .ensures .1)
 

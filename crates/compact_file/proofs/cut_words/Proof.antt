@@ -1,4 +1,4 @@
-use mathlib.Core.Path.{ap, ap₂, sym, subst, _∙_}
+use mathlib.Core.Path.{ap, sym, _∙_}
 use mathlib.Core.List.{List}
 use Prim.Native.Nat.{ℕ}
 use native.Mathlib.Omega.{arith}

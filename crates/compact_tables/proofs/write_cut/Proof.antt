@@ -1,12 +1,14 @@
 use Prim.Native.Nat.{ℕ, _+_, _-_}
 use native.Mathlib.Omega.{arith}
-use mathlib.Core.Path.{refl, ap, ap₂, sym, _∙_}
+use mathlib.Core.Path.{ap, ap₂, sym, _∙_}
+use lib.ListN.{length-replicate}
 use lib.Seq.{length-take-le}
 use Rattle.layout.specs.Lists.{written}
-use Rattle.layout.specs.File.{Tables, fileOf}
+use Rattle.layout.specs.Problem.{zero64}
+use Rattle.layout.specs.File.{BitTables, fileOf}
 use Rattle.layout.specs.FileWords.{wordTables}
 use Rattle.file_shape.proofs.Parts.{stands-long}
-use Rattle.compact_tables.proofs.Cut.{count-lengths, columns-is, rows-is, room-columns, room-entries, room-rows, room-cones, cut-fits, cut-starts, cut-rows, cut-values, cut-side, cut-cones, cut-tables, cut-extends}
+use Rattle.compact_tables.proofs.Cut.{count-lengths, columns-is, rows-is, room-columns, room-entries, room-rows, room-cones, cut-fits, cut-tables, cut-extends}
 use borrow.Author.Needs.{needs}
 use Rattle.compact_tables.proofs.write_cut.Statement.{statement}
 use Rattle.compact_tables.proofs.write_cut.Tie as tie
@@ -42,19 +44,19 @@ sub-cut-constraints c =
     omega (arith, columns-is (wordTables (s .args .words .now)) (s .args .lengths .now) (s .pre .1 .0), c .before .before .before .before .count-at .ensures .0, c .before .before .before .count-at2 .ensures .0)
 
 slice-aggregate-cut-constraints : tie.Need-slice-aggregate-cut-constraints
-slice-aggregate-cut-constraints c = search needs
+slice-aggregate-cut-constraints c = sym (length-replicate {A = ℕ} 16384 0)
 
 slice-aggregate-cut-constraints-2 : tie.Need-slice-aggregate-cut-constraints-2
-slice-aggregate-cut-constraints-2 c = search needs
+slice-aggregate-cut-constraints-2 c = sym (length-replicate {A = ℕ} 16384 0)
 
 slice-aggregate-cut-constraints-3 : tie.Need-slice-aggregate-cut-constraints-3
-slice-aggregate-cut-constraints-3 c = search needs
+slice-aggregate-cut-constraints-3 c = sym (length-replicate 8192 zero64)
 
 slice-aggregate-cut-constraints-4 : tie.Need-slice-aggregate-cut-constraints-4
-slice-aggregate-cut-constraints-4 c = search needs
+slice-aggregate-cut-constraints-4 c = sym (length-replicate 8192 zero64)
 
 slice-aggregate-cut-constraints-5 : tie.Need-slice-aggregate-cut-constraints-5
-slice-aggregate-cut-constraints-5 c = search needs
+slice-aggregate-cut-constraints-5 c = sym (length-replicate {A = ℕ} 16384 0)
 
 cut-constraints-requires : tie.Need-cut-constraints-requires
 cut-constraints-requires c κs =
@@ -65,13 +67,15 @@ cut-constraints-requires c κs =
       (s .pre .0 .0, s .pre .0 .2),
       (
         cut-fits t l w (c .before .before .before .before .before .before .before .before .count-at2 .result - c .before .before .before .before .before .before .before .before .before .count-at .result) (ap₂ _-_ (c .before .before .before .before .before .before .before .before .count-at2 .ensures .0) (c .before .before .before .before .before .before .before .before .before .count-at .ensures .0))
-            refl refl refl refl refl,
+            (length-replicate {A = ℕ} 16384 0) (length-replicate {A = ℕ} 16384 0) (length-replicate 8192 zero64) (length-replicate 8192 zero64) (length-replicate {A = ℕ} 16384 0),
         (c .before .before .before .before .before .before .count-at4 .ensures .0) ∙ rows-is t l w,
       ),
     )
 
 add-a-starts-out : tie.Need-add-a-starts-out
-add-a-starts-out c = search needs
+add-a-starts-out c =
+    let s = c .before .before .before .before .before .before .before .before .before .before .before .before .before .before .before .before .before .before .before .before .before in
+    omega (arith, room-columns (wordTables (s .args .words .now)) (s .args .lengths .now) (s .pre .1 .0), c .before .before .before .before .before .before .before .before .before .before .before .before .before .before .count-at2 .ensures .0)
 
 array-share-prefix-a-starts-out : tie.Need-array-share-prefix-a-starts-out
 array-share-prefix-a-starts-out c =
@@ -129,14 +133,7 @@ write-compact-requires c κs =
     let t = wordTables (s .args .words .now) in
     let l = s .args .lengths .now in
     let w = s .pre .1 .0 in
-    let h = c .before .before .before .before .before .before .before .before .before .before .before .cut-constraints .ensures in (
-      (s .pre .0 .0, s .pre .0 .1),
-      (
-        cut-extends t l w (cut-starts t l w h (c .before .before .before .before .before .before .before .before .before .before .before .before .before .before .before .before .before .before .before .before .count-at2 .ensures .0)) (cut-rows t l w h (c .before .before .before .before .before .before .before .before .before .before .before .before .before .before .before .before .before .before .before .count-at3 .ensures .0)) (cut-values t l w h (c .before .before .before .before .before .before .before .before .before .before .before .before .before .before .before .before .before .before .before .count-at3 .ensures .0))
-            (cut-side t l w h (c .before .before .before .before .before .before .before .before .before .before .before .before .before .before .before .before .before .before .count-at4 .ensures .0)) (cut-cones t l w h (c .before .before .before .before .before .before .before .before .before .before .before .before .before .before .before .before .before .count-at5 .ensures .0)) (c .before .before .before .before .before .before .before .before .before .before .before .before .before .before .before .before .before .before .before .before .count-at2 .result) (c .before .before .before .before .before .before .before .before .before .before .before .before .before .before .before .before .before .before .before .before .count-at2 .ensures .0),
-        s .pre .1 .1,
-      ),
-    )
+    ((s .pre .0 .0, s .pre .0 .1), (cut-extends t l w (c .before .before .before .before .before .before .before .before .before .before .before .cut-constraints .ensures) (c .before .before .before .before .before .before .before .before .before .before .before .before .before .before .before .before .before .before .before .before .count-at2 .ensures .0) (c .before .before .before .before .before .before .before .before .before .before .before .before .before .before .before .before .before .before .before .count-at3 .ensures .0) (c .before .before .before .before .before .before .before .before .before .before .before .before .before .before .before .before .before .before .count-at4 .ensures .0) (c .before .before .before .before .before .before .before .before .before .before .before .before .before .before .before .before .before .count-at5 .ensures .0), s .pre .1 .1))
 
 same-length : tie.Need-same-length
 same-length c = search needs
@@ -147,10 +144,8 @@ returns c =
     let t = wordTables (s .args .words .now) in
     let l = s .args .lengths .now in
     let w = s .pre .1 .0 in
-    let h = c .before .before .before .before .before .before .before .before .before .before .before .before .before .before .cut-constraints .ensures in
     c .before .before .write-compact .ensures
-    ∙ ap (λ (u : Tables). written (fileOf u) (s .args .out .now)) (cut-tables t l w (cut-starts t l w h (c .before .before .before .before .before .before .before .before .before .before .before .before .before .before .before .before .before .before .before .before .before .before .before .count-at2 .ensures .0)) (cut-rows t l w h (c .before .before .before .before .before .before .before .before .before .before .before .before .before .before .before .before .before .before .before .before .before .before .count-at3 .ensures .0)) (cut-values t l w h (c .before .before .before .before .before .before .before .before .before .before .before .before .before .before .before .before .before .before .before .before .before .before .count-at3 .ensures .0))
-    (cut-side t l w h (c .before .before .before .before .before .before .before .before .before .before .before .before .before .before .before .before .before .before .before .before .before .count-at4 .ensures .0)) (cut-cones t l w h (c .before .before .before .before .before .before .before .before .before .before .before .before .before .before .before .before .before .before .before .before .count-at5 .ensures .0)) (c .before .before .before .before .before .before .before .before .before .before .before .before .before .before .before .before .before .before .before .before .before .before .before .count-at2 .result) (c .before .before .before .before .before .before .before .before .before .before .before .before .before .before .before .before .before .before .before .before .before .before .before .count-at2 .ensures .0))
+    ∙ ap (λ (u : BitTables). written (fileOf u) (s .args .out .now)) (cut-tables t l w (c .before .before .before .before .before .before .before .before .before .before .before .before .before .before .cut-constraints .ensures) (c .before .before .before .before .before .before .before .before .before .before .before .before .before .before .before .before .before .before .before .before .before .before .before .count-at2 .ensures .0) (c .before .before .before .before .before .before .before .before .before .before .before .before .before .before .before .before .before .before .before .before .before .before .count-at3 .ensures .0) (c .before .before .before .before .before .before .before .before .before .before .before .before .before .before .before .before .before .before .before .before .before .count-at4 .ensures .0) (c .before .before .before .before .before .before .before .before .before .before .before .before .before .before .before .before .before .before .before .before .count-at5 .ensures .0))
 
 pub write-cut-spec : {M : Type 1} → statement M
 write-cut-spec =

@@ -1,8 +1,8 @@
--- `cone_maps::write_entries` meets its contract: a walk of its MIR, by hand, with a loop. The borrow of entries is opened once, before the loop, and closed
--- once, after it. A turn calls the covered `read` and stores the entry.
+-- `cone_maps::write_entries` meets its contract, proved by hand along its MIR, with a loop. The borrow of `entries` is opened once
+-- before the loop and closed once after it. Each iteration calls `read`, by its contract, and stores the entry.
 -- Assumes nothing.
 use mathlib.Core.Path.{_≡_, refl, sym, ap, subst}
-use Prim.Native.Nat.{ℕ, suc, _+_, _*_, _<_, _≤_, _^_}
+use Prim.Native.Nat.{ℕ, _+_, _*_, _<_, _≤_, _^_}
 use mathlib.Core.List.{List, [], _∷_, _++_}
 use mathlib.Core.Option.{some, none}
 use lib.ListN.{length}
@@ -35,7 +35,7 @@ use Rattle.by_hand.proofs.Outputs.{units}
 use Rattle.by_hand.proofs.Params.{Param, sized, shared, lent}
 use Rattle.by_hand.proofs.Locals.{Blocks, locals, equals, value, pointer, sets, lands-in, free-all}
 use Rattle.by_hand.proofs.Operands.{loads}
-use Rattle.by_hand.proofs.Calling.{Arg, plain-arg, lent-arg, denoted, vals, calls-lent}
+use Rattle.by_hand.proofs.Calling.{plain-arg, lent-arg, denoted, vals, calls-lent}
 use Rattle.by_hand.proofs.Counted.{Loop, More, Ends, counted, goes-on, stops}
 use Rattle.by_hand.proofs.Walking.{Walked, Here, arg, known-of, toks, En, loop-in, to-call, taken-apart, Body, Returned, ends-in, walks-given, stands}
 use Rattle.cone_maps.proofs.Lists.{filled, filled-length, filled-more}
@@ -58,7 +58,7 @@ params = shared 0 tt u32 ∷ sized ∷ lent 1 tt T.the-row ∷ []
 abbrev this : Walked
 this = record { n = 2; params = params; result = plain (λ _. Nothing); clauses = write.clauses; code = code.function; callees = read ∷ [] }
 
--- what is required
+-- the precondition
 abbrev Fit : Here this → Type 0
 Fit h = let (ws, (n, (ys, _))) = h .a in (n * 5 ≤ length (ws .now)) × (n ≤ length (ys .now))
 
@@ -84,7 +84,7 @@ module _ (h : Here this) (given : Fit h) where
   room : Room T.the-row (length ys)
   room = known-of h 2 .0 .1
 
-  -- k entries are written
+  -- the contents of `entries` after k iterations
   abbrev zs : ℕ → List ConeMapEntry
   zs k = filled (words .now) ys k
 
@@ -102,20 +102,20 @@ module _ (h : Here this) (given : Fit h) where
   abbrev Words : Fml
   Words = ShrSlice (named 0) (lft 2 (h .κs) 0) u32 .own words (slice words ∷ [])
 
-  -- what is owned of the entries, when they are l
+  -- the reference to `entries` when its contents are l
   abbrev holding : List ConeMapEntry → RefT (List ConeMapEntry)
   holding l = record { ptr = (b, o); name = out .name; now = l }
 
   abbrev Entries : List ConeMapEntry → Fml
   Entries l = MutSlice (named 1) κ T.the-row .own (holding l) (slice out ∷ [])
 
-  -- at the return the borrow is closed, with all entries written
+  -- what is held at the return: the closed borrow, with all entries written
   abbrev Done : List (Item 𝓤)
   Done = ‵ (fobs (out .name) (codedHoleys T.the-row .code (heres T.the-row (zs n)))) ∷ ‵ (fbor κ (lend.Held T.the-row (length (zs n)) b o (out .name))) ∷ (toks h (1 ∷ []) ++ (toks h (0 ∷ []) ++ (‵ Words ∷ [])))
 
   exits : ent 𝓤 (⋆ 𝓤 H A Done) (Returned h vunit)
   exits =
-      -- [obs; the borrow; the entries' token; the words' token; the words]
+      -- context: [obs; the borrow; token of entries; token of words; words]
       qed W Done ∵ move ! (3 ∷ 2 ∷ []) $ ends-in h ! nothings tt refl tt (units 2 (zs n, tt)) (units 2 (len n (omega arith), tt)) (stars (Words ∷ usize-of n ∷ Entries (zs n) ∷ [])) (refl, refl)
       (fact-of 𝓤 refl) $
       fjoin ! $ pureI ! (at-slice T.the-row (holding (zs n)) (slice out ∷ [])) (tt, (tt, tt)) (ap (λ (j : ℕ). sliceVal (b, o) j ∷ []) (sym (len n (omega arith))), subst (Room T.the-row) (sym (len n (omega arith))) room) $ fjoin ! $
@@ -124,7 +124,7 @@ module _ (h : Here this) (given : Fit h) where
   abbrev State : ℕ → Type 0
   State k = k ≤ n
 
-  -- the body, with any Kf after the return
+  -- the body, for any Kf that holds after the return
   module _ (bs : Blocks (code.function .locals)) (Kf : Val → SProp 𝓤) (exits : ent 𝓤 (⋆ 𝓤 H A Done) (Kf vunit)) where
     abbrev At : (k : ℕ) → State k → List (Item 𝓤)
     At k s =
@@ -137,16 +137,16 @@ module _ (h : Here this) (given : Fit h) where
     writes-one : More writing
     writes-one k s small q′ again =
         let args = lent-arg (named 0) (lft 2 (h .κs) 0) u32 words ∷ plain-arg usizes k (refl, omega (arith, known-of h 1 .1)) ∷ [] in
-        -- [the token; the words; the row; the open borrow; obs; auth; _0; …]: local i at 6 + 2 * i
+        -- context: [token of words; words; memory of the entries; the open borrow; obs; auth; _0; …]; local i is at index 6 + 2 * i
         goes-on ! (equals ! (ap vbool (lt-ltb k n small)) (bin ! (value ! 14 refl) (value ! 10 refl) tt)) 16 refl refl tt $
         calls-lent (h .w) read (to-call h (0 ∷ []) (denoted args) (vals args), tt) (toks h (0 ∷ [])) args _ ! (h .cited .0) (refl, refl) (fact-of 𝓤 (omega (arith, given .0))) entries (λ e. e ≡ structAt (words .now) k) refl (loads ! 6 tt refl) (λ e told is.
         lands-in ! entries e is 18 refl refl $
         indexes ! 24 k b o tt (omega (arith, given .1, room .0, room .1)) 20 (value ! 14 refl) refl tt (pointer ! 12 refl refl) refl 22 refl tt $
         move ! (2 ∷ []) $ entry-out ! fullShare (zs k) k e b o (rw (len k s) (omega (arith, given .1))) (λ _.
-        -- [entries[k]; what it owns; the others; the token; the words; the open borrow; obs; auth; _0; …]: local i at 8 + 2 * i
+        -- context: [memory of entries[k]; ownership of its value; the other entries; token of words; words; the open borrow; obs; auth; _0; …]; local i is at index 8 + 2 * i
         assigns ! (of-opd ! (value ! 20 refl)) (from ! (hop ! (look ! 24 refl) (stop !))) (store-raw ! 0 refl (of-type 𝓤 H A W entries e is refl)) $
         move ! (1 ∷ []) $ drop ! $ had ! entries e is $ move ! (1 ∷ 0 ∷ []) $ elem-put ! T.the-row fullShare (zs k) k e (entries .val e ∷ []) b o (rw (len k s) (omega (arith, given .1))) $ move ! (1 ∷ 2 ∷ []) $
-        -- [the token; the words; the row; the open borrow; obs; auth; _0; …]
+        -- context: [token of words; words; memory of the entries; the open borrow; obs; auth; _0; …]
         assigns-last ! (one-more ! 14 k refl (omega (arith, known-of h 1 .1))) (from ! (stop !)) (store ! 14 refl (tt, record { fits = subst (λ (j : ℕ). j < 2 ^ 64) (add-one k) (omega (arith, known-of h 1 .1)) })) $
         forget ! 16 refl $ forget ! 18 refl $ forget ! 20 refl $ forget ! 22 refl $
         rewrite ! 2 (λ (l : List ConeMapEntry). ‵ (row T.the-row fullShare l b o)) (filled-more (words .now) ys k e (omega (arith, given .1)) told) refl $
@@ -161,10 +161,10 @@ module _ (h : Here this) (given : Fit h) where
 
     writes-all : Body h bs Kf
     writes-all = taken-apart h _ ! $
-        -- [words; count; entries; the tokens; _0; …]: local i at 5 + 2 * i
+        -- context: [words; count; entries; the tokens; _0; …]; local i is at index 5 + 2 * i
         sets ! (of-opd ! (lit ! tt)) 13 refl (tt, record { fits = lit< tt }) $
         move ! (1 ∷ []) $ drop ! $ move ! (1 ∷ []) $ fsplit ! $ drop ! $ fsplit ! $ move ! (0 ∷ 1 ∷ 4 ∷ []) $ opens-slice ! tt T.the-row ys b o $
-        -- [the row; the open borrow; obs; auth; words; the token; _0; …]
+        -- context: [memory of the entries; the open borrow; obs; auth; words; token of words; _0; …]
         move ! (5 ∷ 4 ∷ []) $ counted writing writes-one all-written (omega arith)
 
 pub write-entries-spec : {M : Type 1} → stated.statement M

@@ -1,8 +1,8 @@
--- `cone_maps::write_words` meets its contract: a walk of its MIR, by hand, with a loop. The borrow of entries is looked into and that of the words opened
--- once, before the loop, and both are shut once, after it. A turn reads an entry, calls the covered `word` and stores what it says.
+-- `cone_maps::write_words` meets its contract, proved by hand along its MIR, with a loop. The borrows of `entries` (shared) and of `out`
+-- (mutable) are opened once before the loop and closed once after it. Each iteration reads an entry, calls `word`, by its contract, and stores it.
 -- Assumes nothing.
 use mathlib.Core.Path.{_≡_, refl, sym, ap, subst}
-use Prim.Native.Nat.{ℕ, suc, _+_, _*_, _/_, _%_, _<_, _≤_, _^_}
+use Prim.Native.Nat.{ℕ, _+_, _*_, _/_, _%_, _<_, _≤_, _^_}
 use mathlib.Core.List.{List, [], _∷_, _++_}
 use mathlib.Core.Option.{some, none}
 use lib.ListN.{length, getD}
@@ -34,13 +34,13 @@ use Rattle.cone_map.specs.declared.ConeMapEntry.{ConeMapEntry}
 use Rattle.cone_map.specs.Entries.{structOf, structWords}
 use Rattle.by_hand.proofs.World.{World, Function}
 use Rattle.by_hand.proofs.Stars.{stars, join-stars, shared-slice, had-twice, fact-of}
-use Rattle.by_hand.proofs.Values.{nothings, usizes, u32s, own-of, of-type, had, slice, size, usize-of}
+use Rattle.by_hand.proofs.Values.{nothings, usizes, u32s, of-type, had, slice, size, usize-of}
 use Rattle.by_hand.proofs.Places.{lft, share}
 use Rattle.by_hand.proofs.Outputs.{units}
 use Rattle.by_hand.proofs.Params.{Param, sized, shared, lent}
 use Rattle.by_hand.proofs.Locals.{Blocks, locals, equals, value, pointer, sets, lands-in, free-all}
 use Rattle.by_hand.proofs.Operands.{loads}
-use Rattle.by_hand.proofs.Calling.{Arg, plain-arg, denoted, vals, calls-lent}
+use Rattle.by_hand.proofs.Calling.{plain-arg, denoted, vals, calls-lent}
 use Rattle.by_hand.proofs.Counted.{Loop, More, Ends, counted, goes-on, stops}
 use Rattle.by_hand.proofs.Walking.{Walked, Here, arg, known-of, toks, En, loop-in, to-call, taken-apart, Body, Returned, ends-in, walks-given, stands}
 use Rattle.cone_maps.proofs.Lists.{told, told-length, told-more}
@@ -64,11 +64,11 @@ params = shared 0 tt T.the-row ∷ sized ∷ lent 1 tt u32 ∷ []
 abbrev this : Walked
 this = record { n = 2; params = params; result = plain (λ _. Nothing); clauses = write.clauses; code = code.function; callees = word ∷ [] }
 
--- what a read past the end would give
+-- default value for reads past the end
 abbrev blank : ConeMapEntry
 blank = structOf (wholeCone 0 0 0)
 
--- what is required
+-- the precondition
 abbrev Fit : Here this → Type 0
 Fit h = let (ys, (n, (ws, _))) = h .a in (n ≤ length (ys .now) * 5) × (n ≤ length (ws .now))
 
@@ -85,7 +85,7 @@ module _ (h : Here this) (given : Fit h) where
   abbrev out : RefT (List ℕ)
   out = arg h 2
 
-  -- where the entries lie, and the words
+  -- block and offset of `entries`, and of `out`
   abbrev b : ℕ
   b = map .ptr .0
 
@@ -104,7 +104,7 @@ module _ (h : Here this) (given : Fit h) where
   out-room : Room u32 (length (out .now))
   out-room = known-of h 2 .0 .1
 
-  -- w words are written
+  -- the contents of `out` after w iterations
   abbrev zs : ℕ → List ℕ
   zs w = told ys (out .now) w
 
@@ -113,7 +113,7 @@ module _ (h : Here this) (given : Fit h) where
 
   open World (h .w) using (𝓤, H, A, W)
 
-  -- the lifetimes, and the shares of their tokens
+  -- the two lifetimes, and the shares of their tokens
   abbrev κ₀ : Lft
   κ₀ = lft 2 (h .κs) 0
 
@@ -129,20 +129,20 @@ module _ (h : Here this) (given : Fit h) where
   abbrev Entries : Fml
   Entries = ShrSlice (named 0) κ₀ T.the-row .own map (slice map ∷ [])
 
-  -- what is owned of the words, when they are l
+  -- the reference to `out` when its contents are l
   abbrev holding : List ℕ → RefT (List ℕ)
   holding l = record { ptr = (c, p); name = out .name; now = l }
 
   abbrev Words : List ℕ → Fml
   Words l = MutSlice (named 1) κ u32 .own (holding l) (slice out ∷ [])
 
-  -- at the return both borrows are shut, with all words written
+  -- what is held at the return: both borrows closed, with all words written
   abbrev Done : List (Item 𝓤)
   Done = ‵ (fobs (out .name) (codedHoleys u32 .code (heres u32 (zs n)))) ∷ ‵ (fbor κ (lend.Held u32 (length (zs n)) c p (out .name))) ∷ (toks h (1 ∷ []) ++ (toks h (0 ∷ []) ++ (‵ Entries ∷ [])))
 
   exits : ent 𝓤 (⋆ 𝓤 H A Done) (Returned h vunit)
   exits =
-      -- [obs; the borrow; the words' token; the entries' token; the entries]
+      -- context: [obs; the borrow; token of out; token of entries; entries]
       qed W Done ∵ move ! (3 ∷ 2 ∷ []) $ ends-in h ! nothings tt refl tt (units 2 (zs n, tt)) (units 2 (len n (omega arith), tt)) (stars (Entries ∷ usize-of n ∷ Words (zs n) ∷ [])) (refl, refl)
       (fact-of 𝓤 refl) $
       fjoin ! $ pureI ! (at-slice u32 (holding (zs n)) (slice out ∷ [])) (tt, (tt, tt)) (ap (λ (j : ℕ). sliceVal (c, p) j ∷ []) (sym (len n (omega arith))), subst (Room u32) (sym (len n (omega arith))) out-room) $ fjoin ! $
@@ -154,9 +154,9 @@ module _ (h : Here this) (given : Fit h) where
   abbrev State : ℕ → Type 0
   State w = w ≤ n
 
-  -- the body, with any Kf after the return
+  -- the body, for any Kf that holds after the return
   module _ (bs : Blocks (code.function .locals)) (Kf : Val → SProp 𝓤) (exits : ent 𝓤 (⋆ 𝓤 H A Done) (Kf vunit)) where
-    -- with a share of the entries
+    -- with share s′ of the entries
     module _ (s′ : Share) where
       abbrev At : (w : ℕ) → State w → List (Item 𝓤)
       At w s =
@@ -173,12 +173,12 @@ module _ (h : Here this) (given : Fit h) where
           let j = w % 5 in
           let inside : k < length ys = omega (arith, given .0) in
           let stored : w < length (zs w) = rw (len w s) (omega (arith, given .1)) in
-          -- [the row; the open borrow; entries; the row of words; its open borrow; obs; auth; _0; …]: local i at 7 + 2 * i
+          -- context: [memory of the entries; their open borrow; entries; memory of the words; their open borrow; obs; auth; _0; …]; local i is at index 7 + 2 * i
           goes-on ! (equals ! (ap vbool (lt-ltb w n small)) (bin ! (value ! 15 refl) (value ! 11 refl) tt)) 17 refl refl tt $
           sets ! (bin ! {a = vint w64 w} {b = vint w64 5} (value ! 15 refl) (lit ! tt) (lit< tt)) 21 refl (tt, record { fits = omega (arith, known-of h 1 .1) }) $
           indexes ! 24 k b o tt (omega (arith, inside, room .0, room .1)) 23 (value ! 21 refl) refl tt (pointer ! 9 refl refl) refl 25 refl tt $
           entry-out ! s′ ys k blank b o inside (λ g.
-          -- [the entry; what it owns; the others; the open borrow; entries; the row of words; its open borrow; obs; auth; _0; …]: local i at 9 + 2 * i
+          -- context: [memory of the entry; ownership of its value; the other entries; their open borrow; entries; memory of the words; their open borrow; obs; auth; _0; …]; local i is at index 9 + 2 * i
           sets ! (of-opd ! (load ! (from ! (hop ! (look ! 27 refl) (stop !))) (look-raw ! 0 refl))) 29 refl (of-type 𝓤 H A W entries (el w) g refl) $
           elem-back ! T.the-row s′ ys k blank (entries .val (el w) ∷ []) b o inside $
           sets ! (bin ! {a = vint w64 w} {b = vint w64 5} (value ! 15 refl) (lit ! tt) (lit< tt)) 29 refl (tt, record { fits = omega (arith, known-of h 1 .1) }) $
@@ -187,10 +187,10 @@ module _ (h : Here this) (given : Fit h) where
           lands-in ! u32s v is 19 refl refl $
           indexes ! 4 w c p tt (omega (arith, given .1, out-room .0, out-room .1)) 31 (value ! 15 refl) refl tt (pointer ! 13 refl refl) refl 33 refl tt $
           move ! (3 ∷ []) $ elem-out ! u32 (Is u32) (shows 𝓤 H A u32) (λ x. u32s .val x ∷ []) (u32s .tells) fullShare (zs w) w v c p stored (λ _.
-          -- [the word; what it owns; the others; the row; the open borrow; entries; the open borrow of the words; obs; auth; _0; …]: local i at 9 + 2 * i
+          -- context: [memory of the word; ownership of its value; the other words; memory of the entries; their open borrow; entries; open borrow of the words; obs; auth; _0; …]; local i is at index 9 + 2 * i
           assigns ! (of-opd ! (value ! 21 refl)) (from ! (hop ! (look ! 35 refl) (stop !))) (store-raw ! 0 refl (of-type 𝓤 H A W u32s v is refl)) $
           move ! (1 ∷ []) $ drop ! $ had ! u32s v is $ move ! (1 ∷ 0 ∷ []) $ elem-put ! u32 fullShare (zs w) w v (u32s .val v ∷ []) c p stored $ move ! (1 ∷ 2 ∷ 3 ∷ []) $
-          -- [the row; the open borrow; entries; the row of words; its open borrow; obs; auth; _0; …]
+          -- context: [memory of the entries; their open borrow; entries; memory of the words; their open borrow; obs; auth; _0; …]
           assigns-last ! (one-more ! 15 w refl (omega (arith, known-of h 1 .1))) (from ! (stop !)) (store ! 15 refl (tt, record { fits = subst (λ (i : ℕ). i < 2 ^ 64) (add-one w) (omega (arith, known-of h 1 .1)) })) $
           forget ! 17 refl $ forget ! 19 refl $ forget ! 21 refl $ forget ! 23 refl $ forget ! 25 refl $ forget ! 27 refl $ forget ! 29 refl $ forget ! 31 refl $ forget ! 33 refl $
           rewrite ! 3 (λ (l : List ℕ). ‵ (row u32 fullShare l c p)) (told-more ys (out .now) w v blank (omega (arith, given .0)) (omega (arith, given .1)) told) refl $
@@ -201,21 +201,21 @@ module _ (h : Here this) (given : Fit h) where
           stops ! (equals ! (ap vbool (le-ltb n n (omega arith))) (bin ! (value ! 15 refl) (value ! 11 refl) tt)) 17 refl refl tt $ left _ $
           sets ! (of-opd ! (unit-lit !)) 7 refl (tt, tt) $
           shuts-slice ! tt T.the-row s′ ys b o $
-          -- [the entries' token; entries; the row of words; its open borrow; obs; auth; _0; …]
+          -- context: [token of entries; entries; memory of the words; their open borrow; obs; auth; _0; …]
           move ! (2 ∷ 3 ∷ 4 ∷ 5 ∷ []) $ closes-slice ! tt u32 (out .now) (zs n) (len n (omega arith)) c p $
           returns ! (look ! 5 refl) $ free-all ! Done (En h bs) refl $ by ! exits
 
     writes-all : Body h bs Kf
     writes-all = taken-apart h _ ! $
-        -- [entries; count; the words; the tokens; _0; …]: local i at 5 + 2 * i
+        -- context: [entries; count; out; the tokens; _0; …]; local i is at index 5 + 2 * i
         sets ! (of-opd ! (lit ! tt)) 13 refl (tt, record { fits = lit< tt }) $
         move ! (1 ∷ []) $ drop ! $ move ! (1 ∷ []) $ fsplit ! $ drop ! $ fsplit ! $ move ! (0 ∷ 1 ∷ 4 ∷ []) $ opens-slice ! tt u32 (out .now) c p $
-        -- [the row of words; its open borrow; obs; auth; entries; the entries' token; _0; …]
+        -- context: [memory of the words; their open borrow; obs; auth; entries; token of entries; _0; …]
         move ! (4 ∷ []) $ had-twice _ ! (shared-slice (named 0) κ₀ T.the-row map (slice map ∷ []) ∷ []) $ fsplit ! $ drop ! $ fsplit ! $ drop ! $
-        -- [the borrow; entries; the row of words; its open borrow; obs; auth; the entries' token; _0; …]
+        -- context: [borrow of the entries; entries; memory of the words; their open borrow; obs; auth; token of entries; _0; …]
         move ! (0 ∷ 6 ∷ []) $
         looks-slice ! tt T.the-row (Is T.the-row) (shows 𝓤 H A T.the-row) (λ e. entries .val e ∷ []) (entries .tells) (LL.copy T.the-type T′.the-copy 𝓤 H A W) ys b o (λ s′.
-        -- [the row; the open borrow; the borrow; entries; the row of words; …]
+        -- context: [memory of the entries; their open borrow; the borrow; entries; memory of the words; …]
         move ! (2 ∷ []) $ drop ! $ counted (writing s′) (writes-one s′) (all-written s′) (omega arith))
 
 pub write-words-spec : {M : Type 1} → stated.statement M

@@ -21,7 +21,7 @@ Inv-loop vertices j base covered₀ c row i₀ covered i =
 abbrev μ-loop : tie.MeasureT-loop
 μ-loop vertices j base covered₀ c row i₀ covered i = j + 1 - i
 
--- the vertices of a column rise to its own
+-- the vertices up to index j are at most vertex j
 rising : (c : tie.After-shared-slice-known2 Inv-loop μ-loop)
     → let l = c .before .before in
     let a = l .before .before .args in

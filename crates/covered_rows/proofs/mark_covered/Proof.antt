@@ -9,7 +9,7 @@ use Rattle.layout.specs.Patterns.{patterns}
 use Rattle.layout.specs.Blocks.{Part, whole, cut, parts, originalRow, patternRows}
 use Rattle.layout.specs.Checks.{noCone, coveredRows}
 use Rattle.supernode_tree.specs.Reads.{patternAt}
-use Rattle.parts.specs.Ahead.{ahead, Stands, meets, Knows}
+use Rattle.parts.specs.Ahead.{ahead, Reached, meets, Knows}
 use Rattle.parts.specs.declared.Met.the-variants.{Whole, Cut}
 use Rattle.blocks.specs.Vertices.{marked}
 use Rattle.covered_rows.proofs.Parts.{partOriginals, covered-parts, part-step, parts-done}
@@ -20,13 +20,13 @@ use Rattle.covered_rows.proofs.mark_covered.Tie as tie
 
 abbrev Inv-loop : tie.InvT-loop
 Inv-loop m cones count words covered₀ place₀ covered place =
-    Stands m cones words place × (length covered ≡ length covered₀)
+    Reached m cones words place × (length covered ≡ length covered₀)
     × (marked true (join partOriginals (ahead cones words place)) covered ≡ marked true (coveredRows (parts (records cones) (patterns count words))) covered₀)
 
 abbrev μ-loop : tie.MeasureT-loop
 μ-loop m cones count words covered₀ place₀ covered place = length (ahead cones words place)
 
--- a whole cone was met
+-- the next cone is undecomposed
 whole-meets : (k : tie.After-met Inv-loop μ-loop)
     → let l = k .before .before .before in
     let a = l .before .before .before .before .before .args in
@@ -46,7 +46,7 @@ whole-knows k =
     let a = l .before .before .before .before .before .args in
     subst (Knows (a .m) (a .cones .now) (a .words .now) (l .loop .place)) (k .met .given .1) (k .before .before .next .ensures .1)
 
--- a cone that a pattern cuts was met
+-- the next cone is decomposed
 cut-meets : (k : tie.After-met2 Inv-loop μ-loop)
     → let l = k .before .before .before in
     let a = l .before .before .before .before .before .args in

@@ -1,8 +1,6 @@
 use Prim.Native.Nat.{_+_, _-_, _*_, _≤_}
 use mathlib.Core.Path.{_≡_, sym, _∙_}
-use mathlib.Core.Bool.{Bool}
 use lib.ListN.{length}
-use lib.Ieee.{Float}
 use Rattle.layout.specs.Lists.{all, upFrom, part}
 use Rattle.covered_rows.specs.Covered.{valuesMarked, sidesMarked}
 use Rattle.covered_rows.proofs.Sides.{next-passes, next-fails, none-left, side-ends, side-length}
@@ -19,7 +17,7 @@ Inv-loop covered m sides first last size k₀ k =
 abbrev μ-loop : tie.MeasureT-loop
 μ-loop covered m sides first last size k₀ k = last - k
 
--- side k ends inside
+-- side k lies within the list
 ends : (c : tie.In-loop Inv-loop μ-loop)
     → let l = c .before in
     let a = l .before .before .before .args in

@@ -1,10 +1,10 @@
 use Prim.Native.Nat.{ℕ}
-use mathlib.Core.Path.{_≡_, sym, ap, ap₂, _∙_}
+use mathlib.Core.Path.{_≡_, ap, ap₂, _∙_}
 use mathlib.Core.Bool.{Bool, false, true, _&&_}
 use mathlib.Core.List.{List}
 use lib.ListN.{length, getD, replicate}
 use lib.Dec.{ltb, ltb→lt}
-use Rattle.layout.specs.Lists.{has, all, Below}
+use Rattle.layout.specs.Lists.{Below}
 use Rattle.layout.specs.Cones.{records}
 use Rattle.layout.specs.Patterns.{patterns}
 use Rattle.layout.specs.Blocks.{parts}
@@ -19,14 +19,14 @@ use borrow.Author.Needs.{needs}
 use Rattle.covered_rows.proofs.sides_right_by.Statement.{statement}
 use Rattle.covered_rows.proofs.sides_right_by.Tie as tie
 
--- the rows of the entries lie in the table
+-- the rows of the entries lie within the table
 inside : (s : tie.Start) → Below (length (s .args .covered .now)) (s .args .a-rows .now)
 inside s k l =
     let a = s .args in
     let low = ltb→lt (getD (a .a-rows .now) k 0) (a .m) (all-at 0 (λ r. ltb r (a .m)) (a .a-rows .now) .0 (s .pre .1 .0 .0) k l) in
     omega (arith, low, s .pre .1 .1 .0)
 
--- the rows that are covered
+-- the covered rows
 abbrev rows : tie.Start → List ℕ
 rows s = coveredRows (parts (records (s .args .cones .now)) (patterns (s .args .count) (s .args .words .now)))
 

@@ -14,7 +14,7 @@ use borrow.Author.Needs.{needs}
 use Rattle.covered_rows.proofs.values_covered.Statement.{statement}
 use Rattle.covered_rows.proofs.values_covered.Tie as tie
 
--- the test of one row
+-- the test of one row: its value is zero or it is marked
 abbrev fine : List Bool → List Float → ℕ → Bool
 fine covered b r = eq (getD b r nan) zero64 || getD covered r false
 

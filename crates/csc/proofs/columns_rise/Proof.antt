@@ -14,7 +14,7 @@ use Rattle.csc.proofs.Fronts.{below-step, below-fails, below-done}
 use Rattle.csc.proofs.columns_rise.Statement.{statement}
 use Rattle.csc.proofs.columns_rise.Tie as tie
 
--- the rows of column c rise
+-- whether the rows of column c are strictly increasing
 abbrev risesAt : List ℕ → List ℕ → ℕ → Bool
 risesAt starts rows c = rises (columnRows (table starts rows) c)
 
@@ -25,14 +25,14 @@ Inv-loop n starts rows count c₀ c =
 abbrev μ-loop : tie.MeasureT-loop
 μ-loop n starts rows count c₀ c = count - c
 
--- this turn's column lies within the rows
+-- column c of this iteration lies within the rows
 inside : (c : tie.In-loop Inv-loop μ-loop)
     → let s = c .before .before .before .before .args in
     (getD (s .starts .now) (c .before .loop .c) 0 ≤ getD (s .starts .now) (c .before .loop .c + 1) 0)
     × (getD (s .starts .now) (c .before .loop .c + 1) 0 ≤ length (s .rows .now))
 inside c = rw add-one (c .before .before .before .before .pre .1 (c .before .loop .c) (omega arith))
 
--- what the call answers of this turn's column
+-- the result of the call for column c
 told : (c : tie.After-rise-strictly Inv-loop μ-loop)
     → let l = c .before .before .before .before .before in
     let s = l .before .before .before .args in

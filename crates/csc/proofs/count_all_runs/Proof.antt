@@ -17,21 +17,21 @@ Inv-loop n starts rows columns count₀ c₀ count c = (c ≤ n) × (columns ≡
 abbrev μ-loop : tie.MeasureT-loop
 μ-loop n starts rows columns count₀ c₀ count c = columns - c
 
--- this turn's column lies within the rows
+-- column c of this iteration lies within the rows
 inside : (c : tie.In-loop Inv-loop μ-loop)
     → let s = c .before .before .before .before .args in
     (getD (s .starts .now) (c .before .loop .c) 0 ≤ getD (s .starts .now) (c .before .loop .c + 1) 0)
     × (getD (s .starts .now) (c .before .loop .c + 1) 0 ≤ length (s .rows .now))
 inside c = rw add-one (c .before .before .before .before .pre .0 .1 (c .before .loop .c) (omega arith))
 
--- what the call answers of this turn's column
+-- the result of the call for column c
 told : (c : tie.After-count-runs Inv-loop μ-loop)
     → let l = c .before .before .before .before .before in
     let s = l .before .before .before .args in
     c .count-runs .result ≡ length (runs (columnRows (table (s .starts .now) (s .rows .now)) (l .loop .c)))
 told c = rw (← add-one (c .before .before .before .before .before .loop .c)) (c .count-runs .ensures)
 
--- and how many there are with it
+-- the count with column c included, and its bound
 more : (c : tie.After-count-runs Inv-loop μ-loop)
     → let l = c .before .before .before .before .before in
     let s = l .before .before .before .args in

@@ -1,5 +1,5 @@
 use Prim.Native.Nat.{_<_, _≤_, _-_, _+_}
-use mathlib.Core.Path.{_≡_, sym, _∙_}
+use mathlib.Core.Path.{_≡_, _∙_}
 use mathlib.Core.Logic.{⊎-elim}
 use lib.ListN.{length, drop}
 use Rattle.layout.specs.Runs.{runs}

@@ -12,7 +12,7 @@ use Rattle.layout.proofs.Members.{getD-default}
 use Rattle.csc.proofs.starts_right.Statement.{statement}
 use Rattle.csc.proofs.starts_right.Tie as tie
 
--- what each test on the way says of check 2's parts
+-- what each passed test says about check 2's parts
 counted : (c : tie.Else1) → eqb (length (c .before .before .before .args .starts .now)) (suc (c .before .before .before .args .n)) ≡ true
 counted c = eq-eqb _ _ (c .if1 .left ∙ add-one (c .before .before .before .args .n))
 

@@ -20,14 +20,14 @@ Inv-loop out₀ n starts rows columns count₀ c₀ out count c = (c ≤ n) × (
 abbrev μ-loop : tie.MeasureT-loop
 μ-loop out₀ n starts rows columns count₀ c₀ out count c = columns - c
 
--- this turn's column lies within the rows
+-- column c of this iteration lies within the rows
 inside : (c : tie.In-loop Inv-loop μ-loop)
     → let s = c .before .before .before .before .before .args in
     (getD (s .starts .now) (c .before .loop .c) 0 ≤ getD (s .starts .now) (c .before .loop .c + 1) 0)
     × (getD (s .starts .now) (c .before .loop .c + 1) 0 ≤ length (s .rows .now))
 inside c = rw add-one (c .before .before .before .before .before .pre .0 .1 (c .before .loop .c) (omega arith))
 
--- how many entries there are with this turn's column, and the place after them
+-- the number of entries with column c included, and the index of the start after it
 more : (c : tie.After-count-runs Inv-loop μ-loop)
     → let l = c .before .before .before .before .before in
     let s = l .before .before .before .before .args in

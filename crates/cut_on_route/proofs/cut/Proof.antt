@@ -14,7 +14,7 @@ given s =
     problem (a .n) (a .m) (a .p-starts .now) (a .p-rows .now) (a .p-values .now) (a .q .now) (a .a-starts .now) (a .a-rows .now)
     (a .a-values .now) (a .b .now) (a .cones .now) (a .alphas .now) (a .pattern-count) (a .pattern-words .now)
 
--- the outputs as they were lent
+-- the outputs as passed
 abbrev lent : tie.Start → Augmented
 lent s =
     let a = s .args in

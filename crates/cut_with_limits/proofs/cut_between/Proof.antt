@@ -1,7 +1,7 @@
 use mathlib.Core.Path.{_≡_, refl, sym, _∙_}
 use lib.Dec.{lit≤}
 use Rattle.layout.specs.Problem.{Problem, problem, compact}
-use Rattle.layout.specs.Answers.{Augmented, lengths}
+use Rattle.layout.specs.Answers.{lengths}
 use Rattle.layout.specs.Calls.Cut.{outputs}
 use Rattle.layout.proofs.Accepted.{accepted-sound}
 use Rattle.layout.proofs.Promises.{Taken}
@@ -18,7 +18,7 @@ given s =
     problem (a .n) (a .m) (a .p-starts .now) (a .p-rows .now) (a .p-values .now) (a .q .now) (a .a-starts .now) (a .a-rows .now)
     (a .a-values .now) (a .low .now) (a .cones .now) (a .alphas .now) (a .pattern-count) (a .pattern-words .now)
 
--- the outputs as they were lent
+-- the outputs as passed
 abbrev lent : tie.Start → Limits
 lent s =
     let a = s .args in

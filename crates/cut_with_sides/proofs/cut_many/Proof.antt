@@ -2,7 +2,7 @@ use Prim.Native.Nat.{ℕ}
 use native.Mathlib.Omega.{arith}
 use mathlib.Core.Path.{_≡_, refl, sym, subst, _∙_}
 use mathlib.Core.List.{List}
-use lib.ListN.{length, take}
+use lib.ListN.{take}
 use lib.Seq.{length-take-le}
 use lib.Ieee.{Float}
 use Rattle.layout.specs.Problem.{Problem, problem, withB, compact}
@@ -24,11 +24,11 @@ given s =
     problem (a .n) (a .m) (a .p-starts .now) (a .p-rows .now) (a .p-values .now) (a .q .now) (a .a-starts .now) (a .a-rows .now)
     (a .a-values .now) (a .b .now) (a .cones .now) (a .alphas .now) (a .pattern-count) (a .pattern-words .now)
 
--- the problem with the first side
+-- the problem with the first right side
 abbrev single : tie.Start → Problem
 single s = withSide (given s) (s .args .b .now) 0
 
--- the outputs as they were lent
+-- the outputs as passed
 abbrev lent : tie.Start → Augmented
 lent s =
     let a = s .args in
@@ -56,7 +56,7 @@ number c = sym (c .if1 .left) ∙ c .before .refuse-many .ensures
 taken : (c : tie.Else1) → let s = start (c .before) in Taken compact (single s) (lengths (lent s))
 taken c = let s = start (c .before) in first-taken (s .args .count) (given s) (lent s) (sym (number c))
 
--- the first side as it is lent
+-- the first right side, as the prefix of b that is passed
 front : (s : tie.Start) → side (s .args .m) 0 (s .args .b .now) ≡ take (s .args .m) (s .args .b .now)
 front s = side-first (s .args .m) (s .args .b .now)
 

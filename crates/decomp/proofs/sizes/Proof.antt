@@ -11,9 +11,8 @@ use Rattle.layout.specs.Checks.{Checked, neverFalls, columnRows, refusal}
 use Rattle.layout.specs.Answers.{problemRefusal, routeOf}
 use Rattle.layout.proofs.Tests.{and-iff}
 use Rattle.layout.proofs.Buffers.{output-kept}
-use Rattle.layout.proofs.Accepted.{fits-u32}
+use Rattle.layout.proofs.Accepted.{fits-u32, problem-checked}
 use Rattle.layout.proofs.Columns.{starts-right}
-use Rattle.checks.proofs.Checked.{problem-checked}
 use Rattle.decomp.proofs.Answers.{no-route, few-alphas}
 use Rattle.decomp.proofs.Refusals.{stopped-early, stopped-late, by-room, accepted, counts-fit, sizes-written}
 use Rattle.decomp.proofs.sizes.Statement.{statement}
@@ -42,7 +41,7 @@ returns-2 c =
       out = output-kept (k .check-problem .result) _ (s .args .out .now) (c .if2 .taken);
     }
 
--- checks 1 to 7 passed
+-- checks 1 to 7 pass
 seven : (c : tie.Else2) → problemRefusal (given (start (c .before .before))) ≡ 0
 seven c = sym (c .before .check-problem .ensures) ∙ c .if2 .left
 

@@ -1,6 +1,6 @@
--- `decomp_augment_entries::cut_compact_entries` meets its contract: a walk of its MIR, by hand. The covered `refuse_cut_compact` is passed the inputs and how long
--- the outputs are; `cut_constraints` and `cut_objective` are handed what they write. The map's words are written to a local table, which is lent to `map_table` and
--- then to `write_entries`. Cones and words are handed to `cut_constraints` and to `map_table`.
+-- `decomp_augment_entries::cut_compact_entries` meets its contract, proved by hand along its MIR. `refuse_cut_compact` gets the inputs and
+-- the lengths of the outputs; `cut_constraints` and `cut_objective` get the outputs that they write. The map's words go to a local table,
+-- passed to `map_table` and then to `write_entries`. Cones and words are passed both to `cut_constraints` and to `map_table`.
 -- Assumes nothing.
 use mathlib.Core.Path.{_≡_, refl, sym, _∙_}
 use Prim.Native.Nat.{ℕ, _*_, _<_, _^_}
@@ -68,7 +68,7 @@ use Rattle.decomp_augment_entries.proofs.cut_compact_entries as cuts
 use Rattle.decomp_augment_entries.proofs.cut_compact_entries.Statement as stated
 use Rattle.decomp_augment_entries.proofs.cut_compact_entries.Code as code
 
--- the numbers and the shared slices, and the outputs
+-- parameters: the numbers and shared slices; then the outputs
 abbrev ins : List (Param 22)
 ins = handed-number ∷ handed-number ∷ handed-shared 0 tt u32 ∷ handed-shared 1 tt u32 ∷ handed-shared 2 tt f64 ∷ handed-shared 3 tt f64 ∷ handed-shared 4 tt u32 ∷ handed-shared 5 tt u32 ∷ handed-shared 6 tt f64 ∷ handed-shared 7 tt f64 ∷ handed-shared 8 tt u32 ∷ handed-shared 9 tt f64 ∷ handed-number ∷ handed-shared 10 tt u32 ∷ []
 
@@ -90,7 +90,7 @@ write-entries = record { name = write-def.name; routine = write-def.routine; end
 abbrev map-table : Function
 map-table = record { name = table-def.name; routine = table-def.routine; ended = table-of.ended; clauses = table-of.clauses; met = table-thm.met }
 
--- the table's numbers, and that they have room
+-- the length of the table, and that a table of this length fits in memory
 abbrev N : ℕ
 N = 81920
 
@@ -124,9 +124,9 @@ module _ (h : Here this) where
 
   open World (h .w) using (𝓤, H, A, W)
 
-  -- the problem's number
+  -- for the refusal number r
   module _ (r : ℕ) where
-    -- ---- the call of `cut_constraints`: the outputs that it writes, the lifetimes and the arguments that it takes
+    -- ---- the call of `cut_constraints`: the outputs that it writes, its lifetimes and its arguments
 
     abbrev a-outs : List Output
     a-outs = take 5 (drop 4 (outs h))
@@ -143,13 +143,13 @@ module _ (h : Here this) where
     abbrev a-owned : List Fml
     a-owned = u32-of r ∷ owned-at h a-args
 
-    -- what it ensures: the columns that it added, k, and the outputs' last values
+    -- the postcondition on the number of added columns, k, and on the final values of the outputs
     abbrev Constrains : ℕ → Lists a-outs → Type 0
     Constrains k ws =
         let (w₀, (w₁, (w₂, (w₃, (w₄, _))))) = ws in
         (r ≡ 0 → k ≡ overlapCount (layout given)) × HoldsConstrained r (constrainedOf (augmented compact (only given))) (old .constrained) (constrained w₀ w₁ w₂ w₃ w₄)
 
-    -- ---- the call of `cut_objective`, with k columns
+    -- ---- the call of `cut_objective`, with k added columns
 
     abbrev p-outs : List Output
     p-outs = take 4 (outs h) ++ take 1 (drop 9 (outs h))
@@ -171,7 +171,7 @@ module _ (h : Here this) where
         let (w₀, (w₁, (w₂, (w₃, (w₄, _))))) = ws in
         HoldsObjective r (extended k (uncut given)) (old .objective) (objective w₀ w₁ w₂ w₃ w₄)
 
-    -- ---- the call of `map_table`, for a table at the block b under the name γ, lent for α
+    -- ---- the call of `map_table`, for a table at block b with ghost name γ, borrowed for lifetime α
 
     abbrev es : List MapEntry
     es = unlessRefused r (coneMap (joinedParts (arg h 10 .now) (arg h 12) (arg h 13 .now)))
@@ -198,11 +198,11 @@ module _ (h : Here this) where
       abbrev table-owned : List Fml
       table-owned = u32-of r ∷ (owned-at h table-args ++ (MutSlice (named 2) (α ∷ []) u32 .own zeros (sliceVal (b, 0) N ∷ []) ∷ []))
 
-      -- what it ensures of the entries' number, and of the table's last value
+      -- the postcondition on the number of entries and on the final value of the table
       abbrev Tabled : ℕ → List ℕ → Type 0
       Tabled k ws = (k ≡ length es) × (ws ≡ written (mapWords es) (replicate N 0))
 
-    -- ---- the call of `write_entries`, with a table that holds ws, lent for α: k entries
+    -- ---- the call of `write_entries` with k entries and a table of contents ws, borrowed for lifetime α
 
     module _ (k b α : ℕ) (γ : GName) (ws : List ℕ) where
       abbrev to-write : Callee (h .w) write-entries .Ghost
@@ -217,7 +217,7 @@ module _ (h : Here this) where
     -- ---- the return
 
     module _ (us : Ends (h .w) cut-constraints to-constraints) (k : ℕ) (vs : Ends (h .w) cut-objective (to-objective k)) (j b α : ℕ) (γ : GName) (ts : List ℕ) (ws : Ends (h .w) write-entries (to-write j b α γ ts)) where
-      -- what is left then: the callees' tokens, and what they say of the last values
+      -- what is held at the return: the callees' tokens and their postconditions on final values
       abbrev Done : List (Item 𝓤)
       Done =
           toks h (21 ∷ []) ++ (‵ (says-ends (h .w) write-entries (to-write j b α γ ts) ws) ∷ (toks h (8 ∷ 10 ∷ []) ++ (toks h p-lifetimes ++ (‵ (says-ends (h .w) cut-objective (to-objective k) vs)
@@ -239,50 +239,50 @@ module _ (h : Here this) where
             constrained = c .1;
             entries = m ∙ entries-read r (λ z. map-fits given old (sym e ∙ z) .0) j ts (replicate N 0) (map-out .now) (t .0) (t .1);
           })) $
-          -- [what `write_entries`, `cut_objective` and `cut_constraints` say]
+          -- context: [postconditions of `write_entries`, `cut_objective` and `cut_constraints`]
           parts-said [] ! ((2, lefts (drop 10 (outs h)) (after 2 ws)) ∷ (8, lefts p-outs (after 8 vs)) ∷ (10, lefts a-outs (after 10 us)) ∷ []) $
           move ! (span 1 4 ++ (span 6 5 ++ (5 ∷ 0 ∷ []))) $ joins-said [] ! 14 (lefts (outs h) ends) $ done !
 
   cuts-all : Whole h
   cuts-all bs =
       let b : ℕ = block-of (code.function .locals) bs 28 in
-      -- [the tokens; what is owned; _0; …]: local i at 2 + 2 * i
+      -- context: [the tokens; ownership of the arguments; _0; …]; local i is at index 2 + 2 * i
       measures ! 2 (outs h) 15 30 refl refl $ taken-apart h _ ! $
-      -- [n; m; the inputs but count; the outputs; the tokens; _0; …]: local i at 47 + 2 * i
+      -- context: [n; m; the inputs except count; the outputs; the tokens; _0; …]; local i is at index 47 + 2 * i
       move ! (span 25 11 ++ (span 2 10 ++ (13 ∷ []))) $
       calls-lent (h .w) refuse-cut-compact (to-call h (span 0 11) (denoted refuse-args) (vals refuse-args), tt) (toks h (span 0 11)) refuse-args _ ! (h .cited .0) (refl, refl) (id⊢ 𝓤 _) u32s (λ r. r ≡ cutRefusal compact given (entryRooms old)) refl (loads ! 37 tt refl) (λ r e is.
       lands-in ! u32s r is 99 refl refl $ lends ! 47 (a-outs r) 19 41 refl refl $
-      -- [the inputs' tokens; the inputs' slices; n; m; count; the outputs; the outputs' tokens; _0; …]
+      -- context: [tokens of the inputs; slices of the inputs; n; m; count; the outputs; tokens of the outputs; _0; …]
       move ! (19 ∷ 21 ∷ []) $ had-twice _ ! (shared-slice (named 8) (lft 22 (h .κs) 8) u32 (arg h 10) (slice (arg h 10) ∷ []) ∷ shared-slice (named 10) (lft 22 (h .κs) 10) u32 (arg h 13) (slice (arg h 13) ∷ []) ∷ []) $ number ! r (is .1) $
-      -- [refused; cones; words; cones; words; the inputs' tokens; the other slices; n; m; count; the outputs; the outputs' tokens; _0; …]
+      -- context: [refused; cones; words; cones; words; tokens of the inputs; the other slices; n; m; count; the outputs; tokens of the outputs; _0; …]
       move ! (span 9 5 ++ (15 ∷ (span 43 5 ++ (0 ∷ 25 ∷ 26 ∷ (span 20 4 ++ (1 ∷ 27 ∷ 2 ∷ span 32 5)))))) $
       calls-handing (h .w) cut-constraints (to-constraints r) ! (h .cited .1 .0) (toks h (a-lifetimes r)) (a-owned r) (refl, refl) (fact-of 𝓤 (λ z. constraints-fit given old (sym e ∙ z))) usizes (λ k us. Constrains r k (after 10 us)) refl (loads ! 25 tt refl) (λ k us told kis.
-      -- [its tokens; what it says; cones; words; the other tokens of inputs; P, q and the exponents; the other outputs; their tokens; _0; …]: local i at 36 + 2 * i
+      -- context: [tokens and postcondition of `cut_constraints`; cones; words; the other tokens of inputs; P, q and the exponents; the other outputs; their tokens; _0; …]; local i is at index 36 + 2 * i
       lands-in ! usizes k kis 90 refl refl $ lends ! 36 (take 4 (outs h)) 15 52 refl refl $ lends ! 36 (take 1 (drop 9 (outs h))) 24 60 refl refl $
       number ! (arg h 0) (known-of h 0 .1) $ size ! k (kis .1) $ number ! r (is .1) $
       move ! (span 17 5 ++ (span 33 5 ++ (0 ∷ 1 ∷ 2 ∷ (span 22 5 ++ span 27 5)))) $
       calls-handing (h .w) cut-objective (to-objective r k) ! (h .cited .1 .1 .0) (toks h (p-lifetimes r)) (p-owned r k) (refl, refl) (fact-of 𝓤 (λ z. objective-fits given old (sym e ∙ z) k (told .0 z))) nothings (λ _ vs. Extends r k (after 8 vs)) refl (loads ! 17 tt refl) (λ _ vs extended _.
-      -- [its tokens; what it says; the tokens of `cut_constraints`; what that says; cones; words; the map; its token; _0; …]: local i at 27 + 2 * i
+      -- context: [tokens and postcondition of `cut_objective`; tokens and postcondition of `cut_constraints`; cones; words; the map; its token; _0; …]; local i is at index 27 + 2 * i
       lands-in ! nothings tt refl 129 refl refl $ fills ! u32-elements 0 (refl, lit< tt) (lit ! tt) N 83 refl refl refl $
       lends-out ! tt u32 (named 2) N 83 b (replicate N 0) long room refl refl (λ α γ.
-      -- [its token; the table's slice; the tokens of `cut_objective`; what it says; the tokens of `cut_constraints`; what that says; cones; words; the map; its token; _0; …]: local i at 29 + 2 * i
+      -- context: [token of the table; slice of the table; tokens and postcondition of `cut_objective`; those of `cut_constraints`; cones; words; the map; its token; _0; …]; local i is at index 29 + 2 * i
       sets ! (addr ! (from ! (stop !))) 153 refl (tt, tt) $ sets ! (agg ! (and-then ! (value ! 153 refl) (and-then ! (big ! (record { fits = lit< tt })) (no-more !)))) 155 refl (fitting (lit< tt)) $
       number ! (arg h 12) (known-of h 12 .1) $ number ! (arg h 1) (known-of h 1 .1) $ number ! r (is .1) $ move ! (20 ∷ 21 ∷ 3 ∷ 0 ∷ 1 ∷ 28 ∷ 2 ∷ 29 ∷ 4 ∷ []) $
       calls-handing (h .w) map-table (to-table r b α γ) ! (h .cited .1 .1 .1 .0) (tokens-at r α (9 ∷ 11 ∷ 0 ∷ [])) (table-owned r b α γ) (refl, refl)
       (fact-of 𝓤 ((λ z. map-fits given old (sym e ∙ z)), le-of-eq (sym long))) usizes (λ j us. Tabled r b α γ j (after 5 us .0)) refl (loads ! 24 tt refl) (λ j ts tabled jis.
-      -- [its tokens, that of the table the third; what it says; the other tokens; what was said; the map; its token; _0; …]: local i at 27 + 2 * i
+      -- context: [tokens of `map_table`, the third that of the table; its postcondition; the other tokens; earlier postconditions; the map; its token; _0; …]; local i is at index 27 + 2 * i
       let ws : List ℕ = after 5 ts .0 in
       lands-in ! usizes j jis 85 refl refl $
       move ! (3 ∷ []) $ parts-said _ ! ((5, left u32 (zeros r b α γ) ws ∷ []) ∷ []) $ fsplit ! $ move ! (1 ∷ []) $ feqL ! (λ l.
       let all : length ws ≡ N = l ∙ long in
       move ! (3 ∷ 0 ∷ []) $ comes-back ! tt u32 N 81 b α γ ws refl refl $
       shares-out ! tt u32 (named 0) N 81 b ws all room refl refl (λ β δ.
-      -- [its token; the table's slice; the tokens of cones and words; the other tokens; what was said; the map; its token; _0; …]: local i at 27 + 2 * i
+      -- context: [token of the table; slice of the table; tokens of cones and words; the other tokens; earlier postconditions; the map; its token; _0; …]; local i is at index 27 + 2 * i
       sets ! (addr ! (from ! (stop !))) 155 refl (tt, tt) $ sets ! (agg ! (and-then ! (value ! 155 refl) (and-then ! (big ! (record { fits = lit< tt })) (no-more !)))) 157 refl (fitting (lit< tt)) $
       lends ! 27 (drop 10 (outs h)) 25 66 refl refl $ size ! j (jis .1) $ move ! (1 ∷ 27 ∷ 2 ∷ 0 ∷ 26 ∷ []) $
       calls-handing (h .w) write-entries (to-write r j b β δ ws) ! (h .cited .1 .1 .1 .1 .0) (tokens-at r β (0 ∷ 22 ∷ [])) (write-owned r j b β δ ws) (refl, refl)
       (fact-of 𝓤 (table-fits r (λ z. map-fits given old (sym e ∙ z) .0) j ws (tabled .0) all, room-for r (coneMap (layout given)) (length (map-out .now)) (λ z. entries-fit given old (sym e ∙ z)) j (tabled .0))) nothings (λ _ ws′. Written r j b β δ ws (after 2 ws′)) refl (loads ! 24 tt refl) (λ _ vs′ written-map _.
-      -- [its tokens; what it says; the tokens of cones and words; the other tokens; what was said; _0; …]: local i at 26 + 2 * i
+      -- context: [tokens and postcondition of `write_entries`; tokens of cones and words; the other tokens; earlier postconditions; _0; …]; local i is at index 26 + 2 * i
       lands-over ! nothings tt refl 128 refl refl $ sets ! (of-opd ! (value ! 78 refl)) 26 refl (tt, record { fits = is .1 }) $
       comes-home ! tt u32 N 81 b β ws all refl refl $ room-again ! u32 N 81 b ws refl $
       returns ! (look ! 25 refl) $ free-all ! (Done r us k vs j b β δ ws vs′) (En h bs) refl $ by ! (exits r us k vs j b β δ ws vs′ (is .1) e told extended tabled written-map)))))))))

@@ -11,7 +11,7 @@ use Rattle.layout.specs.Patterns.{Clique, readClique, blockSize}
 use Rattle.layout.proofs.Tests.{passes}
 use Rattle.layout.proofs.Sizes.{entries-length}
 use Rattle.supernode_tree.specs.Reads.{Whole, cliquesFrom, cliqueOf}
-use Rattle.supernode_tree.specs.Sizes.{atMost, dimOf}
+use Rattle.supernode_tree.specs.Sizes.{blockAtMost, dimOf}
 use Rattle.supernode_tree.proofs.Cliques.{first-whole, whole-next, from-next, block-size}
 use Rattle.supernode_tree.proofs.Sizes.{all-cons, triangle-small}
 use Rattle.supernode_tree.proofs.Many.{many-length}
@@ -28,7 +28,7 @@ abbrev Inv-loop : tie.InvT-loop
 Inv-loop entries t cone pattern words first count end at₀ row₀ left₀ at row left =
     let cs = cliquesFrom words first count in
     let base = end - sum (map dimOf cs) in
-    (left ≤ count) × Whole words at left × (all (atMost 256) (cliquesFrom words at left) ≡ true)
+    (left ≤ count) × Whole words at left × (all (blockAtMost 256) (cliquesFrom words at left) ≡ true)
     × (row ≡ base + sum (map dimOf (cliquesFrom words at left)))
     × (begins (drop t entries) (downWords cone pattern (count - left) base (cliquesFrom words at left)) ≡ begins (drop t entries) (downWords cone pattern 0 base cs))
 
@@ -41,13 +41,13 @@ start l = l .before .before .before .before
 abbrev baseOf : tie.Start Inv-loop μ-loop → ℕ
 baseOf s = s .args .end - sum (map dimOf (cliquesFrom (s .args .words .now) (s .args .first) (s .args .count)))
 
--- how many words the entries of cliques that stand are
+-- the number of words of the entries of n complete cliques
 words-of : (i k c base : ℕ) (ws : List ℕ) (at n : ℕ) → Whole ws at n → length (downWords i k c base (cliquesFrom ws at n)) ≡ n * 5
 words-of i k c base ws at n h =
     let cs = cliquesFrom ws at n in
     omega (arith, entries-length (entriesDown i k c base cs), down-length i k c base cs, many-length readClique n (drop at ws) h)
 
--- there are as many words
+-- there are as many words left
 room : (e : tie.Else1 Inv-loop μ-loop) → let a = e .before .before .before .args in a .t + a .count * 5 ≤ length (a .entries .now)
 room e = omega (arith, e .if1 .left, e .before .before .before .pre .0 .1)
 
@@ -75,10 +75,10 @@ size c =
     let ws = start l .args .words .now in
     let q = c .here .result in
     let e = block-size ws (l .loop .at) q (c .here .ensures .1) in
-    let small = all-cons (atMost 256) (cliqueOf ws q) (cliquesFrom ws (q .next) (l .loop .left - 1)) _ (first-of c) (l .loop .inv .2) .0 in
+    let small = all-cons (blockAtMost 256) (cliqueOf ws q) (cliquesFrom ws (q .next) (l .loop .left - 1)) _ (first-of c) (l .loop .inv .2) .0 in
     (e, omega (arith, leb→le (blockSize (cliqueOf ws q)) 256 (passes _ small)))
 
--- its rows, and those of the cliques after it
+-- the rows of its block, and those of the cliques after it
 rows-are : (c : tie.After-triangular-number Inv-loop μ-loop)
     → let k = c .before .before in
     let ws = start (k .before .before) .args .words .now in
@@ -99,7 +99,7 @@ row-is c =
     let l = k .before .before in
     omega (arith, l .loop .inv .3, ap (λ (cs : List Clique). sum (map dimOf cs)) (first-of k), rows-are c .0)
 
--- its entry stands after those of the cliques after it
+-- its entry comes after those of the cliques after it
 module _ (c : tie.After-triangular-number Inv-loop μ-loop) where
   abbrev here : tie.At-loop Inv-loop μ-loop
   here = c .before .before .before .before
@@ -214,7 +214,7 @@ loop-again c =
     let q = k .here .result in (
       omega (arith, l .loop .inv .0),
       next-whole k,
-      all-cons (atMost 256) (cliqueOf ws q) (cliquesFrom ws (q .next) (l .loop .left - 1)) (cliquesFrom ws (l .loop .at) (l .loop .left)) (first-of k) (l .loop .inv .2) .1,
+      all-cons (blockAtMost 256) (cliqueOf ws q) (cliquesFrom ws (q .next) (l .loop .left - 1)) (cliquesFrom ws (l .loop .at) (l .loop .left)) (first-of k) (l .loop .inv .2) .1,
       omega (arith, row-is t),
       sym (ap (begins (drop (a .t) (a .entries .now))) (words-here t)
           ∙ last-hit (a .entries .now) (a .t) ((l .loop .left - 1) * 5) (others t) (entry t) (others-long t) (sym (r .entry-right .ensures) ∙ not-false _ (c .if2 .left)))

@@ -15,11 +15,11 @@ use Rattle.decomp_reverse.proofs.Order.{Accepted, as-layout, join-accep
 use Rattle.decomp_reverse.proofs.join.Statement.{statement}
 use Rattle.decomp_reverse.proofs.join.Tie as tie
 
--- where the call begins, once the slices are known
+-- the start of the call, from the state where the slices are known
 abbrev begun : tie.After-slice-known4 → tie.Start
 begun k = k .before .before .before .before .before .before .before .before .before .before
 
--- s is the fourth shared slice
+-- each value of s is a double
 s-doubles : (k : tie.After-slice-known4) → Doubles (begun k .args .s .now)
 s-doubles k =
     all-at nan (fits binary64) (begun k .args .s .now) .1 (λ i l. k .before .before .before .before .before .before .shared-slice-known4 .given i)
@@ -34,14 +34,14 @@ returns c = record {
 abbrev start : tie.Else1 → tie.Start
 start c = begun (c .before)
 
--- the number on a route
+-- the refusal number on a route
 abbrev refused : tie.Start → Route → ℕ
 refused s rt =
     let a = s .args in
     joinRefusal rt (a .n) (a .m) (a .cones .now) (a .count) (a .words .now) (solution (a .x .now) (a .s .now) (a .z .now) (a .tau) (a .kappa)) (a .map .now)
     (length (a .x-out .now) ∷ length (a .s-out .now) ∷ length (a .z-out .now) ∷ length (a .scalars-out .now) ∷ [])
 
--- the number that was answered is that of the route
+-- the number returned is that of the route
 answered : (k : tie.After-refuse-join) → let s = start (k .before) in k .refuse-join .result ≡ refused s (routeOf (s .args .route))
 answered k =
     let s = start (k .before) in
@@ -81,7 +81,7 @@ accepted c =
 copy-x-requires : tie.Need-copy-x-requires
 copy-x-requires c κs = let g = accepted (c .before) in (g .columns, g .room-x)
 
--- where x was copied, and where s and z were joined
+-- the states after x was copied, and after s and z were joined
 abbrev chosen : tie.After-copy-x → tie.Else2
 chosen x = x .before .before
 

@@ -15,7 +15,7 @@ use Rattle.layout.specs.Checks.{noCone}
 use Rattle.layout.specs.Compact.{wholeCone, entryWords, coneMap, mapPart, mapFrom, mapWords}
 use Rattle.layout.specs.Answers.{joinedParts}
 use Rattle.supernode_tree.specs.Reads.{patternAt}
-use Rattle.parts.specs.Ahead.{ahead, Stands, meets, Knows}
+use Rattle.parts.specs.Ahead.{ahead, Reached, meets, Knows}
 use Rattle.parts.proofs.Counts.{counted as counted-part}
 use Rattle.parts.specs.declared.Met.the-variants.{Whole, Cut}
 use Rattle.tables.proofs.Cones.{map-words}
@@ -29,7 +29,7 @@ use Rattle.decomp_reverse.proofs.map_right.Tie as tie
 abbrev Inv-loop : tie.InvT-loop
 Inv-loop m cones count words entries place₀ t₀ first₀ place t first =
     let ps = joinedParts cones count words in
-    (t ≤ length entries) × Stands m cones words place
+    (t ≤ length entries) × Reached m cones words place
     × (sameNumbers (drop t entries) (mapWords (mapFrom first (ahead cones words place))) ≡ sameNumbers entries (mapWords (coneMap ps)))
     × (first + blockRowCount (ahead cones words place) ≡ blockRowCount ps)
 
@@ -53,14 +53,14 @@ fives m b k e h = omega arith
 shorter : (x : Part) (before later : List Part) → before ≡ x ∷ later → length later < length before
 shorter x before later e = omega (arith, ap length e)
 
--- the entries are so many
+-- the number of words of the map fits in 64 bits
 small : (s : tie.Start Inv-loop μ-loop) → length (s .args .entries .now) < 2 ^ 64
 small s = s .good .1 .1 .1 .1 .0 .0
 
 abbrev aheadOf : tie.At-loop Inv-loop μ-loop → List Part
 aheadOf l = let a = start l .args in ahead (a .cones .now) (a .words .now) (l .loop .place)
 
--- ---- a whole cone was met
+-- ---- the next cone is not decomposed
 
 abbrev turn : tie.After-met Inv-loop μ-loop → tie.At-loop Inv-loop μ-loop
 turn k = k .before .before .before
@@ -84,7 +84,7 @@ knows-whole k =
     let a = start (turn k) .args in
     subst (Knows (a .m) (a .cones .now) (a .words .now) (turn k .loop .place)) (k .met .given .1) (k .before .before .next .ensures .1)
 
--- what the comparison answers for its entry
+-- the result of comparing its entry
 entry : (r : tie.After-entry-right Inv-loop μ-loop)
     → let k = r .before .before .before in
     r .entry-right .result ≡ begins (drop (turn k .loop .t) (start (turn k) .args .entries .now)) (mapWords (mapPart (turn k .loop .first) (wholeOf k)))
@@ -94,7 +94,7 @@ entry r =
     r .entry-right .ensures
     ∙ ap (λ (n : ℕ). begins (drop (l .loop .t) (start l .args .entries .now)) (entryWords (wholeCone (l .loop .place .cone) (l .loop .first) n))) (knows-whole k .0)
 
--- the augmented rows before it, its own and those after it
+-- the augmented rows before the cone, its own and those after it add up to all
 rows-whole : (k : tie.After-met Inv-loop μ-loop)
     → let l = turn k in
     let a = start l .args in
@@ -104,7 +104,7 @@ rows-whole k =
     let l = turn k in
     counted-part partRows (wholeOf k) (aheadOf l) _ (l .loop .first) _ _ (met-whole k) (knows-whole k .0) (l .loop .inv .3)
 
--- it was there
+-- its entry is there
 same-whole : (c : tie.Else1 Inv-loop μ-loop)
     → let k = c .before .before .before .before in
     begins (drop (turn k .loop .t) (start (turn k) .args .entries .now)) (mapWords (mapPart (turn k .loop .first) (wholeOf k))) ≡ true
@@ -117,7 +117,7 @@ fits-whole c =
     let k = c .before .before .before .before in
     inside (start (turn k) .args .entries .now) (turn k .loop .t) (mapWords (mapPart (turn k .loop .first) (wholeOf k))) (turn k .loop .inv .0) (same-whole c)
 
--- ---- a cone that a pattern cuts was met
+-- ---- the next cone is decomposed
 
 abbrev patternOf : tie.After-met2 Inv-loop μ-loop → Pattern
 patternOf k = patternAt (start (k .before .before .before) .args .words .now) (k .met2 .given .0 .0)
@@ -143,7 +143,7 @@ knows-cut k =
     let a = start l .args in
     subst (Knows (a .m) (a .cones .now) (a .words .now) (l .loop .place)) (k .met2 .given .1) (k .before .before .next .ensures .1)
 
--- the augmented rows before it, its own and those after it
+-- the augmented rows before the cone, its own and those after it add up to all
 rows-cut : (k : tie.After-met2 Inv-loop μ-loop)
     → let l = k .before .before .before in
     let a = start l .args in
@@ -153,7 +153,7 @@ rows-cut k =
     let l = k .before .before .before in
     counted-part partRows (cutOf k) (aheadOf l) _ (l .loop .first) _ _ (met-cut k) refl (l .loop .inv .3)
 
--- they are few, and so are the rows up to its end
+-- the rows counted are those of its blocks, and those up to its end are at most 262144
 few-cut : (d : tie.After-get-decomposed-dim-and-overlaps Inv-loop μ-loop)
     → let k = d .before .before .before in
     let l = k .before .before .before in
@@ -163,7 +163,7 @@ few-cut d =
     let e = d .get-decomposed-dim-and-overlaps .ensures .0 in
     (e, omega (arith, e, rows-cut k, start (k .before .before .before) .pre .1))
 
--- what the comparison answers for its entries, and how many words they are
+-- the result of comparing its entries, and their number of words
 blocks : (r : tie.After-pattern-right Inv-loop μ-loop)
     → let k = r .before .before .before .before .before .before in
     let l = k .before .before .before in
@@ -187,7 +187,7 @@ counted r =
     let n = r .before .before .before .before .clique-count in
     fives (length (mapWords (mapPart (l .loop .first) (cutOf k)))) (cliqueCount (patternOf k)) (n .result) (map-words (patternOf k) (l .loop .first) (q .cone) (q .row) (q .pattern)) (n .ensures)
 
--- they were there
+-- its entries are there
 same-cut : (c : tie.Else2 Inv-loop μ-loop)
     → let k = c .before .before .before .before .before .before .before in
     let l = k .before .before .before in

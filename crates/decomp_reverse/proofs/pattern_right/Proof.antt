@@ -8,7 +8,7 @@ use Rattle.layout.specs.Patterns.{Pattern, Clique}
 use Rattle.layout.specs.Blocks.{blockRows}
 use Rattle.layout.specs.Compact.{mapWords}
 use Rattle.supernode_tree.specs.Reads.{patternAt, Whole, cliquesFrom}
-use Rattle.supernode_tree.specs.Sizes.{atMost, dimOf}
+use Rattle.supernode_tree.specs.Sizes.{blockAtMost, dimOf}
 use Rattle.supernode_tree.proofs.Sizes.{blocks-small}
 use Rattle.supernode_tree.proofs.Cliques.{right-head}
 use Rattle.blocks.proofs.Offsets.{cliques-here, pattern-here}
@@ -18,7 +18,7 @@ use native.Mathlib.Omega.{arith}
 use Rattle.decomp_reverse.proofs.pattern_right.Statement.{statement}
 use Rattle.decomp_reverse.proofs.pattern_right.Tie as tie
 
--- the cliques by the head that was read
+-- the cliques of the pattern are those read after its head
 module _ (k : tie.After-here) where
   abbrev start : tie.Start
   start = k .before .before .before
@@ -35,10 +35,10 @@ module _ (k : tie.After-here) where
   whole : let q = k .here .result in Whole (start .args .words .now) (q .cliques) (q .«clique_count»)
   whole = cliques-here (start .args .words .now) (start .args .at) _ (start .pre .0 .0) (k .here .ensures .0) (k .here .result) refl
 
-  small : all (atMost 256) here ≡ true
-  small = sym (ap (all (atMost 256)) pattern) ∙ blocks-small given 256 (start .pre .0 .0) (start .pre .0 .1)
+  small : all (blockAtMost 256) here ≡ true
+  small = sym (ap (all (blockAtMost 256)) pattern) ∙ blocks-small given 256 (start .pre .0 .0) (start .pre .0 .1)
 
-  -- their rows
+  -- the rows of their blocks
   rows : sum (map dimOf here) ≡ blockRows given
   rows = ap (λ (cs : List Clique). sum (map dimOf cs)) (sym pattern)
 

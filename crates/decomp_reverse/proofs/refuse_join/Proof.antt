@@ -56,7 +56,7 @@ returns-2 c =
     refused-counted (routeOf (a .route)) (a .n) (a .m) (a .cones .now) (a .count) (a .words .now) (a .x) (a .s) (a .z) (a .entries .now) (rooms s)
     (k .check-joined .result .rows) (k .check-joined .result .overlaps) (counted e) (seven e) (r .refuse-counted .result) (r .refuse-counted .ensures) (c .if2 .taken)
 
--- the map decides, on a route
+-- if checks 10 to 12 pass apart from the map, the map decides the number
 decided : (c : tie.Else2)
     → let a = start (c .before .before .before .before) .args in
     (route : Route) → routeOf (a .route) ≡ route
@@ -88,7 +88,7 @@ map-right-requires c κs =
           (k .check-joined .result .rows) (k .check-joined .result .overlaps) (counted e) (seven e) (r .refuse-counted .result) (r .refuse-counted .ensures) (two .if2 .left),
     )
 
--- its answer on the compact route
+-- the number on the compact route
 answered : (c : tie.After-map-right)
     → let a = start (c .before .before .before .before .before .before) .args in
     refusalBy (routeOf (a .route)) (a .n) (a .m) (a .cones .now) (a .count) (a .words .now) (a .x) (a .s) (a .z) (a .entries .now) (rooms (start (c .before .before .before .before .before .before)))

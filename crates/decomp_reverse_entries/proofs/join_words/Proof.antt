@@ -1,6 +1,5 @@
 use mathlib.Core.Path.{sym}
 use lib.Seq.{length-take-le}
-use native.Mathlib.Omega.{arith}
 use borrow.Author.Needs.{needs}
 use Rattle.decomp_reverse_entries.proofs.join_words.Statement.{statement}
 use Rattle.decomp_reverse_entries.proofs.join_words.Tie as tie

@@ -1,6 +1,5 @@
 use borrow.Author.Tests.{lt-ltb, le-ltb}
 use native.Mathlib.Omega.{arith}
-use borrow.Author.Needs.{needs}
 use Rattle.decomp_reverse_entries.proofs.words_of.Statement.{statement}
 use Rattle.decomp_reverse_entries.proofs.words_of.Tie as tie
 

@@ -19,7 +19,7 @@ Inv-loop s rows state₀ count₀ due₀ i₀ state count due i =
 abbrev μ-loop : tie.MeasureT-loop
 μ-loop s rows state₀ count₀ due₀ i₀ state count due i = length rows - i + (length rows - i) - due
 
--- what the draw does
+-- what the draw decides
 turned : (c : tie.After-due-after Inv-loop μ-loop)
     → let d = c .before in let l = d .before .before in let a = l .before .before .args in
     Turn (a .s) (a .rows .now) (l .loop .i) (l .loop .due) (d .draw .result) (c .due-after .result)
@@ -30,7 +30,7 @@ turned c =
     rw (c .due-after .ensures)
     (turn (a .s) (a .rows .now) (l .loop .i) (l .loop .due) (l .loop .state) (d .draw .result) (omega arith) (d .draw .ensures) (l .loop .inv .4))
 
--- where the loop then stands
+-- the loop's state after the draw
 went : (c : tie.After-due-after Inv-loop μ-loop)
     → let d = c .before in let l = d .before .before in let a = l .before .before .args in let k = c .due-after .result in let at = l .loop .i + (1 - k) in
     let n = length (a .rows .now) in

@@ -4,9 +4,8 @@ use mathlib.Core.Path.{_≡_, refl, sym, ap, _∙_}
 use mathlib.Core.Logic.{inl}
 use mathlib.Core.List.{List, [], _∷_, map, map-append}
 use borrow.Author.Needs.{needs}
-use lib.ListN.{length, getD, take, set, length-set}
+use lib.ListN.{length, getD, take, length-set}
 use lib.Seq.{take-all}
-use lib.Ieee.{Float}
 use Rattle.layout.specs.Compact.{Entry, rowsOf}
 use Rattle.layout.specs.Generator.{drawnValue, drawnColumn, afterColumn}
 use Rattle.layout.proofs.Buffers.{take-none}
@@ -25,7 +24,7 @@ Inv-loop s rows kept-rows₀ kept₀ state₀ count₀ due₀ i₀ kept-rows kep
 abbrev μ-loop : tie.MeasureT-loop
 μ-loop s rows kept-rows₀ kept₀ state₀ count₀ due₀ i₀ kept-rows kept state count due i = length rows - i + (length rows - i) - due
 
--- what the draw does
+-- what the draw decides
 turned : (c : tie.After-due-after Inv-loop μ-loop)
     → let d = c .before .before in let l = d .before .before in let a = l .before .before .before .before .args in
     Turn (a .s) (a .rows .now) (l .loop .i) (l .loop .due) (d .draw .result) (c .due-after .result)
@@ -36,7 +35,7 @@ turned c =
     rw (c .due-after .ensures)
     (turn (a .s) (a .rows .now) (l .loop .i) (l .loop .due) (l .loop .state) (d .draw .result) (omega arith) (d .draw .ensures) (l .loop .inv .4))
 
--- where the loop then stands
+-- the loop's state after the draw
 went : (c : tie.After-due-after Inv-loop μ-loop)
     → let d = c .before .before in let l = d .before .before in let a = l .before .before .before .before .args in let k = c .due-after .result in let at = l .loop .i + (1 - k) in
     let n = length (a .rows .now) in

@@ -27,7 +27,7 @@ Inv-loop s rows rows-out₀ values-out₀ state₀ count₀ i₀ rows-out values
 abbrev μ-loop : tie.MeasureT-loop
 μ-loop s rows rows-out₀ values-out₀ state₀ count₀ i₀ rows-out values-out state count i = length rows - i
 
--- the rows that are drawn at once, and room for their entries
+-- the rows that are drawn in one call, and room for their entries
 abbrev here : tie.After-few-of Inv-loop μ-loop → List ℕ
 here f =
     let l = f .before .before in

@@ -3,7 +3,7 @@ use native.Mathlib.Omega.{arith}
 use mathlib.Core.Path.{_≡_, sym, ap, _∙_}
 use mathlib.Core.List.{List}
 use borrow.Author.Needs.{needs}
-use lib.ListN.{length, take, length-replicate}
+use lib.ListN.{length, length-replicate}
 use lib.Seq.{length-take-le}
 use lib.Ieee.{Float}
 use Rattle.layout.specs.Lists.{written}
@@ -11,7 +11,7 @@ use Rattle.layout.proofs.Drawn.{column-length}
 use Rattle.drawn_columns.proofs.write_few.Statement.{statement}
 use Rattle.drawn_columns.proofs.write_few.Tie as tie
 
--- there is room for what is kept
+-- the scratch buffers are long enough for the kept entries
 room : (k : tie.After-keep-column)
     → (k .keep-column .result .count ≤ length (k .keep-column .last .1 .1 .0)) × (k .keep-column .result .count ≤ length (k .keep-column .last .1 .1 .1 .0))
 room k =

@@ -3,7 +3,7 @@ use native.Mathlib.Omega.{arith}
 use mathlib.Core.Path.{_≡_, refl, sym, ap, ap₂, _∙_}
 use mathlib.Core.List.{List, [], _∷_, map}
 use borrow.Author.Needs.{needs}
-use lib.ListN.{List·getD-map, length, getD, take, set, length-set, length-map}
+use lib.ListN.{List·getD-map, length, take, set, length-set, length-map}
 use lib.Ieee.{Float}
 use Rattle.layout.specs.Lists.{written}
 use Rattle.layout.specs.Generator.{drawnValue}

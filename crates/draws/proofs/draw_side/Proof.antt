@@ -1,11 +1,9 @@
 use Prim.Native.Nat.{ℕ, _+_, _-_, _≤_, _<_}
 use native.Mathlib.Omega.{arith}
-use mathlib.Core.Path.{_≡_, sym, ap, _∙_}
-use mathlib.Core.List.{List}
+use mathlib.Core.Path.{_≡_, sym, _∙_}
 use borrow.Author.Needs.{needs}
 use lib.ListN.{length, getD, drop, set, length-set}
-use lib.Ieee.{Float}
-use Rattle.layout.specs.Generator.{drawnValue, drawnSide}
+use Rattle.layout.specs.Generator.{drawnSide}
 use Rattle.layout.proofs.Drawn.{side-step, side-done}
 use Rattle.draws.proofs.draw_side.Statement.{statement}
 use Rattle.draws.proofs.draw_side.Tie as tie
@@ -17,7 +15,7 @@ Inv-loop s rows out₀ state₀ i₀ out state i =
 abbrev μ-loop : tie.MeasureT-loop
 μ-loop s rows out₀ state₀ i₀ out state i = length rows - i
 
--- each row is a place of the right side
+-- each row is an index of the right side
 inside : (c : tie.After-shared-slice-known2 Inv-loop μ-loop)
     → getD (c .before .before .before .before .before .args .rows .now) (c .before .before .loop .i) 0 < length (c .before .before .loop .out)
 inside c = omega (arith, c .before .before .before .before .before .pre (c .before .before .loop .i) (omega arith))

@@ -15,7 +15,7 @@ use Rattle.layout.proofs.Members.{all-has, has-below}
 use Rattle.draws.proofs.draw_value.Statement.{statement}
 use Rattle.draws.proofs.draw_value.Tie as tie
 
--- each of the 201 values fits, by running through them
+-- each of the 201 values fits in an i32, by computing all of them
 fits : (t : ℕ) → t < 201 → SFits w32 (toZ w32 t -ℤ pos 100)
 fits t l = sfits-lit (all-has (λ k. ltb (mag (toZ w32 k -ℤ pos 100)) (2 ^ hbits w32)) (below 201) .0 tt t (has-below t 201 .1 l))
 

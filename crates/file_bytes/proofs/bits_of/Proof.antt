@@ -3,7 +3,6 @@ use lib.Dec.{T}
 use lib.Ieee.{binary64, toBits}
 use Rattle.layout.proofs.Nans.{ne-self, nan-is}
 use Rattle.layout.proofs.Bits.{nan-pattern}
-use native.Mathlib.Omega.{arith}
 use borrow.Author.Needs.{needs}
 use Rattle.file_bytes.proofs.bits_of.Statement.{statement}
 use Rattle.file_bytes.proofs.bits_of.Tie as tie

@@ -5,8 +5,8 @@ use mathlib.Core.Path.{ap₂}
 use mathlib.Core.List.{List}
 use Prim.Native.Nat.{ℕ}
 use Prim.Native.Nat.{_-_, _≤_}
-use mathlib.Core.Path.{_≡_, refl, sym, ap, _∙_}
-use lib.ListN.{length, take, getD, length-set}
+use mathlib.Core.Path.{_≡_, refl, sym, _∙_}
+use lib.ListN.{length, take, length-set}
 use Rattle.layout.specs.Lists.{written}
 use Rattle.layout.specs.FileWords.{fileWords}
 use Rattle.layout.proofs.FileWords.{words-length}

@@ -6,12 +6,11 @@ use lib.Ieee.{binary64, nan, isNan, ofBits, nanBits, div}
 use lib.Ieee.Bits.{nanBits-is, nanBits-above}
 use borrow.Author.Tests.{le-ltb}
 use Rattle.layout.proofs.Nans.{nan-is}
-use native.Mathlib.Omega.{arith}
 use borrow.Author.Needs.{needs}
 use Rattle.file_bytes.proofs.float_of.Statement.{statement}
 use Rattle.file_bytes.proofs.float_of.Tie as tie
 
--- a NaN
+-- 0.0 / 0.0 is a NaN
 zero-over : div binary64 (ofBits binary64 0) (ofBits binary64 0) ≡ nan
 unfolding div ofBits
 zero-over = refl

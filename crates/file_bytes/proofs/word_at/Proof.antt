@@ -1,4 +1,3 @@
-use native.Mathlib.Omega.{arith}
 use borrow.Author.Needs.{needs}
 use Rattle.file_bytes.proofs.word_at.Statement.{statement}
 use Rattle.file_bytes.proofs.word_at.Tie as tie

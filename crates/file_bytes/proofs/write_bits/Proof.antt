@@ -2,7 +2,7 @@ use Prim.Native.Nat.{ℕ, _-_, _≤_}
 use mathlib.Core.Path.{_≡_, sym, ap₂, _∙_}
 use mathlib.Core.List.{List}
 use lib.ListN.{length, take, set, length-set, length-map}
-use lib.Ieee.{Float, binary64, toBits, nan}
+use lib.Ieee.{binary64, toBits, nan}
 use Rattle.layout.specs.Lists.{written}
 use Rattle.layout.specs.File.{bits}
 use Rattle.layout.proofs.Members.{getD-map}

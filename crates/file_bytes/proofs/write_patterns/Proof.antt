@@ -3,7 +3,7 @@ use Rattle.layout.specs.FileWords.{pairsOf}
 use Rattle.layout.specs.Lists.{written}
 use lib.Seq.{take-all}
 use lib.ListN.{length, take, set, length-set}
-use mathlib.Core.Path.{_≡_, refl, ap, ap₂, _∙_}
+use mathlib.Core.Path.{_≡_, ap, ap₂, _∙_}
 use mathlib.Core.List.{List}
 use Prim.Native.Nat.{ℕ, _-_, _*_, _≤_}
 use native.Mathlib.Omega.{arith}

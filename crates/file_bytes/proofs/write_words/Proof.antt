@@ -3,7 +3,7 @@ use lib.Seq.{take-all}
 use Rattle.layout.specs.File.{tableBytes}
 use Rattle.layout.specs.Lists.{written}
 use lib.ListN.{length, take, getD}
-use mathlib.Core.Path.{_≡_, refl, ap, _∙_}
+use mathlib.Core.Path.{_≡_, ap, _∙_}
 use mathlib.Core.List.{List}
 use Prim.Native.Nat.{ℕ, _+_, _-_, _*_, _/_, _%_, _≤_}
 use native.Mathlib.Omega.{arith}

@@ -7,7 +7,7 @@ use borrow.Author.Needs.{needs}
 use Rattle.file_shape.proofs.shape_refusal.Statement.{statement}
 use Rattle.file_shape.proofs.shape_refusal.Tie as tie
 
--- both tests, in the order of their numbers
+-- the number that both tests give, 13 before 14
 number : (c : tie.After-tables-right) → let s = c .before .before .before in
     wordShapeFailing (s .args .words .now) (s .args .bytes) ≡ cond (c .before .length-right .result) (cond (c .tables-right .result) 0 14) 13
 number c = let s = c .before .before .before in shape-number (s .args .words .now) (s .args .bytes) (c .before .length-right .ensures) (c .tables-right .ensures)

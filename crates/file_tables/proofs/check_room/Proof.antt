@@ -13,7 +13,7 @@ use borrow.Author.Needs.{needs}
 use Rattle.file_tables.proofs.check_room.Statement.{statement}
 use Rattle.file_tables.proofs.check_room.Tie as tie
 
--- n and the cones are few, as their tables stand in a file whose length fits a u32
+-- n + 1 and three words for each cone are u32, because their tables lie in a file whose length is a u32
 few : (c : tie.After-shared-slice-known3) → let s = c .before .before .before in (getD (s .args .words .now) 0 0 + 1 < 4294967296) × (3 * getD (s .args .words .now) 4 0 < 4294967296)
 few c =
     let s = c .before .before .before in

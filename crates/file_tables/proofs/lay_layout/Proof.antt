@@ -19,7 +19,7 @@ second s = tableBytes 8 (s .args .alphas .now)
 abbrev third : tie.Start → List ℕ
 third s = tableBytes 4 (s .args .words .now)
 
--- what the file holds after each call, and where it ends
+-- the contents of the output after each call, and the byte where they end
 abbrev out1 : tie.After-lay-words → List ℕ
 out1 c = c .lay-words .last .1 .1 .0
 

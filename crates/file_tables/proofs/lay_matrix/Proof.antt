@@ -22,7 +22,7 @@ third s = tableBytes 8 (s .args .values .now)
 abbrev fourth : tie.Start → List ℕ
 fourth s = tableBytes 8 (s .args .side .now)
 
--- what the file holds after each call, and where it ends
+-- the contents of the output after each call, and the byte where they end
 abbrev out1 : tie.After-lay-words → List ℕ
 out1 c = c .lay-words .last .1 .1 .0
 

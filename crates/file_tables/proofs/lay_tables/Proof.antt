@@ -20,7 +20,7 @@ second s = matrixBytes (s .args .a-starts .now) (s .args .a-rows .now) (s .args 
 abbrev third : tie.Start → List (List ℕ)
 third s = layoutBytes (s .args .cones .now) (s .args .alphas .now) (s .args .pattern-words .now)
 
--- what the file holds after each call, and where it ends
+-- the contents of the output after each call, and the byte where they end
 abbrev out1 : tie.After-lay-matrix → List ℕ
 out1 c = c .lay-matrix .last .1 .1 .1 .1 .1 .0
 

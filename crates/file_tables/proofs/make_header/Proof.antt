@@ -2,7 +2,7 @@ use Prim.Native.Nat.{ℕ}
 use mathlib.Core.Path.{refl, ap, _∙_}
 use mathlib.Core.List.{List, [], _∷_, _++_}
 use Rattle.layout.specs.Lists.{written}
-use Rattle.layout.specs.File.{Tables, tables, countWords, countsOf, offsetsFrom, endFrom}
+use Rattle.layout.specs.File.{BitTables, bitTables, countWords, countsOf, offsetsFrom, endFrom}
 use Rattle.file_tables.proofs.Tables.{FewNumbers, few-numbers, sizes-counted, end-fits}
 use native.Mathlib.Omega.{arith}
 use borrow.Author.Needs.{needs}
@@ -10,9 +10,9 @@ use Rattle.file_tables.proofs.make_header.Statement.{statement}
 use Rattle.file_tables.proofs.make_header.Tie as tie
 
 -- the tables, and that each has fewer than 2^32 numbers
-abbrev given : tie.Start → Tables
+abbrev given : tie.Start → BitTables
 given s =
-    tables (s .args .n) (s .args .m) (s .args .p-starts .now) (s .args .p-rows .now) (s .args .p-values .now) (s .args .q .now)
+    bitTables (s .args .n) (s .args .m) (s .args .p-starts .now) (s .args .p-rows .now) (s .args .p-values .now) (s .args .q .now)
     (s .args .a-starts .now) (s .args .a-rows .now) (s .args .a-values .now) (s .args .b .now)
     (s .args .cones .now) (s .args .alphas .now) (s .args .pattern-count) (s .args .pattern-words .now)
 

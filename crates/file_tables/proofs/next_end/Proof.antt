@@ -8,7 +8,7 @@ use borrow.Author.Needs.{needs}
 use Rattle.file_tables.proofs.next_end.Statement.{statement}
 use Rattle.file_tables.proofs.next_end.Tie as tie
 
--- the bytes of the table
+-- a bound on the bytes of the table
 most : (c : tie.After-shared-slice-known) → let s = c .before in getD widths (s .args .i) 0 * getD (s .args .lengths .now) (s .args .i) 0 ≤ 34359738360
 most c = let s = c .before in size-most (s .args .lengths .now) (s .args .i) (s .pre .2) (omega (arith, c .shared-slice-known .given (s .args .i)))
 

@@ -21,14 +21,14 @@ Inv-loop lengths out₀ end₀ i₀ out end i =
 abbrev μ-loop : tie.MeasureT-loop
 μ-loop lengths out₀ end₀ i₀ out end i = 11 - i
 
--- how many tables and offsets there are
+-- there are eleven tables and eleven offsets
 many : (s : tie.Start Inv-loop μ-loop) → let ks = products widths (s .args .lengths .now) in (length ks ≡ 11) × (length (offsetsFrom 80 ks) ≡ 11)
 many s =
     let ks = products widths (s .args .lengths .now) in
     let e = length-products widths (s .args .lengths .now) (s .pre .0) in
     (e, length-offsets 80 ks ∙ e)
 
--- a table begins below 2^32
+-- each table begins below byte 2^32
 low : (c : tie.In-loop Inv-loop μ-loop) → aligned (c .before .loop .end) < 4294967296
 low c =
     let l = c .before in
@@ -36,7 +36,7 @@ low c =
     let ks = products widths (s .args .lengths .now) in
     omega (arith, many s .0, end-later (l .loop .end) ks (l .loop .i) (omega (arith, many s .0)), l .loop .inv .2, s .pre .2)
 
--- the last ends where the file does
+-- the last table ends where the file ends
 last : (c : tie.After-loop Inv-loop μ-loop) → let s = c .before .before .before .before in
     c .before .loop .end ≡ endFrom 80 (products widths (s .args .lengths .now))
 last c =

@@ -1,7 +1,7 @@
 use Prim.Native.Nat.{ℕ, _+_, _-_, _*_, _≤_, _<_}
 use native.Mathlib.Omega.{arith}
-use mathlib.Core.Path.{_≡_, refl, sym, ap, _∙_}
-use mathlib.Core.List.{List, map}
+use mathlib.Core.Path.{_≡_, sym, ap, _∙_}
+use mathlib.Core.List.{map}
 use borrow.Author.Needs.{needs}
 use lib.ListN.{length}
 use Rattle.layout.specs.Lists.{sum}
@@ -18,7 +18,7 @@ Inv-loop s rows n state₀ entries₀ c₀ state entries c =
 abbrev μ-loop : tie.MeasureT-loop
 μ-loop s rows n state₀ entries₀ c₀ state entries c = n - c
 
--- a column has at most as many entries as there are rows
+-- a column has at most 2,080 entries, and the columns before c have at most 2,080 each
 few : (t : tie.After-count-column Inv-loop μ-loop) → (t .count-column .result .count ≤ 2080) × (t .before .before .loop .entries ≤ 2080 * t .before .before .loop .c)
 few t =
     let l = t .before .before in

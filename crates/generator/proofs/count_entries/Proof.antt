@@ -1,17 +1,16 @@
-use Prim.Native.Nat.{ℕ, suc, _+_, _-_, _*_, _≤_, _<_}
-use native.Mathlib.Numerals.{add-one}
+use Prim.Native.Nat.{ℕ, _+_, _-_, _*_, _≤_, _<_}
 use native.Mathlib.Omega.{arith}
-use mathlib.Core.Path.{_≡_, refl, sym, ap, ap₂, _∙_}
+use mathlib.Core.Path.{_≡_, sym, ap, ap₂, _∙_}
 use mathlib.Core.List.{List, [], _∷_, map}
 use borrow.Author.Needs.{needs}
-use lib.ListN.{length, replicate, take, length-replicate}
+use lib.ListN.{length, take}
 use Rattle.layout.specs.Lists.{sum}
-use Rattle.layout.specs.Generator.{draws, drawnOrdering, bandRows, drawnColumns}
+use Rattle.layout.specs.Generator.{drawnOrdering, bandRows, drawnColumns}
 use Rattle.generator.proofs.Rows.{rows-few, rows-front}
 use Rattle.generator.proofs.count_entries.Statement.{statement}
 use Rattle.generator.proofs.count_entries.Tie as tie
 
--- the covered rows at the front of the scratch
+-- the covered rows are a prefix of the scratch buffer
 front : (d : tie.After-draw-rows)
     → let a = d .before .before .before .args in
     take (d .draw-rows .result .count) (d .draw-rows .last .1 .1 .1 .0) ≡ bandRows (drawnOrdering (a .seed) (a .v)) (a .v) (a .w)

@@ -1,10 +1,9 @@
-use Prim.Native.Nat.{ℕ, suc, _+_, _-_, _*_, _≤_, _<_}
-use native.Mathlib.Numerals.{add-one}
+use Prim.Native.Nat.{ℕ, _+_, _-_, _*_, _≤_, _<_}
 use native.Mathlib.Omega.{arith}
-use mathlib.Core.Path.{_≡_, refl, sym, ap, ap₂, _∙_}
-use mathlib.Core.List.{List, [], _∷_, map}
+use mathlib.Core.Path.{_≡_, ap, _∙_}
+use mathlib.Core.List.{List, [], _∷_}
 use borrow.Author.Needs.{needs}
-use lib.ListN.{length, replicate, take, length-replicate}
+use lib.ListN.{length}
 use Rattle.layout.specs.Lists.{written}
 use Rattle.layout.specs.Triangle.{triangle}
 use Rattle.layout.proofs.Triangles.{triangle-mono}

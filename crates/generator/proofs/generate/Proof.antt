@@ -1,34 +1,31 @@
-use Prim.Native.Nat.{ℕ, suc, _+_, _-_, _*_, _≤_, _<_}
+use Prim.Native.Nat.{ℕ, _+_, _-_, _*_, _≤_, _<_}
 use native.Mathlib.Omega.{arith}
-use mathlib.Core.Path.{_≡_, refl, sym, ap, _∙_}
-use mathlib.Core.List.{List}
+use mathlib.Core.Path.{_≡_, refl, sym, _∙_}
 use borrow.Author.Needs.{needs}
-use lib.ListN.{length, length-replicate}
+use lib.ListN.{length-replicate}
 use lib.Dec.{T}
-use lib.Ieee.{Float}
 use Rattle.layout.specs.Problem.{Problem, zero64}
 use Rattle.layout.specs.Generator.{drawnOrdering, generated, inRanges, generateRefusal}
-use Rattle.layout.specs.Calls.Tables.{Tables, tables, rooms}
+use Rattle.layout.specs.Calls.Tables.{Tables, tables, tableRooms}
 use Rattle.layout.proofs.Band.{band-words}
-use Rattle.layout.proofs.Generated.{generate-done}
+use Rattle.layout.proofs.Generated.{generate-done, ranges}
 use Rattle.layout.proofs.Orderings.{ordering-permutes}
 use Rattle.layout.proofs.Promises.{tables-kept, TablesFit, tables-fit}
-use Rattle.generator.proofs.Numbers.{ranges}
 use Rattle.generator.proofs.generate.Statement.{statement}
 use Rattle.generator.proofs.generate.Tie as tie
 
 abbrev start : tie.After-refuse → tie.Start
 start c = c .before .before .before .before .before .before .before .before .before .before .before .before .before
 
--- the outputs as they were lent
+-- the outputs before the call
 abbrev lent : tie.Start → Tables
 lent s =
     let a = s .args in
     tables (a .p-starts-out .now) (a .p-rows-out .now) (a .p-values-out .now) (a .q-out .now) (a .a-starts-out .now) (a .a-rows-out .now)
     (a .a-values-out .now) (a .b-out .now) (a .cones-out .now) (a .alphas-out .now) (a .pattern-words-out .now)
 
--- nothing is refused
-number : (c : tie.Else1) → let s = start (c .before) in 0 ≡ generateRefusal (s .args .seed) (s .args .v) (s .args .w) (s .args .n) (rooms (lent s))
+-- the refusal number is 0
+number : (c : tie.Else1) → let s = start (c .before) in 0 ≡ generateRefusal (s .args .seed) (s .args .v) (s .args .w) (s .args .n) (tableRooms (lent s))
 number c = sym (c .if1 .left) ∙ c .before .refuse .ensures
 
 abbrev new : tie.Start → Problem
@@ -37,7 +34,7 @@ new s = generated (s .args .seed) (s .args .v) (s .args .w) (s .args .n)
 done : (c : tie.Else1) → let s = start (c .before) in T (inRanges (s .args .seed) (s .args .v) (s .args .w) (s .args .n)) × TablesFit (new s) (lent s)
 done c =
     let s = start (c .before) in
-    let (ok, room) = generate-done (s .args .seed) (s .args .v) (s .args .w) (s .args .n) (rooms (lent s)) (sym (number c)) in
+    let (ok, room) = generate-done (s .args .seed) (s .args .v) (s .args .w) (s .args .n) (tableRooms (lent s)) (sym (number c)) in
     (ok, tables-fit (new s) (lent s) room)
 
 fits : (c : tie.Else1) → let s = start (c .before) in TablesFit (new s) (lent s)

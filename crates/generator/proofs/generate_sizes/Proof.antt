@@ -1,22 +1,22 @@
-use Prim.Native.Nat.{ℕ, suc, _+_, _-_, _*_, _≤_, _<_}
-use native.Mathlib.Numerals.{add-one}
+use Prim.Native.Nat.{ℕ, _+_, _-_, _*_, _≤_, _<_}
 use native.Mathlib.Omega.{arith}
-use mathlib.Core.Path.{_≡_, refl, sym, ap, ap₂, _∙_}
-use mathlib.Core.List.{List, [], _∷_, map}
+use mathlib.Core.Path.{_≡_, refl, sym, ap, _∙_}
+use mathlib.Core.List.{List, [], _∷_}
 use borrow.Author.Needs.{needs}
-use lib.ListN.{length, replicate, take, length-replicate}
-use mathlib.Core.Bool.{true, false}
+use lib.ListN.{length, length-replicate}
+use mathlib.Core.Bool.{true}
 use lib.Dec.{T}
 use borrow.Author.Tests.{not-true, not-false}
 use Rattle.layout.specs.Lists.{written}
 use Rattle.layout.specs.Generator.{inRanges}
 use Rattle.layout.proofs.Tests.{passes}
 use Rattle.generator.specs.Lengths.{lengthsOf}
-use Rattle.generator.proofs.Numbers.{ranges, lengths-are, sizes-15, sizes-11, sizes-done}
+use Rattle.generator.proofs.Numbers.{lengths-are, sizes-15, sizes-11, sizes-done}
+use Rattle.layout.proofs.Generated.{ranges}
 use Rattle.generator.proofs.generate_sizes.Statement.{statement}
 use Rattle.generator.proofs.generate_sizes.Tie as tie
 
--- past the first test
+-- past the first test the arguments are in range
 inside : (c : tie.Else1) → let a = c .before .before .before .args in inRanges (a .seed) (a .v) (a .w) (a .n) ≡ true
 inside c = sym (c .before .in-ranges .ensures) ∙ not-false _ (c .if1 .left)
 

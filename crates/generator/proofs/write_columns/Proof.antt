@@ -1,7 +1,6 @@
-use Prim.Native.Nat.{ℕ, suc, _+_, _-_, _*_, _≤_, _<_}
-use native.Mathlib.Numerals.{add-one}
+use Prim.Native.Nat.{ℕ, _+_, _-_, _*_, _≤_, _<_}
 use native.Mathlib.Omega.{arith}
-use mathlib.Core.Path.{_≡_, refl, sym, ap, ap₂, _∙_}
+use mathlib.Core.Path.{_≡_, refl, sym, ap, _∙_}
 use mathlib.Core.List.{List, [], _∷_, _++_, map}
 use borrow.Author.Needs.{needs}
 use lib.ListN.{length, set, length-append, length-map, length-set}
@@ -29,7 +28,7 @@ Inv-loop s rows n starts-out₀ rows-out₀ values-out₀ state₀ at₀ c₀ st
 abbrev μ-loop : tie.MeasureT-loop
 μ-loop s rows n starts-out₀ rows-out₀ values-out₀ state₀ at₀ c₀ starts-out rows-out values-out state at c = n - c
 
--- the next column has room
+-- the outputs have room for the next column
 room : (l : tie.At-loop Inv-loop μ-loop) → let a = l .before .before .before .before .before .args in l .loop .c < a .n
     → (l .loop .at + length (drawnColumn (l .loop .state) (a .rows .now)) ≤ length (l .loop .rows-out))
     × (l .loop .at + length (drawnColumn (l .loop .state) (a .rows .now)) ≤ length (l .loop .values-out))

@@ -1,12 +1,11 @@
-use Prim.Native.Nat.{ℕ, suc, _+_, _-_, _*_, _/_, _≤_, _<_}
+use Prim.Native.Nat.{ℕ, _+_, _-_, _*_, _/_, _≤_, _<_}
 use native.Mathlib.Nat.{mul-le-mul}
 use native.Mathlib.Numerals.{add-one}
 use native.Mathlib.Omega.{arith}
-use mathlib.Core.Path.{_≡_, refl, sym, ap, ap₂, subst, _∙_}
+use mathlib.Core.Path.{_≡_, sym, ap, ap₂, subst, _∙_}
 use mathlib.Core.List.{List, [], _∷_, map}
 use borrow.Author.Needs.{needs}
 use lib.ListN.{length, replicate, take, length-replicate}
-use lib.Ieee.{Float}
 use Rattle.layout.specs.Lists.{sum, written, Below}
 use Rattle.layout.specs.Triangle.{triangle}
 use Rattle.layout.specs.Problem.{zero64}
@@ -15,8 +14,8 @@ use Rattle.layout.specs.Generator.{draws, drawnOrdering, bandRows, drawnColumns
 use Rattle.layout.proofs.Columns.{entry-count, even}
 use Rattle.layout.proofs.Drawn.{side-length}
 use Rattle.generator.proofs.Columns.{starts-many}
-use Rattle.generator.proofs.Numbers.{ranges}
 use Rattle.generator.proofs.Rows.{rows-few, rows-low, rows-front}
+use Rattle.layout.proofs.Generated.{ranges}
 use Rattle.generator.proofs.write_drawn.Statement.{statement}
 use Rattle.generator.proofs.write_drawn.Tie as tie
 
@@ -33,7 +32,7 @@ rowsOf s = let a = s .args in bandRows (drawnOrdering (a .seed) (a .v)) (a .v) (
 abbrev columnsOf : tie.Start → List (List Entry)
 columnsOf s = let a = s .args in drawnColumns (draws (a .v - 1) (a .seed)) (rowsOf s) (a .n)
 
--- the rows stand at the front of the scratch
+-- the covered rows are a prefix of the scratch buffer
 front : (d : tie.After-draw-rows) → take (d .draw-rows .result .count) (d .draw-rows .last .1 .1 .1 .0) ≡ rowsOf (d .before .before .before .before .before .before .before)
 front d =
     let a = d .before .before .before .before .before .before .before .args in

@@ -1,11 +1,10 @@
 use Prim.Native.Nat.{ℕ, _≤_, _<_}
 use native.Mathlib.Omega.{arith}
-use mathlib.Core.Path.{_≡_, sym, ap, _∙_}
-use mathlib.Core.List.{List}
+use mathlib.Core.Path.{_≡_, ap, _∙_}
 use borrow.Author.Needs.{needs}
 use lib.ListN.{length, replicate, length-replicate}
-use lib.Ieee.{Float, ofBits}
-use Rattle.layout.specs.Lists.{written, Below}
+use lib.Ieee.{ofBits}
+use Rattle.layout.specs.Lists.{Below}
 use Rattle.layout.specs.Problem.{zero64}
 use Rattle.layout.specs.Generator.{drawnSide}
 use Rattle.generator.proofs.Columns.{side-front}

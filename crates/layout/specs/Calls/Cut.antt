@@ -1,4 +1,4 @@
--- The promise of the cut, whole: its number, and what each output holds. The writers of its parts promise the same parts.
+-- The contract of the cut: its refusal number, and the contents of each output. Functions that write only some of the outputs have parts of it.
 use Prim.Native.Nat.{ℕ}
 use mathlib.Core.Path.{_≡_}
 use mathlib.Core.List.{List}
@@ -20,7 +20,7 @@ objective pStarts pRows pValues q alphas = record { P = record { starts = pStart
 abbrev pub objectiveOf : Augmented → Objective
 objectiveOf a = record { P = a .P; q = a .q; alphas = a .alphas }
 
--- each table of `new` at the front of its output where the number is 0; otherwise each output is as before
+-- each table of `new` at the start of its output where the refusal number is 0; otherwise each output is unchanged
 pub record HoldsObjective (r : ℕ) (new before after : Objective) : Type 0 where
   pub p-starts : after .P .starts ≡ output r (new .P .starts) (before .P .starts)
   pub p-rows : after .P .rows ≡ output r (new .P .rows) (before .P .rows)
@@ -50,7 +50,7 @@ pub record HoldsConstrained (r : ℕ) (new before after : Constrained) : Type 0 
 
 -- ---- the cut
 
--- the eleven outputs as a cut's tables
+-- the eleven outputs, as the tables of an augmented problem
 abbrev pub outputs : List ℕ → List ℕ → List Float → List Float → List ℕ → List ℕ → List Float → List Float → List ℕ → List Float → List ℕ → Augmented
 outputs pStarts pRows pValues q aStarts aRows aValues b cones alphas map = record {
   P = record { starts = pStarts; rows = pRows; values = pValues };
@@ -71,6 +71,6 @@ pub record Cut (route : ℕ) (p : Problem) (before after : Augmented) (r : ℕ) 
   pub number : r ≡ onRoute route (λ rt. cutRefusal rt p (lengths before))
   pub tables : Holds r (augmented (routeOf route) p) before after
 
--- the front of output i, as long as the sizes say
+-- the prefix of output i, with the length that the size call gives
 abbrev pub frontOn : {A : Type 0} → Route → Problem → ℕ → List A → List A
 frontOn route p i out = take (getD (sizes route p) i 0) out

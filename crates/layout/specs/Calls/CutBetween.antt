@@ -1,4 +1,4 @@
--- The promise of the cut with limits for b: its number, and what each of its twelve outputs holds.
+-- The contract of the cut with limits for b: its refusal number, and the contents of each of its twelve outputs.
 use Prim.Native.Nat.{ℕ}
 use mathlib.Core.Path.{_≡_}
 use mathlib.Core.List.{List, _∷_, _++_}
@@ -10,7 +10,7 @@ use Rattle.layout.specs.Answers.{Augmented, lengths, output, augmented}
 use Rattle.layout.specs.Calls.Cut.{Holds}
 use Rattle.layout.specs.Between.{limitsRefusal}
 
--- the outputs of the cut with low for b, and that of high
+-- the outputs of the cut with low for b, and the output for the augmented high
 pub record Limits : Type 0 where
   pub cut : Augmented
   pub high : List Float
@@ -18,7 +18,7 @@ pub record Limits : Type 0 where
 abbrev pub limits : Augmented → List Float → Limits
 limits cut high = record { cut = cut; high = high }
 
--- the room of each, that of high after that of low
+-- the length of each output, that of high after that of low
 abbrev pub limitsRooms : Limits → List ℕ
 limitsRooms a = let ks = lengths (a .cut) in take 8 ks ++ (length (a .high) ∷ drop 8 ks)
 

@@ -1,4 +1,4 @@
--- The promise of the cut on the compact route where the cone map is a list of structs, each made of an entry by `structOf`.
+-- The contract of the compact cut that writes the cone map as a list of structs, each made from an entry by `structOf`.
 use Prim.Native.Nat.{ℕ, _*_}
 use mathlib.Core.Path.{_≡_}
 use mathlib.Core.List.{List, [], _∷_, map}
@@ -23,7 +23,7 @@ entryOutputs pStarts pRows pValues q aStarts aRows aValues b cones alphas entrie
   map = entries;
 }
 
--- the room of each in words: an entry takes five
+-- the length of each output, that of the map in words: an entry has five
 abbrev pub entryRooms : {E : Type 0} → EntryTables E → List ℕ
 entryRooms a =
     let o = a .objective in

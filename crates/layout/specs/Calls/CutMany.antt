@@ -1,4 +1,4 @@
--- The promise of the cut with many right sides, which the problem's b holds one after another: its number, and what each output holds.
+-- The contract of the cut with many right sides, one after another in the problem's b: its refusal number, and the contents of each output.
 use Prim.Native.Nat.{ℕ}
 use mathlib.Core.Path.{_≡_}
 use Rattle.layout.specs.Problem.{Problem}

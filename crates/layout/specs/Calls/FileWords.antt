@@ -1,4 +1,4 @@
--- The promise of a file's words: the number, and the whole words of the bytes.
+-- The contract of the call for a file's words: its refusal number, and the complete words of the bytes.
 use Prim.Native.Nat.{ℕ}
 use mathlib.Core.Path.{_≡_}
 use mathlib.Core.List.{List}

@@ -1,4 +1,4 @@
--- The promise of the generator's sizes: the number, and the length of each table of the generated problem.
+-- The contract of the generator's size call: its refusal number, and the length of each table of the generated problem.
 use Prim.Native.Nat.{ℕ}
 use mathlib.Core.Path.{_≡_}
 use mathlib.Core.List.{List}

@@ -1,4 +1,4 @@
--- The promise of the inverse: the number, and the place of each number in the permutation.
+-- The contract of the inverse: its refusal number, and the index of each number in the permutation.
 use Prim.Native.Nat.{ℕ}
 use mathlib.Core.Path.{_≡_}
 use mathlib.Core.List.{List}

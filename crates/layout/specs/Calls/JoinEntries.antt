@@ -1,4 +1,4 @@
--- The promise of the joining on the compact route where the cone map is a list of entries.
+-- The contract of the compact joining that takes the cone map as a list of entries.
 use Prim.Native.Nat.{ℕ}
 use mathlib.Core.Path.{_≡_}
 use mathlib.Core.Bool.{Bool, false, cond, _&&_}
@@ -8,7 +8,7 @@ use Rattle.layout.specs.Lists.{sameBy}
 use Rattle.layout.specs.Problem.{Solution, compact}
 use Rattle.layout.specs.Compact.{MapEntry, wholeCone, blockOf, coneMap}
 use Rattle.layout.specs.Answers.{orElse, roomy, joinedParts, joinChecks, solutionFits, joined}
-use Rattle.layout.specs.Calls.Join.{Rejoined, rejoinedOf, rooms, HoldsRejoined}
+use Rattle.layout.specs.Calls.Join.{Rejoined, rejoinedOf, rejoinedRooms, HoldsRejoined}
 
 abbrev pub sameEntry : MapEntry → MapEntry → Bool
 sameEntry (wholeCone i first rows) (wholeCone j other count) = eqb i j && (eqb first other && eqb rows count)
@@ -19,7 +19,7 @@ sameEntry (blockOf i k c first rows) (blockOf j l d other count) = eqb i j && (e
 abbrev pub sameMap : List MapEntry → List MapEntry → Bool
 sameMap es fs = sameBy sameEntry es fs
 
--- as `joinRefusal` on the compact route, given whether the map is the problem's
+-- `joinRefusal` on the compact route, where `same` says whether the map is the problem's
 abbrev pub refusalAs : Bool → ℕ → ℕ → List ℕ → ℕ → List ℕ → Solution → List ℕ → ℕ
 refusalAs same n m cones count words sol room =
     orElse (joinChecks compact n m cones count words)
@@ -31,5 +31,5 @@ entriesRefusal n m cones count words sol entries room =
     refusalAs (sameMap entries (coneMap (joinedParts cones count words))) n m cones count words sol room
 
 pub record JoinEntries (n m : ℕ) (cones : List ℕ) (count : ℕ) (words : List ℕ) (sol : Solution) (entries : List MapEntry) (before after : Rejoined) (r : ℕ) : Type 0 where
-  pub number : r ≡ entriesRefusal n m cones count words sol entries (rooms before)
+  pub number : r ≡ entriesRefusal n m cones count words sol entries (rejoinedRooms before)
   pub tables : HoldsRejoined r (rejoinedOf (joined compact n m (joinedParts cones count words) sol)) before after

@@ -1,4 +1,4 @@
--- The promise of the pair back: the number, and the row and the column of a place.
+-- The contract of the pair back: its refusal number, and the row and column of an index.
 use Prim.Native.Nat.{ℕ}
 use mathlib.Core.Path.{_≡_}
 use mathlib.Core.List.{List}

@@ -1,4 +1,4 @@
--- The promise of the pair index: the number, and the pair's place.
+-- The contract of the pair index: its refusal number, and the pair's index.
 use Prim.Native.Nat.{ℕ}
 use mathlib.Core.Path.{_≡_}
 use mathlib.Core.List.{List}

@@ -1,10 +1,10 @@
--- The promise of the reader: its number, and what each output holds. Floats stand as their patterns.
+-- The contract of the reader: its refusal number, and the contents of each output. Floats are given as bit patterns.
 use Prim.Native.Nat.{ℕ}
 use mathlib.Core.Path.{_≡_}
 use mathlib.Core.List.{List, [], _∷_}
 use lib.ListN.{length}
 use Rattle.layout.specs.Answers.{output}
-use Rattle.layout.specs.File.{HeaderCounts, countWords, countsIn, Tables}
+use Rattle.layout.specs.File.{HeaderCounts, countWords, countsIn, BitTables}
 use Rattle.layout.specs.FileWords.{wordTables, readWordsRefusal}
 
 -- the twelve outputs: the eight counts of the header, then the tables in the file's order
@@ -38,19 +38,19 @@ fileOutputs counts pStarts pRows pValues q aStarts aRows aValues b cones alphas 
   patternWords = words;
 }
 
--- the length of each
+-- the length of each output
 abbrev pub fileRooms : FileOutputs → List ℕ
 fileRooms o =
     length (o .counts) ∷ length (o .pStarts) ∷ length (o .pRows) ∷ length (o .pValues) ∷ length (o .q)
     ∷ length (o .aStarts) ∷ length (o .aRows) ∷ length (o .aValues) ∷ length (o .b)
     ∷ length (o .cones) ∷ length (o .alphas) ∷ length (o .patternWords) ∷ []
 
--- a file's tables, with its counts
-abbrev pub outputsOf : HeaderCounts → Tables → FileOutputs
+-- the outputs for a file's counts and tables
+abbrev pub outputsOf : HeaderCounts → BitTables → FileOutputs
 outputsOf c t =
     fileOutputs (countWords c) (t .pStarts) (t .pRows) (t .pValues) (t .q) (t .aStarts) (t .aRows) (t .aValues) (t .b) (t .cones) (t .alphas) (t .patternWords)
 
--- each table of `new` at the front of its output where the number is 0; otherwise each output is as before
+-- each table of `new` at the start of its output where the refusal number is 0; otherwise each output is unchanged
 pub record HoldsFile (r : ℕ) (new before after : FileOutputs) : Type 0 where
   pub counts : after .counts ≡ output r (new .counts) (before .counts)
   pub pStarts : after .pStarts ≡ output r (new .pStarts) (before .pStarts)

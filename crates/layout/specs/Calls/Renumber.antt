@@ -1,4 +1,4 @@
--- The promise of the renumbering: the number, and the words of the renumbered pattern.
+-- The contract of the renumbering: its refusal number, and the words of the renumbered pattern.
 use Prim.Native.Nat.{ℕ}
 use mathlib.Core.Path.{_≡_}
 use mathlib.Core.List.{List}

@@ -1,4 +1,4 @@
--- The promise of same layout: the number, and 1 where the two problems agree.
+-- The contract of same layout: its refusal number, and 1 where the two problems have the same layout, 0 where not.
 use Prim.Native.Nat.{ℕ}
 use mathlib.Core.Path.{_≡_}
 use mathlib.Core.List.{List}

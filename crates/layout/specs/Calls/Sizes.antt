@@ -1,4 +1,4 @@
--- The promise of the sizes: the number, and the length of each output of the cut.
+-- The contract of the size call: its refusal number, and the length of each output of the cut.
 use Prim.Native.Nat.{ℕ}
 use mathlib.Core.Path.{_≡_}
 use mathlib.Core.List.{List}

@@ -39,7 +39,7 @@ tablesOf p = record {
   patternWords = p .patternWords;
 }
 
--- the problem with n columns, m rows and k patterns whose tables, as long as a problem's are, stand at the fronts
+-- the problem with n columns, m rows and k patterns whose tables are prefixes of the outputs, as long as those of p
 abbrev pub problemAt : ℕ → ℕ → ℕ → Problem → Tables → Problem
 problemAt n m k p t = record {
   n = n;
@@ -62,9 +62,9 @@ problemAt n m k p t = record {
   patternWords = take (length (p .patternWords)) (t .patternWords);
 }
 
--- the length of each, in the order of `tableLengths`
-abbrev pub rooms : Tables → List ℕ
-rooms t =
+-- the length of each output, in the order of `tableLengths`
+abbrev pub tableRooms : Tables → List ℕ
+tableRooms t =
     length (t .P .starts) ∷ length (t .P .rows) ∷ length (t .P .values) ∷ length (t .q)
     ∷ length (t .A .starts) ∷ length (t .A .rows) ∷ length (t .A .values) ∷ length (t .b)
     ∷ length (t .cones) ∷ length (t .alphas) ∷ length (t .patternWords) ∷ []
@@ -75,7 +75,7 @@ objectiveIn t = record { P = t .P; q = t .q; alphas = t .alphas }
 abbrev pub constrainedIn : Tables → Constrained
 constrainedIn t = record { A = t .A; b = t .b; cones = t .cones }
 
--- each table of `new` at the front of its output where the number is 0; otherwise each output is as before
+-- each table of `new` at the start of its output where the refusal number is 0; otherwise each output is unchanged
 pub record HoldsTables (r : ℕ) (new before after : Tables) : Type 0 where
   pub objective : HoldsObjective r (objectiveIn new) (objectiveIn before) (objectiveIn after)
   pub constrained : HoldsConstrained r (constrainedIn new) (constrainedIn before) (constrainedIn after)

@@ -11,7 +11,7 @@ use borrow.Author.Needs.{needs}
 use Rattle.overlaps.proofs.block_rows.Statement.{statement}
 use Rattle.overlaps.proofs.block_rows.Tie as tie
 
--- the block of the clique that was read
+-- the number of rows of the block of the clique just read
 size : (c : tie.After-here)
     → let q = c .here .result in
     let a = c .before .before .args in sizeHere (a .words .now) (a .at) ≡ triangle (q .«snode_count» + q .«separator_count»)

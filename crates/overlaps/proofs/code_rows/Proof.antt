@@ -11,7 +11,7 @@ use borrow.Author.Needs.{needs}
 use Rattle.overlaps.proofs.code_rows.Statement.{statement}
 use Rattle.overlaps.proofs.code_rows.Tie as tie
 
--- the last clique's codes
+-- the codes of the last clique
 last : (t : tie.Then1)
     → let a = t .before .before .before .before .before .before .before .args in
     codesHere (a .base) (a .words .now) (a .ordering .now) (a .offsets .now) (a .starts .now) (a .c)
@@ -20,7 +20,7 @@ last t =
     let a = t .before .before .before .before .before .before .before .args in
     codes-last (a .base) (a .words .now) (a .ordering .now) (a .offsets .now) (a .starts .now) (a .c) (t .if1 .taken)
 
--- another clique has a parent
+-- any other clique has a parent
 inside : (k : tie.After-clique-parent) → k .clique-parent .result < length (k .before .before .before .before .before .before .before .before .args .offsets .now)
 inside k =
     let s = k .before .before .before .before .before .before .before .before in

@@ -21,7 +21,7 @@ Inv-loop words ordering offsets starts base out₀ t₀ c₀ out t c =
 abbrev μ-loop : tie.MeasureT-loop
 μ-loop words ordering offsets starts base out₀ t₀ c₀ out t c = c
 
--- there is room for this turn's codes
+-- the output has room for the codes of this iteration's clique
 fits : (i : tie.In-loop Inv-loop μ-loop)
     → let a = i .before .before .before .before .before .before .before .args in
     i .before .loop .t + length (codesHere (a .base) (a .words .now) (a .ordering .now) (a .offsets .now) (a .starts .now) (i .before .loop .c - 1)) ≤ length (i .before .loop .out)

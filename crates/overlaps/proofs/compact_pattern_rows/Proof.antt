@@ -12,18 +12,18 @@ use Rattle.supernode_tree.specs.Reads.{patternAt, PatternInside}
 use Rattle.supernode_tree.specs.declared.PatternRead.the-variants.{Pattern as Found}
 use Rattle.supernode_tree.proofs.Cliques.{right-head}
 use Rattle.blocks.proofs.Offsets.{StandAt, stand-taken, cliques-here, cliques-count, count-few, ordering-part, stand-here}
-use Rattle.overlaps.specs.Tables.{FirstRows, codesDown, Ready, Coded}
+use Rattle.overlaps.specs.Tables.{FirstRows, codesDown, CliquesTied, Coded}
 use Rattle.overlaps.proofs.Patterns.{all-found, sizes-sum, cliques-tied, pattern-codes, cut-rows-count}
 use native.Mathlib.Omega.{arith}
 use borrow.Author.Needs.{needs}
 use Rattle.overlaps.proofs.compact_pattern_rows.Statement.{statement}
 use Rattle.overlaps.proofs.compact_pattern_rows.Tie as tie
 
--- the pattern's head lies in the words
+-- the head of the pattern lies in the words
 inside : (k : tie.After-here) → PatternInside (length (k .before .before .before .args .words .now)) (k .before .before .before .args .at) (Found (k .here .result))
 inside k = k .here .ensures .1
 
--- as many cliques as were read, and few
+-- the number of cliques is the count read, and at most 256
 count : (k : tie.After-here) → let a = k .before .before .before .args in cliqueCount (patternAt (a .words .now) (a .at)) ≡ k .here .result .«clique_count»
 count k =
     let s = k .before .before .before in
@@ -63,7 +63,7 @@ standing o =
     stand-taken (s .args .words .now) (patternAt (s .args .words .now) (s .args .at) .cliques) (o .clique-offsets .last .1 .1 .1 .0) (k .here .result .«clique_count») (count k)
     (stand-here (s .args .words .now) (s .args .at) _ (s .pre .0) (k .here .ensures .0) (k .here .result) refl (o .clique-offsets .last .1 .1 .1 .0) (o .clique-offsets .ensures))
 
--- the codes are those of the pattern's rows, whichever table holds the first rows
+-- the codes are those of the pattern's rows, for every table of first rows
 codes : (o : tie.After-clique-offsets) (starts : List ℕ)
     → let a = o .before .before .before .before .before .args in
     let p = patternAt (a .words .now) (a .at) in
@@ -75,7 +75,7 @@ codes o starts room rows =
 
 ready : (o : tie.After-clique-offsets)
     → let a = o .before .before .before .before .before .args in
-    Ready (a .base) (a .first) (a .words .now) (patternAt (a .words .now) (a .at) .ordering) (offsets o) (length (a .out .now))
+    CliquesTied (a .base) (a .first) (a .words .now) (patternAt (a .words .now) (a .at) .ordering) (offsets o) (length (a .out .now))
 ready o starts room rows =
     let s = o .before .before .before .before .before in
     let p = patternAt (s .args .words .now) (s .args .at) in (

@@ -20,7 +20,7 @@ Inv-loop words offsets first out₀ row₀ c₀ out row c =
 abbrev μ-loop : tie.MeasureT-loop
 μ-loop words offsets first out₀ row₀ c₀ out row c = c
 
--- the rows of the blocks after this turn's clique
+-- the row after the blocks of the cliques that follow this iteration's one
 row-here : (i : tie.In-loop Inv-loop μ-loop)
     → let a = i .before .before .before .before .before .args in
     i .before .loop .row ≡ a .first + sum (map (sizeHere (a .words .now)) (drop (i .before .loop .c - 1 + 1) (a .offsets .now)))

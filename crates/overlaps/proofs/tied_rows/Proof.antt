@@ -19,7 +19,7 @@ use Rattle.overlaps.proofs.tied_rows.Tie as tie
 few : (s : tie.Start) (at : ℕ) → length (verticesHere (s .args .words .now) (s .args .ordering .now) at) ≤ 256
 few s at = omega (arith, vertices-few (s .args .words .now) (s .args .ordering .now) at, s .pre .0 .0 .sortable .few)
 
--- a clear table of n numbers
+-- a table of n zeros is long enough for numbers below n
 cleared : (n : ℕ) (vs : List ℕ) → Below n vs
     → Below (length (replicate {A = ℕ} n 0)) vs × (replicate {A = ℕ} n 0 ≡ replicate (length (replicate {A = ℕ} n 0)) 0)
 cleared n vs h = (subst (λ (m : ℕ). Below m vs) (sym (length-replicate {A = ℕ} n 0)) h, ap (λ (m : ℕ). replicate m 0) (sym (length-replicate {A = ℕ} n 0)))
@@ -56,7 +56,7 @@ note-places-requires c κs =
     let clear = cleared 256 (verticesHere ws o at) (low s at) in
     rw (v .clique-vertices .ensures .1) ((vertices-rise ws o at, clear .0, few s at), clear .1)
 
--- the places of the parent's vertices
+-- the table of positions of the parent's vertices
 noted : (n : tie.After-note-places) → let a = n .before .before .before .before .before .before .before .before .before .args in Places (verticesHere (a .words .now) (a .ordering .now) (a .parent)) (n .note-places .last .1 .0)
 noted n = subst (λ (vs : List ℕ). Places vs (n .note-places .last .1 .0)) (n .before .before .before .before .clique-vertices .ensures .1) (n .note-places .ensures)
 

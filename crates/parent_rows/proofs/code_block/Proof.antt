@@ -23,7 +23,7 @@ Inv-loop out₀ vertices places base start t₀ j₀ out t j =
 abbrev μ-loop : tie.MeasureT-loop
 μ-loop out₀ vertices places base start t₀ j₀ out t j = length vertices - j
 
--- there is room for column j
+-- the output has room for column j
 fits : (i : tie.In-loop Inv-loop μ-loop) → i .before .loop .t + (i .before .loop .j + 1) ≤ length (i .before .loop .out)
 fits i =
     let l = i .before in

@@ -12,7 +12,7 @@ use Rattle.parent_rows.proofs.tied_column.Tie as tie
 vertex : (s : tie.Start) → getD (s .args .vertices .now) (s .args .j) 0 < length (s .args .places .now)
 vertex s = s .pre .0 .3 (s .args .j) (s .pre .0 .0)
 
--- what is noted of the column's vertex
+-- the table's entry of the column's vertex
 abbrev noted : tie.Start → ℕ
 noted s = getD (s .args .places .now) (getD (s .args .vertices .now) (s .args .j) 0) 0
 

@@ -19,7 +19,7 @@ Inv-loop out₀ vertices places j row tied i₀ out i =
 abbrev μ-loop : tie.MeasureT-loop
 μ-loop out₀ vertices places j row tied i₀ out i = j + 1 - i
 
--- this turn's vertex has its entry in the table, and does not come after the column's
+-- vertex i is an index of the table, and is at most the column's vertex
 vertex : (n : tie.In-loop Inv-loop μ-loop)
     → let a = n .before .before .before .before .before .args in
     let v = getD (a .vertices .now) (n .before .loop .i) 0 in

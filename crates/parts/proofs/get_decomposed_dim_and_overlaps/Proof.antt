@@ -8,7 +8,7 @@ use Rattle.layout.specs.Patterns.{Pattern, patterns}
 use Rattle.layout.specs.Blocks.{Part, whole, cut, parts, partRows, partOverlaps, blockRowCount, overlapCount, partCones, coneCount}
 use Rattle.layout.specs.Checks.{noCone}
 use Rattle.supernode_tree.specs.Reads.{patternAt}
-use Rattle.parts.specs.Ahead.{ahead, Stands, meets, Knows}
+use Rattle.parts.specs.Ahead.{ahead, Reached, meets, Knows}
 use Rattle.parts.specs.declared.Met.the-variants.{Whole, Cut}
 use Rattle.parts.proofs.Counts.{pattern-few, counted, counted-all}
 use native.Mathlib.Omega.{arith}
@@ -22,7 +22,7 @@ Inv-loop m cones count words place₀ dim₀ overlaps₀ new-cones₀ place dim 
     let left = ahead cones words place in
     (dim + blockRowCount left ≡ blockRowCount ps) × (overlaps + overlapCount left ≡ overlapCount ps) × (new-cones + coneCount left ≡ coneCount ps)
     × (dim ≤ place .cone * 141287244169216) × (overlaps ≤ place .cone * 141287244169216) × (new-cones ≤ place .cone * 4294967296)
-    × Stands m cones words place
+    × Reached m cones words place
 
 abbrev μ-loop : tie.MeasureT-loop
 μ-loop m cones count words place₀ dim₀ overlaps₀ new-cones₀ place dim overlaps new-cones = length (ahead cones words place)
@@ -30,7 +30,7 @@ abbrev μ-loop : tie.MeasureT-loop
 abbrev aheadOf : (l : tie.At-loop Inv-loop μ-loop) → List Part
 aheadOf l = let a = l .before .before .before .before .args in ahead (a .cones .now) (a .words .now) (l .loop .place)
 
--- a whole cone was met
+-- when the next cone is not decomposed
 abbrev wholeOf : (c : tie.After-known-told Inv-loop μ-loop) → Part
 wholeOf c =
     let l = c .before .before .before .before in
@@ -52,7 +52,7 @@ met-whole c =
       subst (Knows (a .m) (a .cones .now) (a .words .now) (l .loop .place)) (g .1) (r .next .ensures .1),
     )
 
--- a cut cone was met
+-- when the next cone is decomposed
 abbrev patternOf : (c : tie.After-known-told2 Inv-loop μ-loop) → Pattern
 patternOf c = patternAt (c .before .before .before .before .before .before .before .before .args .words .now) (c .before .met2 .given .0 .0)
 
@@ -74,7 +74,7 @@ met-cut c =
       subst (Knows (a .m) (a .cones .now) (a .words .now) (l .loop .place)) (g .1) (r .next .ensures .1),
     )
 
--- its rows and overlaps are few
+-- bounds on its block rows and overlaps
 few : (d : tie.After-get-decomposed-dim-and-overlaps Inv-loop μ-loop)
     → (d .get-decomposed-dim-and-overlaps .result .dim ≤ 141287244169216) × (d .get-decomposed-dim-and-overlaps .result .overlaps ≤ 141287244169216)
 few d =

@@ -5,7 +5,7 @@ use lib.Ieee.{Float}
 use Rattle.layout.specs.Lists.{written}
 use Rattle.layout.specs.Problem.{Problem, problem}
 use Rattle.layout.specs.Pool.{pool, poolRefusal}
-use Rattle.layout.specs.Calls.Tables.{Tables, tables, tablesOf, rooms}
+use Rattle.layout.specs.Calls.Tables.{Tables, tables, tablesOf, tableRooms}
 use Rattle.layout.proofs.Promises.{tables-kept}
 use Rattle.layout.proofs.Accepted.{sound-cone-count}
 use Rattle.layout.proofs.PoolTables.{Pooled, pooled}
@@ -25,7 +25,7 @@ given2 s =
     problem (a .n2) (a .m2) (a .p-starts2 .now) (a .p-rows2 .now) (a .p-values2 .now) (a .q2 .now) (a .a-starts2 .now) (a .a-rows2 .now)
     (a .a-values2 .now) (a .b2 .now) (a .cones2 .now) (a .alphas2 .now) (a .count2) (a .words2 .now)
 
--- the outputs as they were lent
+-- the outputs as passed
 abbrev lent : tie.Start → Tables
 lent s =
     let a = s .args in
@@ -36,11 +36,11 @@ abbrev start : tie.After-refuse → tie.Start
 start c = c .before .before .before .before .before .before .before .before .before .before .before .before .before .before .before .before .before .before .before .before .before .before .before .before .before .before .before .before .before .before .before .before .before .before .before
 
 -- nothing is refused
-number : (c : tie.Else1) → let s = start (c .before) in 0 ≡ poolRefusal (given s) (given2 s) (rooms (lent s))
+number : (c : tie.Else1) → let s = start (c .before) in 0 ≡ poolRefusal (given s) (given2 s) (tableRooms (lent s))
 number c = sym (c .if1 .left) ∙ c .before .refuse .ensures
 
-accepted : (c : tie.Else1) → let s = start (c .before) in Pooled (given s) (given2 s) (rooms (lent s))
-accepted c = let s = start (c .before) in pooled (given s) (given2 s) (rooms (lent s)) (sym (number c))
+accepted : (c : tie.Else1) → let s = start (c .before) in Pooled (given s) (given2 s) (tableRooms (lent s))
+accepted c = let s = start (c .before) in pooled (given s) (given2 s) (tableRooms (lent s)) (sym (number c))
 
 slice-aggregate-refuse : tie.Need-slice-aggregate-refuse
 slice-aggregate-refuse c = refl

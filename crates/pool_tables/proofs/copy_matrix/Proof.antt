@@ -1,4 +1,3 @@
-use native.Mathlib.Omega.{arith}
 use borrow.Author.Needs.{needs}
 use Rattle.pool_tables.proofs.copy_matrix.Statement.{statement}
 use Rattle.pool_tables.proofs.copy_matrix.Tie as tie

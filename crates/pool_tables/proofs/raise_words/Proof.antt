@@ -15,7 +15,7 @@ Inv-loop k count words out₀ at₀ left₀ out at left = Raising k count words 
 abbrev μ-loop : tie.MeasureT-loop
 μ-loop k count words out₀ at₀ left₀ out at left = left
 
--- a pattern is left
+-- at least one pattern is left
 more : (c : tie.In-loop Inv-loop μ-loop) → 0 < c .before .loop .left
 more c = c .loop-test .taken
 

@@ -1,182 +1,154 @@
-use Prim.Native.Nat.{ℕ, _≤_, _-_, _+_}
-use mathlib.Core.Path.{_≡_, refl, sym, ap, subst, _∙_}
-use mathlib.Core.List.{List, _++_}
+use Prim.Native.Nat.{ℕ, _≤_, _<_, _-_, _+_}
+use mathlib.Core.Path.{_≡_, refl, sym, subst}
 use lib.ListN.{length, getD, length-map}
-use Rattle.layout.specs.Lists.{part, written}
-use Rattle.layout.proofs.Buffers.{length-tail}
-use Rattle.pool_tables.specs.Stacked.{StartsOf, raised, stacked}
-use Rattle.pool_tables.proofs.Columns.{part-length, part-raised, part-raisable, column-at, inside-both, stack-column, stacked-keeps}
+use Rattle.pool_tables.specs.Stacked.{StartsOf, raised}
+use Rattle.pool_tables.proofs.Columns.{Stacking, stacking-starts, stacking-fits, column-left, inside, stacking-more, stacking-done}
 use native.Mathlib.Omega.{arith}
-use borrow.Author.Needs.{needs}
 use Rattle.pool_tables.proofs.stack_rows.Statement.{statement}
 use Rattle.pool_tables.proofs.stack_rows.Tie as tie
 
 abbrev Inv-loop : tie.InvT-loop
-Inv-loop n m starts rows starts2 rows2 out₀ count first₀ first2₀ c₀ out first first2 c =
-    (c ≤ n) × (count ≡ n) × (length out ≡ length out₀) × (first ≡ getD starts c 0) × (first2 ≡ getD starts2 c 0)
-    × (out ≡ written (stacked c starts rows starts2 (raised m rows2)) out₀)
+Inv-loop n m starts rows starts2 rows2 out₀ count last first₀ first2₀ c₀ out first first2 c =
+    (c ≤ n) × (count ≡ n) × (last ≡ getD starts2 n 0) × Stacking starts rows starts2 (raised m rows2) out₀ c first first2 out
 
 abbrev μ-loop : tie.MeasureT-loop
-μ-loop n m starts rows starts2 rows2 out₀ count first₀ first2₀ c₀ out first first2 c = count - c
+μ-loop n m starts rows starts2 rows2 out₀ count last first₀ first2₀ c₀ out first first2 c = count - c
 
 abbrev start : tie.At-loop Inv-loop μ-loop → tie.Start Inv-loop μ-loop
-start l = l .before .before .before .before .before .before
+start l = l .before .before .before .before .before .before .before
 
--- this turn's columns lie within the rows
-inside : (c : tie.In-loop Inv-loop μ-loop)
-    → let l = c .before in
-    let a = start l .args in
-    (l .loop .first ≤ getD (a .starts .now) (l .loop .c + 1) 0) × (getD (a .starts .now) (l .loop .c + 1) 0 ≤ length (a .rows .now))
-inside c =
-    let l = c .before in
-    let s = start l in
-    inside-both (s .args .n) (s .args .starts .now) (s .args .rows .now) (l .loop .c) (l .loop .first) (s .pre .0 .0) (omega arith) (l .loop .inv .3)
-
-inside2 : (c : tie.In-loop Inv-loop μ-loop)
-    → let l = c .before in
-    let a = start l .args in
-    (l .loop .first2 ≤ getD (a .starts2 .now) (l .loop .c + 1) 0) × (getD (a .starts2 .now) (l .loop .c + 1) 0 ≤ length (a .rows2 .now))
-inside2 c =
-    let l = c .before in
-    let s = start l in
-    inside-both (s .args .n) (s .args .starts2 .now) (s .args .rows2 .now) (l .loop .c) (l .loop .first2) (s .pre .0 .1) (omega arith) (l .loop .inv .4)
-
-room : (c : tie.In-loop Inv-loop μ-loop) → length (start (c .before) .args .rows .now) + length (start (c .before) .args .rows2 .now) ≤ length (c .before .loop .out)
-room c = omega (arith, start (c .before) .pre .1 .1, c .before .loop .inv .2)
-
--- the second's starts, over its raised rows
+-- the second matrix's starts are valid over its raised rows, and the output is long enough for those
 lower : (s : tie.Start Inv-loop μ-loop) → StartsOf (s .args .n) (length (raised (s .args .m) (s .args .rows2 .now))) (s .args .starts2 .now)
 lower s = subst (λ (k : ℕ). StartsOf (s .args .n) k (s .args .starts2 .now)) (sym (length-map (s .args .rows2 .now) (λ r. s .args .m + r))) (s .pre .0 .1)
 
+room : (s : tie.Start Inv-loop μ-loop) → length (s .args .rows .now) + length (raised (s .args .m) (s .args .rows2 .now)) ≤ length (s .args .out .now)
+room s = omega (arith, s .pre .1 .1, length-map (s .args .rows2 .now) (λ r. s .args .m + r))
+
+-- what is written and what is not lies within the tables and the output
+fits : (l : tie.At-loop Inv-loop μ-loop)
+    → let a = start l .args in
+    let end = getD (a .starts .now) (a .n) 0 in
+    let end2 = getD (a .starts2 .now) (a .n) 0 in
+    (l .loop .first ≤ end) × (end ≤ length (a .rows .now)) × (l .loop .first2 ≤ end2) × (end2 ≤ length (a .rows2 .now))
+    × (length (a .rows .now) + length (a .rows2 .now) ≤ length (l .loop .out))
+fits l =
+    let s = start l in
+    let f = stacking-fits (s .args .n) (s .args .starts .now) (s .args .rows .now) (s .args .starts2 .now) (raised (s .args .m) (s .args .rows2 .now)) (s .args .out .now) (s .pre .0 .0) (lower s) (room s) (l .loop .inv .3) (l .loop .inv .0) in
+    (f .1, f .2, f .3, omega (arith, f .4, length-map (s .args .rows2 .now) (λ r. s .args .m + r)), omega (arith, f .0, s .pre .1 .1))
+
+left : (c : tie.In-loop Inv-loop μ-loop) → c .before .loop .c < start (c .before) .args .n
+left c =
+    let l = c .before in
+    let s = start l in
+    column-left (s .args .n) (s .args .starts .now) (s .args .rows .now) (s .args .starts2 .now) (raised (s .args .m) (s .args .rows2 .now)) (s .args .out .now) (s .pre .0 .0) (lower s) (room s) (l .loop .inv .3) (l .loop .inv .0) (omega (arith, c .loop-test .taken, l .loop .inv .2))
+
+-- this iteration's column lies within the tables
+within : (c : tie.In-loop Inv-loop μ-loop)
+    → let l = c .before in
+    let a = start l .args in
+    let end = getD (a .starts .now) (l .loop .c + 1) 0 in
+    let end2 = getD (a .starts2 .now) (l .loop .c + 1) 0 in
+    (l .loop .first ≤ end) × (end ≤ length (a .rows .now)) × (l .loop .first2 ≤ end2) × (end2 ≤ length (a .rows2 .now))
+    × (length (a .rows .now) + length (a .rows2 .now) ≤ length (l .loop .out))
+within c =
+    let l = c .before in
+    let s = start l in
+    let i = inside (s .args .n) (s .args .starts .now) (s .args .rows .now) (s .args .starts2 .now) (raised (s .args .m) (s .args .rows2 .now)) (s .args .out .now) (s .pre .0 .0) (lower s) (room s) (l .loop .inv .3) (left c) in
+    (i .0, i .1, i .2, omega (arith, i .3, length-map (s .args .rows2 .now) (λ r. s .args .m + r)), fits l .4)
+
+mul-last : tie.Need-mul-last Inv-loop μ-loop
+mul-last c = omega (arith, c .before .before .before .before .before .pre .0 .1 .0)
+
+shared-slice-read-last : tie.Need-shared-slice-read-last Inv-loop μ-loop
+shared-slice-read-last c = omega (arith, c .before .before .before .before .before .before .pre .0 .1 .0)
+
+cast-last : tie.Need-cast-last Inv-loop μ-loop
+cast-last c = omega (arith, c .shared-slice-known5 .given (c .before .before .before .before .before .before .args .n))
+
 loop-holds : tie.Need-loop-holds Inv-loop μ-loop
 loop-holds c =
-    let s = c .before .before .before .before .before in
-    (omega arith, refl, refl, sym (s .pre .0 .0 .1), sym (s .pre .0 .1 .1), refl)
+    let s = c .before .before .before .before .before .before in
+    (omega arith, refl, refl, stacking-starts (s .args .n) (s .args .starts .now) (s .args .rows .now) (s .args .starts2 .now) (raised (s .args .m) (s .args .rows2 .now)) (s .args .out .now) (s .pre .0 .0) (lower s) (room s))
 
 add-end : tie.Need-add-end Inv-loop μ-loop
-add-end c = omega arith
+add-end c = omega (arith, left c)
 
 mul-end : tie.Need-mul-end Inv-loop μ-loop
-mul-end c = omega (arith, start (c .before) .pre .0 .0 .0)
+mul-end c = omega (arith, start (c .before) .pre .0 .0 .0, left c)
 
 shared-slice-read-end : tie.Need-shared-slice-read-end Inv-loop μ-loop
-shared-slice-read-end c = omega (arith, start (c .before .before) .pre .0 .0 .0)
+shared-slice-read-end c = omega (arith, start (c .before .before) .pre .0 .0 .0, left (c .before))
 
 cast-end : tie.Need-cast-end Inv-loop μ-loop
-cast-end c = omega (arith, c .shared-slice-known5 .given (c .before .before .loop .c + 1))
+cast-end c = omega (arith, c .shared-slice-known6 .given (c .before .before .loop .c + 1))
 
 add-end2 : tie.Need-add-end2 Inv-loop μ-loop
-add-end2 c = omega arith
+add-end2 c = omega (arith, left (c .before))
 
 mul-end2 : tie.Need-mul-end2 Inv-loop μ-loop
-mul-end2 c = omega (arith, start (c .before .before) .pre .0 .1 .0)
+mul-end2 c = omega (arith, start (c .before .before) .pre .0 .1 .0, left (c .before))
 
 shared-slice-read-end2 : tie.Need-shared-slice-read-end2 Inv-loop μ-loop
-shared-slice-read-end2 c = omega (arith, start (c .before .before .before) .pre .0 .1 .0)
+shared-slice-read-end2 c = omega (arith, start (c .before .before .before) .pre .0 .1 .0, left (c .before .before))
 
 cast-end2 : tie.Need-cast-end2 Inv-loop μ-loop
-cast-end2 c = omega (arith, c .shared-slice-known6 .given (c .before .before .before .loop .c + 1))
+cast-end2 c = omega (arith, c .shared-slice-known7 .given (c .before .before .before .loop .c + 1))
 
-mul-append-raised : tie.Need-mul-append-raised Inv-loop μ-loop
-mul-append-raised c = omega (arith, inside (c .before .before), inside2 (c .before .before), room (c .before .before))
-
-sub-append-raised : tie.Need-sub-append-raised Inv-loop μ-loop
-sub-append-raised c = omega (arith, inside (c .before .before), inside2 (c .before .before), room (c .before .before))
-
-part-append-raised-start : tie.Need-part-append-raised-start Inv-loop μ-loop
-part-append-raised-start c = omega (arith, inside (c .before .before), inside2 (c .before .before), room (c .before .before))
-
-part-append-raised-end : tie.Need-part-append-raised-end Inv-loop μ-loop
-part-append-raised-end c = omega (arith, inside (c .before .before), inside2 (c .before .before), room (c .before .before))
-
-mul-append-raised-2 : tie.Need-mul-append-raised-2 Inv-loop μ-loop
-mul-append-raised-2 c = omega (arith, inside (c .before .before .before), inside2 (c .before .before .before), room (c .before .before .before))
-
-sub-append-raised-2 : tie.Need-sub-append-raised-2 Inv-loop μ-loop
-sub-append-raised-2 c = omega (arith, inside (c .before .before .before), inside2 (c .before .before .before), room (c .before .before .before))
-
-part-append-raised-start-2 : tie.Need-part-append-raised-start-2 Inv-loop μ-loop
-part-append-raised-start-2 c = omega (arith, inside (c .before .before .before), inside2 (c .before .before .before), room (c .before .before .before))
-
-part-append-raised-end-2 : tie.Need-part-append-raised-end-2 Inv-loop μ-loop
-part-append-raised-end-2 c = omega (arith, inside (c .before .before .before), inside2 (c .before .before .before), room (c .before .before .before))
-
-add-append-raised : tie.Need-add-append-raised Inv-loop μ-loop
-add-append-raised c = omega (arith, inside (c .before .before .before .before), inside2 (c .before .before .before .before), room (c .before .before .before .before))
-
-mul-append-raised-3 : tie.Need-mul-append-raised-3 Inv-loop μ-loop
-mul-append-raised-3 c = omega (arith, inside (c .before .before .before .before), inside2 (c .before .before .before .before), room (c .before .before .before .before))
-
-sub-append-raised-3 : tie.Need-sub-append-raised-3 Inv-loop μ-loop
-sub-append-raised-3 c = omega (arith, inside (c .before .before .before .before), inside2 (c .before .before .before .before), room (c .before .before .before .before))
-
-part-append-raised-start-3 : tie.Need-part-append-raised-start-3 Inv-loop μ-loop
-part-append-raised-start-3 c = omega (arith, inside (c .before .before .before .before), inside2 (c .before .before .before .before), room (c .before .before .before .before))
-
-part-append-raised-end-3 : tie.Need-part-append-raised-end-3 Inv-loop μ-loop
-part-append-raised-end-3 c = omega (arith, inside (c .before .before .before .before), inside2 (c .before .before .before .before), room (c .before .before .before .before))
-
-append-raised-requires : tie.Need-append-raised-requires Inv-loop μ-loop
-append-raised-requires c κs =
-    let i = c .before .before .before .before .before in
-    let l = i .before in
-    let s = start l in
-    let a = s .args in
-    let end = getD (a .starts .now) (l .loop .c + 1) 0 in
-    let end2 = getD (a .starts2 .now) (l .loop .c + 1) 0 in (
-      omega (
-        arith,
-        inside i,
-        inside2 i,
-        room i,
-        part-length (a .rows .now) (l .loop .first) end (inside i .1),
-        part-length (a .rows2 .now) (l .loop .first2) end2 (inside2 i .1),
-        length-tail (l .loop .out) (l .loop .first + l .loop .first2),
-      ),
-      part-raisable (a .m) (a .rows2 .now) (l .loop .first2) end2 (inside2 i .1) (s .pre .1 .0),
-    )
+put-rows-requires : tie.Need-put-rows-requires Inv-loop μ-loop
+put-rows-requires c κs =
+    let w = within (c .before .before .before) in
+    ((w .0, w .1, w .2, w .3, omega (arith, w)), start (c .before .before .before .before) .pre .1 .0)
 
 add-c : tie.Need-add-c Inv-loop μ-loop
-add-c c = omega arith
+add-c c = omega (arith, left (c .before .before .before .before .before .before))
 
 loop-less : tie.Need-loop-less Inv-loop μ-loop
-loop-less c = omega arith
+loop-less c = omega (arith, left (c .before .before .before .before .before .before), c .before .before .before .before .before .before .before .loop .inv .1)
 
 loop-again : tie.Need-loop-again Inv-loop μ-loop
 loop-again c =
     let t = c .before .before in
-    let l = t .before .before .before .before .before .before .before in
-    let s = start l in
-    let a = s .args in
-    let k = l .loop .c in
-    let low = raised (a .m) (a .rows2 .now) in
-    let right2 = lower (start l) in
-    let room : length (a .rows .now) + length low ≤ length (a .out .now) = omega (arith, s .pre .1 .1, length-map (a .rows2 .now) (λ r. a .m + r)) in
-    let column =
-    ap (λ (rs : List ℕ). part (l .loop .first) (getD (a .starts .now) (k + 1) 0) (a .rows .now) ++ rs)
-    (part-raised (a .m) (a .rows2 .now) (l .loop .first2) (getD (a .starts2 .now) (k + 1) 0))
-    ∙ column-at (a .starts .now) (a .rows .now) (a .starts2 .now) low k (l .loop .first) (l .loop .first2) (l .loop .inv .3) (l .loop .inv .4) in
-    let more =
-    stack-column (a .n) (a .starts .now) (a .rows .now) (a .starts2 .now) low (s .pre .0 .0) right2 (a .out .now) k
-    (l .loop .first + l .loop .first2) _ (omega arith) room (omega (arith, l .loop .inv .3, l .loop .inv .4))
-    column (l .loop .inv .5) (t .append-raised .ensures) in (
-      omega arith,
+    let i = t .before .before .before .before in
+    let l = i .before in
+    let s = start l in (
+      omega (arith, left i),
       l .loop .inv .1,
-      ap length more
-          ∙ stacked-keeps (a .n) (a .starts .now) (a .rows .now) (a .starts2 .now) low (s .pre .0 .0) right2 (a .out .now) (k + 1) (omega arith) room,
-      refl,
-      refl,
-      more,
+      l .loop .inv .2,
+      stacking-more (s .args .n) (s .args .starts .now) (s .args .rows .now) (s .args .starts2 .now) (raised (s .args .m) (s .args .rows2 .now)) (s .args .out .now) (s .pre .0 .0) (lower s) (room s) (l .loop .inv .3) (left i)
+          (t .put-rows .ensures),
     )
 
+mul-end-2 : tie.Need-mul-end-2 Inv-loop μ-loop
+mul-end-2 c = omega (arith, start (c .before) .pre .0 .0 .0, c .before .loop .inv .1)
+
+shared-slice-read-end-2 : tie.Need-shared-slice-read-end-2 Inv-loop μ-loop
+shared-slice-read-end-2 c = omega (arith, start (c .before .before) .pre .0 .0 .0, c .before .before .loop .inv .1)
+
+cast-end-2 : tie.Need-cast-end-2 Inv-loop μ-loop
+cast-end-2 c = omega (arith, c .shared-slice-known8 .given (start (c .before .before) .args .n))
+
+put-rows-requires-2 : tie.Need-put-rows-requires-2 Inv-loop μ-loop
+put-rows-requires-2 c κs =
+    let w = fits (c .before .before .before) in
+    ((w .0, w .1, w .2, w .3, omega (arith, w)), start (c .before .before .before) .pre .1 .0)
+
 same-length : tie.Need-same-length Inv-loop μ-loop
-same-length c = c .before .loop .inv .2
+same-length c =
+    let t = c .before .before in
+    let e = t .before .before .before in
+    let l = e .before in
+    let s = start l in
+    stacking-done (s .args .n) (s .args .starts .now) (s .args .rows .now) (s .args .starts2 .now) (raised (s .args .m) (s .args .rows2 .now)) (s .args .out .now) (s .pre .0 .0) (lower s) (room s) (l .loop .inv .3) (l .loop .inv .0) (getD (s .args .starts2 .now) (s .args .n) 0) refl (omega (arith, e .loop-test .left, l .loop .inv .2))
+    (t .put-rows2 .ensures) .1
 
 returns : tie.Need-returns Inv-loop μ-loop
 returns c =
-    let l = c .before in
-    let e : l .loop .c ≡ start l .args .n = omega arith in
-    rw e at (l .loop .inv .5)
+    let t = c .before .before in
+    let e = t .before .before .before in
+    let l = e .before in
+    let s = start l in
+    stacking-done (s .args .n) (s .args .starts .now) (s .args .rows .now) (s .args .starts2 .now) (raised (s .args .m) (s .args .rows2 .now)) (s .args .out .now) (s .pre .0 .0) (lower s) (room s) (l .loop .inv .3) (l .loop .inv .0) (getD (s .args .starts2 .now) (s .args .n) 0) refl (omega (arith, e .loop-test .left, l .loop .inv .2))
+    (t .put-rows2 .ensures) .0
 
 pub stack-rows-spec : {M : Type 1} → statement M
 stack-rows-spec =
@@ -184,6 +156,9 @@ stack-rows-spec =
     (tie.spec
     Inv-loop
     μ-loop
+    mul-last
+    shared-slice-read-last
+    cast-last
     loop-holds
     add-end
     mul-end
@@ -193,22 +168,13 @@ stack-rows-spec =
     mul-end2
     shared-slice-read-end2
     cast-end2
-    mul-append-raised
-    sub-append-raised
-    part-append-raised-start
-    part-append-raised-end
-    mul-append-raised-2
-    sub-append-raised-2
-    part-append-raised-start-2
-    part-append-raised-end-2
-    add-append-raised
-    mul-append-raised-3
-    sub-append-raised-3
-    part-append-raised-start-3
-    part-append-raised-end-3
-    append-raised-requires
+    put-rows-requires
     add-c
     loop-less
     loop-again
+    mul-end-2
+    shared-slice-read-end-2
+    cast-end-2
+    put-rows-requires-2
     same-length
     returns)

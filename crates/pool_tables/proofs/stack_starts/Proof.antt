@@ -9,7 +9,7 @@ use borrow.Author.Needs.{needs}
 use Rattle.pool_tables.proofs.stack_starts.Statement.{statement}
 use Rattle.pool_tables.proofs.stack_starts.Tie as tie
 
--- start c of both
+-- the sum of both matrices' start c
 abbrev startSum : List ℕ → List ℕ → ℕ → ℕ
 startSum starts starts2 c = getD starts c 0 + getD starts2 c 0
 

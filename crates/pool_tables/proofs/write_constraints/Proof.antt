@@ -1,4 +1,3 @@
-use native.Mathlib.Omega.{arith}
 use borrow.Author.Needs.{needs}
 use Rattle.pool_tables.proofs.write_constraints.Statement.{statement}
 use Rattle.pool_tables.proofs.write_constraints.Tie as tie

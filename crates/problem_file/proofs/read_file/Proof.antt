@@ -2,12 +2,12 @@ use mathlib.Core.Path.{_≡_, refl, sym, _∙_}
 use Rattle.layout.specs.File.{countsIn}
 use Rattle.layout.specs.FileWords.{wordTables, readWordsRefusal}
 use Rattle.layout.specs.Calls.ReadFile.{FileOutputs, fileOutputs, fileRooms, outputsOf}
-use Rattle.file_shape.specs.Parts.{Stands}
+use Rattle.file_shape.specs.Parts.{WellShaped}
 use Rattle.file_tables.proofs.Rooms.{file-kept, RoomsFit, read-taken}
 use Rattle.problem_file.proofs.read_file.Statement.{statement}
 use Rattle.problem_file.proofs.read_file.Tie as tie
 
--- the outputs as they were lent
+-- the outputs as passed
 abbrev lent : tie.Start → FileOutputs
 lent s =
     let a = s .args in
@@ -21,7 +21,7 @@ start c = c .before .before .before .before .before .before .before .before .bef
 number : (c : tie.Else1) → let s = start (c .before) in 0 ≡ readWordsRefusal (s .args .words .now) (s .args .length) (fileRooms (lent s))
 number c = sym (c .if1 .left) ∙ c .before .refuse-read .ensures
 
-taken : (c : tie.Else1) → let s = start (c .before) in Stands (s .args .words .now) × RoomsFit (s .args .words .now) (lent s)
+taken : (c : tie.Else1) → let s = start (c .before) in WellShaped (s .args .words .now) × RoomsFit (s .args .words .now) (lent s)
 taken c = let s = start (c .before) in read-taken (s .args .words .now) (s .args .length) (lent s) (sym (number c))
 
 slice-aggregate-refuse-read : tie.Need-slice-aggregate-refuse-read

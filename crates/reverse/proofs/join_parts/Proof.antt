@@ -15,9 +15,8 @@ use Rattle.layout.specs.Checks.{noCone, namesItsCone}
 use Rattle.layout.specs.Answers.{joinedParts}
 use Rattle.layout.proofs.Laid.{sound-total}
 use Rattle.supernode_tree.specs.Reads.{patternAt}
-use Rattle.parts.specs.Ahead.{patternsAhead, ahead, Stands, meets, Knows}
+use Rattle.parts.specs.Ahead.{patternsAhead, ahead, Reached, meets, Knows}
 use Rattle.parts.specs.declared.Met.the-variants.{Whole, Cut}
-use Rattle.blocks.proofs.Patterns.{cliques-few}
 use Rattle.reverse_standard.specs.Routes.{Starts}
 use Rattle.reverse_standard.proofs.Starts.{start-here, starts-next, starts-append}
 use Rattle.reverse_blocks.specs.Joins.{downSizes}
@@ -32,6 +31,7 @@ use Rattle.reverse.proofs.Parts.{length-s-cut, length-z-cut}
 use Rattle.reverse.proofs.Walk.{Joins, joins-none, joins-more, joins-whole, joins-done, values-last, same-count, joined-s, joined-z}
 use native.Mathlib.Omega.{arith}
 use borrow.Author.Needs.{needs}
+use Rattle.layout.proofs.WordCounts.{cliques-few}
 use Rattle.reverse.proofs.join_parts.Statement.{statement}
 use Rattle.reverse.proofs.join_parts.Tie as tie
 
@@ -42,13 +42,13 @@ Inv-loop standard m cones count words entries s z s-out₀ z-out₀ counts₀ of
     Joins (sPart standard) m (valuesFrom (sPart standard) ps (drop (firstOf standard m) s)) s s-out₀ left row t s-out
     × Joins (zPart standard) m (valuesFrom (zPart standard) ps (drop (firstOf standard m) z)) z z-out₀ left row t z-out
     × ((length counts ≡ length counts₀) × Cleared standard counts) × (row + sum (map coneRows left) ≡ m) × (t + blockRowCount left ≡ length s) × (blockRowCount left ≤ 262144)
-    × Stands m cones words place × (length offsets ≡ 256) × (length vertices ≡ 256)
+    × Reached m cones words place × (length offsets ≡ 256) × (length vertices ≡ 256)
     × Starts standard entries entry t (blockSizes left) × (entry ≤ place .cone * 256)
 
 abbrev μ-loop : tie.MeasureT-loop
 μ-loop standard m cones count words entries s z s-out₀ z-out₀ counts₀ offsets₀ vertices₀ place₀ row₀ t₀ entry₀ s-out z-out counts offsets vertices place row t entry = length (ahead cones words place)
 
--- ---- numbers: of what is left, n is the next part's
+-- ---- numbers: n of those left belong to the next part
 
 sum-begins : (a b m : ℕ) → a ≡ b → b ≡ m → 0 + a ≡ m
 sum-begins a b m e h = omega arith
@@ -80,7 +80,7 @@ part-le a n k h = omega arith
 shorter : (x : Part) (ps left : List Part) → left ≡ x ∷ ps → suc (length ps) ≤ length left
 shorter x ps left e = omega (arith, ap length e)
 
--- the counts have room for the rows of a cone
+-- the table of counts is long enough for the rows of a cone
 counts-rows : (standard : Bool) (m n : ℕ) (cones a b : List ℕ) (p : Pattern) → n ≡ triangle (p .vertexCount) → n ≤ m → p .vertexCount ≤ 256 → length b ≡ length a
     → T (namesItsCone (records cones) p) → CountsCones standard m cones a → CountsRows standard n b
 counts-rows true m n cones a b p r h g e named room = omega (arith, r, room .0 p named (omega (arith, r)) g)
@@ -90,7 +90,7 @@ cleared-first : (standard : Bool) (m : ℕ) (cones counts : List ℕ) → Counts
 cleared-first true m cones counts room = room .1
 cleared-first false m cones counts room = tt
 
--- ---- a turn
+-- ---- one turn of the loop
 
 abbrev start : (l : tie.At-loop Inv-loop μ-loop) → tie.Start Inv-loop μ-loop
 start l = l .before .before .before .before .before .before .before .before .before .before .before
@@ -102,7 +102,7 @@ left l = let a = start l .args in ahead (a .cones .now) (a .words .now) (l .loop
 abbrev rowsOf : List Part → ℕ
 rowsOf ps = sum (map coneRows ps)
 
--- ---- a whole cone was met
+-- ---- the next cone is not decomposed
 
 abbrev loop-of : (c : tie.After-known-told Inv-loop μ-loop) → tie.At-loop Inv-loop μ-loop
 loop-of c = c .before .before .before .before
@@ -132,7 +132,7 @@ knows-whole c =
     let a = start l .args in
     subst (Knows (a .m) (a .cones .now) (a .words .now) (l .loop .place)) (c .before .met .given .1) (c .before .before .before .next .ensures .1)
 
--- its rows and its values
+-- the cone's rows and values
 rows-whole : (c : tie.After-known-told Inv-loop μ-loop) → loop-of c .loop .row + c .before .met .given .0 .0 ≤ start (loop-of c) .args .m
 rows-whole c =
     let l = loop-of c in
@@ -150,7 +150,7 @@ z-same s = same-count (s .args .standard) (s .pre .0)
 z-whole : (c : tie.After-known-told Inv-loop μ-loop) → loop-of c .loop .t + c .before .met .given .0 .0 ≤ length (start (loop-of c) .args .z .now)
 z-whole c = le-same (s-whole c) (z-same (start (loop-of c)))
 
--- where its values begin: the map has its entry, which tells it on the compact route
+-- the index of the cone's first value, which its map entry holds on the compact route
 starts-whole : (c : tie.After-known-told Inv-loop μ-loop)
     → let l = loop-of c in
     let a = start l .args in
@@ -167,7 +167,7 @@ began b =
     let a = start l .args in
     b .block-start .ensures ∙ start-here (a .standard) (a .map .now) (l .loop .entry) (l .loop .t) (rowCount (coneOf c)) (blockSizes (after-whole c)) (starts-whole c) .1
 
--- ---- a cut cone was met
+-- ---- the next cone is decomposed
 
 abbrev loop-of2 : (c : tie.After-known-told2 Inv-loop μ-loop) → tie.At-loop Inv-loop μ-loop
 loop-of2 c = c .before .before .before .before
@@ -197,7 +197,7 @@ knows-cut c =
     let a = start l .args in
     subst (Knows (a .m) (a .cones .now) (a .words .now) (l .loop .place)) (c .before .met2 .given .1) (c .before .before .before .next .ensures .1)
 
--- its pattern is one that names its cone
+-- the pattern names its cone
 named-cut : (c : tie.After-known-told2 Inv-loop μ-loop) → T (namesItsCone (records (start (loop-of2 c) .args .cones .now)) (patternOf c))
 named-cut c =
     let l = loop-of2 c in
@@ -206,7 +206,7 @@ named-cut c =
     cut-passes (namesItsCone (records (a .cones .now))) (q .cone) (q .row) (q .pattern) (drop (q .cone) (records (a .cones .now))) (patternsAhead (a .words .now) q)
     (q .cone) (q .row) (q .pattern) (patternOf c) (after-cut c) (met-cut c) (l .loop .inv .6 .named)
 
--- where the values of its blocks begin, and those of the parts after it
+-- the indices where the values of its blocks start, and those of the parts after it
 starts-cut : (c : tie.After-known-told2 Inv-loop μ-loop)
     → let l = loop-of2 c in
     let a = start l .args in
@@ -219,7 +219,7 @@ starts-cut c =
     starts-append (a .standard) (a .map .now) (l .loop .entry) (l .loop .t) (downSizes (patternOf c)) (blockSizes (after-cut c))
     (subst (λ (ps : List Part). Starts (a .standard) (a .map .now) (l .loop .entry) (l .loop .t) (blockSizes ps)) (met-cut c) (l .loop .inv .9))
 
--- its cliques are few
+-- there are at most 256 cliques
 cliques-cut : (c : tie.After-known-told2 Inv-loop μ-loop) → cliqueCount (patternOf c) ≤ 256
 cliques-cut c = let h = knows-cut c in le-trans (cliques-few (patternOf c) (h .1)) (h .2)
 
@@ -232,7 +232,7 @@ more-entries entry k cone next h l e = omega arith
 few-cut : (c : tie.After-known-told2 Inv-loop μ-loop) → blockRows (patternOf c) ≤ 262144
 few-cut c = let l = loop-of2 c in first-few (blockRows (patternOf c)) (blockRowCount (after-cut c)) (blockRowCount (left l)) 262144 (ap blockRowCount (met-cut c)) (l .loop .inv .5)
 
--- its rows and its values
+-- the cone's rows and values
 abbrev met-of : (r : tie.After-cone-rows Inv-loop μ-loop) → tie.After-known-told2 Inv-loop μ-loop
 met-of r = r .before
 
@@ -249,7 +249,7 @@ s-cut c =
     let k = blockRows (patternOf c) in
     sum-fits (l .loop .t) k k (blockRowCount (after-cut c)) (blockRowCount (left l)) (length (start l .args .s .now)) (l .loop .inv .4) (ap blockRowCount (met-cut c)) refl
 
--- ---- the needs
+-- ---- the proof obligations
 
 start-requires : tie.Need-start-requires Inv-loop μ-loop
 start-requires c κs = c .before .before .before .before .before .before .before .before .pre .0 .sound

@@ -1,4 +1,3 @@
-use borrow.Author.Needs.{needs}
 use Rattle.reverse.proofs.many_rows.Statement.{statement}
 use Rattle.reverse.proofs.many_rows.Tie as tie
 

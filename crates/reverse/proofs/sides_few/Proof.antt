@@ -27,7 +27,7 @@ abbrev μ-loop : tie.MeasureT-loop
 room : (c : tie.In-loop Inv-loop μ-loop) → c .before .loop .i * 3 + 3 ≤ length (c .before .before .before .before .args .cones .now)
 room c = inside (c .before .before .before .before .args .cones .now) (c .before .loop .i) (omega arith)
 
--- a record was looked at
+-- the test made is that of the record
 tested : (c : tie.After-side-few Inv-loop μ-loop) → let l = c .before .before .before .before in
     c .side-few .result ≡ few (recordAt (l .before .before .before .args .cones .now) (l .loop .i))
 tested c =

@@ -9,7 +9,7 @@ use Rattle.layout.specs.Reverse.{addAt, addColumns}
 use Rattle.layout.proofs.Triangles.{triangle-suc, triangle-mono}
 use Rattle.layout.proofs.Walks.{one-more, one-less}
 use Rattle.blocks.proofs.Columns.{columnsBelow, columns-more, length-more}
-use Rattle.reverse_blocks.specs.Joins.{zAt, joinZ, Counts, Countable, columnRows}
+use Rattle.reverse_blocks.specs.Joins.{zAt, joinZ, Counts, Countable, blockColumnRows}
 use Rattle.reverse_blocks.proofs.Laws.{walk-joined, counts-none, counts-joined, countable-left, by-same}
 use Rattle.reverse_blocks.proofs.Room.{same-le, both-kept, count-ends, fits-count, fits-next}
 use native.Mathlib.Omega.{arith}
@@ -46,17 +46,17 @@ value-in t j n h = omega arith
 column-in : (k n m : ℕ) → 0 + k ≤ n → m ≡ n → k ≤ m
 column-in k n m h e = omega arith
 
--- ---- a turn
+-- ---- one turn of the loop
 
 abbrev start : (l : tie.At-loop Inv-loop μ-loop) → tie.Start Inv-loop μ-loop
 start l = l .before .before .before .before .before .before .before
 
--- the rows done, and those of column j
+-- the rows joined so far, and those of column j
 abbrev done : (l : tie.At-loop Inv-loop μ-loop) → List ℕ
 done l = columnsBelow (pairRow 0) (start l .args .vertices .now) (l .loop .j)
 
 abbrev column : (l : tie.At-loop Inv-loop μ-loop) → List ℕ
-column l = columnRows (start l .args .vertices .now) (l .loop .j)
+column l = blockColumnRows (start l .args .vertices .now) (l .loop .j)
 
 -- there are values for column j
 fits : (i : tie.In-loop Inv-loop μ-loop) → i .before .loop .t + (i .before .loop .j + 1) ≤ start (i .before) .args .first + triangle (length (start (i .before) .args .vertices .now))
@@ -68,7 +68,7 @@ s-fits i = le-trans (fits i) (start (i .before) .pre .1 .0 .0)
 z-fits : (i : tie.In-loop Inv-loop μ-loop) → i .before .loop .t + (i .before .loop .j + 1) ≤ length (start (i .before) .args .z .now)
 z-fits i = le-trans (fits i) (start (i .before) .pre .1 .0 .1)
 
--- where column j was joined
+-- the state after column j was joined
 abbrev turn : tie.After-slice-known6 Inv-loop μ-loop → tie.After-join-column Inv-loop μ-loop
 turn c = c .before .before .before .before .before .before
 

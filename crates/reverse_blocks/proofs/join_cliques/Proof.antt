@@ -10,7 +10,7 @@ use Rattle.layout.specs.Triangle.{triangle}
 use Rattle.layout.specs.Blocks.{pairs, pairRow}
 use Rattle.layout.specs.Reverse.{addAt, addColumns}
 use Rattle.layout.proofs.Pairs.{length-pairs}
-use Rattle.blocks.specs.Cliques.{rowsHere, Stands}
+use Rattle.blocks.specs.Cliques.{rowsHere, SortableClique}
 use Rattle.blocks.specs.Columns.{ColumnsFit}
 use Rattle.blocks.proofs.Cliques.{vertices-rise, vertices-few, vertices-fit}
 use Rattle.blocks.proofs.Orders.{up-more, up-room}
@@ -18,7 +18,7 @@ use Rattle.layout.proofs.Buffers.{take-none}
 use Rattle.layout.proofs.Walks.{one-more, one-less}
 use Rattle.reverse_blocks.specs.Joins.{zAt, joinZ, Counts, Countable, blockRowsOf}
 use Rattle.layout.proofs.Starts.{join-before}
-use Rattle.reverse_standard.specs.Routes.{inOrder, startOf, HasEntry}
+use Rattle.reverse_standard.specs.Routes.{inRouteOrder, startOf, HasEntry}
 use Rattle.reverse_standard.proofs.Starts.{start-at}
 use Rattle.reverse_blocks.proofs.Laws.{walk-joined, counts-none, counts-joined, countable-left, length-order, standing-order, by-same}
 use Rattle.reverse_blocks.proofs.Room.{same-le, le-same, lt-same, both-kept, fits-next}
@@ -28,7 +28,7 @@ use Rattle.reverse_blocks.proofs.join_cliques.Tie as tie
 
 abbrev Inv-loop : tie.InvT-loop
 Inv-loop standard words ordering offsets entries entry first s z s-out₀ z-out₀ counts₀ vertices₀ t₀ i₀ s-out z-out counts vertices t i =
-    let B = join (rowsHere 0 words ordering) (take i (inOrder standard offsets)) in
+    let B = join (rowsHere 0 words ordering) (take i (inRouteOrder standard offsets)) in
     (i ≤ length offsets) × (t ≡ first + length B) × (length vertices ≡ length vertices₀)
     × (length s-out ≡ length s-out₀) × (length z-out ≡ length z-out₀) × (length counts ≡ length counts₀)
     × (s-out ≡ addColumns B (drop first s) s-out₀) × (z-out ≡ joinZ standard B (drop first z) z-out₀) × Counts standard B counts₀ counts
@@ -53,19 +53,19 @@ rows-here f t d k n e h = omega arith
 sum-le : (t b k n : ℕ) → b ≡ k → t + k ≤ n → t + b ≤ n
 sum-le t b k n e h = omega arith
 
--- ---- a turn
+-- ---- one turn of the loop
 
 abbrev start : (l : tie.At-loop Inv-loop μ-loop) → tie.Start Inv-loop μ-loop
 start l = l .before .before .before .before .before .before .before .before .before .before .before
 
--- the offsets in order, and a clique's rows
+-- the offsets in the order of the route, and the rows of a clique
 abbrev order : tie.Start Inv-loop μ-loop → List ℕ
-order s = inOrder (s .args .standard) (s .args .offsets .now)
+order s = inRouteOrder (s .args .standard) (s .args .offsets .now)
 
 abbrev rowsAt : tie.Start Inv-loop μ-loop → ℕ → List ℕ
 rowsAt s = rowsHere 0 (s .args .words .now) (s .args .ordering .now)
 
--- the rows done, and those of this turn's clique
+-- the rows joined so far, and those of this turn's clique
 abbrev done : (l : tie.At-loop Inv-loop μ-loop) → List ℕ
 done l = join (rowsAt (start l)) (take (l .loop .i) (order (start l)))
 
@@ -75,7 +75,7 @@ here l = rowsAt (start l) (getD (order (start l)) (l .loop .i) 0)
 inside : (i : tie.In-loop Inv-loop μ-loop) → i .before .loop .i < length (order (start (i .before)))
 inside i = let a = start (i .before) .args in lt-same (i .loop-test .taken) (length-order (a .standard) (a .offsets .now))
 
--- there are values for them
+-- there are values for this clique's rows
 fits : (i : tie.In-loop Inv-loop μ-loop)
     → i .before .loop .t + length (here (i .before)) ≤ start (i .before) .args .first + length (join (rowsAt (start (i .before))) (order (start (i .before))))
 fits i =
@@ -90,7 +90,7 @@ s-fits i = le-trans (fits i) (start (i .before) .pre .1 .0 .0)
 z-fits : (i : tie.In-loop Inv-loop μ-loop) → i .before .loop .t + length (here (i .before)) ≤ length (start (i .before) .args .z .now)
 z-fits i = le-same (s-fits i) (start (i .before) .pre .1 .0 .1)
 
--- where its values begin: the map has its entry, which tells it on the compact route
+-- the index of the clique's first value, which its map entry holds on the compact route
 told : (i : tie.In-loop Inv-loop μ-loop)
     → let l = i .before in
     let a = start l .args in
@@ -107,20 +107,20 @@ told i =
 began : (b : tie.After-block-start Inv-loop μ-loop) → b .block-start .result ≡ b .before .before .loop .t
 began b = b .block-start .ensures ∙ told (b .before) .1
 
--- the clique stands at its offset
-stands : (o : tie.After-offset-at Inv-loop μ-loop) → let s = start (o .before .before .before) in Stands (s .args .words .now) (s .args .ordering .now) (o .offset-at .result)
+-- the clique is complete at its offset
+stands : (o : tie.After-offset-at Inv-loop μ-loop) → let s = start (o .before .before .before) in SortableClique (s .args .words .now) (s .args .ordering .now) (o .offset-at .result)
 stands o =
     let i = o .before .before in
     let l = i .before in
     let s = start l in
     let a = s .args in
-    subst (Stands (a .words .now) (a .ordering .now)) (sym (o .offset-at .ensures))
+    subst (SortableClique (a .words .now) (a .ordering .now)) (sym (o .offset-at .ensures))
     (standing-order (a .standard) (a .words .now) (a .ordering .now) (a .offsets .now) (s .pre .0 .0) (l .loop .i) (inside i))
 
 buffer : (l : tie.At-loop Inv-loop μ-loop) → 256 ≤ length (l .loop .vertices)
 buffer l = le-same (start l .pre .1 .1 .1 .1 .0) (l .loop .inv .2)
 
--- the clique's vertices are those at the offset
+-- the vertices written are those of the clique at the offset
 abbrev at-clique : tie.After-clique-vertices Inv-loop μ-loop → tie.In-loop Inv-loop μ-loop
 at-clique v = v .before .before .before .before
 
@@ -136,7 +136,7 @@ block-is v =
 size : (v : tie.After-clique-vertices Inv-loop μ-loop) → triangle (length (found v)) ≡ length (here (at-clique v .before))
 size v = sym (length-map (pairs (found v)) (pairRow 0) ∙ length-pairs (found v)) ∙ ap length (block-is v)
 
--- where its block was joined
+-- the state after the clique's block was joined
 abbrev turn : tie.After-slice-known8 Inv-loop μ-loop → tie.After-join-block Inv-loop μ-loop
 turn c = c .before .before .before .before .before .before
 

@@ -13,7 +13,7 @@ use Rattle.layout.specs.Reverse.{addAt, addColumns}
 use Rattle.layout.specs.Blocks.{pairRow}
 use Rattle.blocks.proofs.Columns.{rises-le, length-column, row-at}
 use Rattle.layout.proofs.Buffers.{take-none}
-use Rattle.reverse_blocks.specs.Joins.{zAt, joinZ, Counts, columnRows}
+use Rattle.reverse_blocks.specs.Joins.{zAt, joinZ, Counts, blockColumnRows}
 use Rattle.reverse_blocks.proofs.Laws.{z-stored, walk-stored, counts-none, counts-next, countable-less, countable-left, by-same}
 use Rattle.reverse_blocks.proofs.Room.{lt-same, fits-count, fits-next, fits-value, fits-number, fits-row, fits-index}
 use native.Mathlib.Omega.{arith}
@@ -22,14 +22,14 @@ use Rattle.reverse_blocks.proofs.join_column.Tie as tie
 
 abbrev Inv-loop : tie.InvT-loop
 Inv-loop standard vertices j t s z s-out₀ z-out₀ counts₀ c row i₀ s-out z-out counts i =
-    let L = take i (columnRows vertices j) in
+    let L = take i (blockColumnRows vertices j) in
     (i ≤ j + 1) × (length s-out ≡ length s-out₀) × (length z-out ≡ length z-out₀) × (length counts ≡ length counts₀)
     × (s-out ≡ addColumns L (drop t s) s-out₀) × (z-out ≡ joinZ standard L (drop t z) z-out₀) × Counts standard L counts₀ counts
 
 abbrev μ-loop : tie.MeasureT-loop
 μ-loop standard vertices j t s z s-out₀ z-out₀ counts₀ c row i₀ s-out z-out counts i = j + 1 - i
 
--- ---- numbers: c is the column's vertex, d the turn's, o the row
+-- ---- numbers: c is the column's vertex, d this turn's vertex, o the row
 
 vertex-next : (c n : ℕ) → triangle (suc c) ≤ n → n ≤ 65536 → Fits w32 (c + 1)
 vertex-next c n h l = let g : c + 1 ≤ 65536 = omega arith in fits-le g (fits-lit tt)
@@ -61,16 +61,16 @@ value-in t i j n h l = omega arith
 turn-counts : (i j n : ℕ) → n ≡ i → i ≤ j → n + 1 ≤ suc j
 turn-counts i j n e h = omega arith
 
--- ---- a turn
+-- ---- one turn of the loop
 
 abbrev start : (l : tie.At-loop Inv-loop μ-loop) → tie.Start Inv-loop μ-loop
 start l = l .before .before .before .before .before .before .before .before
 
--- the column's rows, and the row of this turn
+-- the rows of the column
 abbrev rows : (l : tie.At-loop Inv-loop μ-loop) → List ℕ
-rows l = columnRows (start l .args .vertices .now) (start l .args .j)
+rows l = blockColumnRows (start l .args .vertices .now) (start l .args .j)
 
--- the same as the code has it
+-- the row of this turn, as the code computes it
 abbrev coded : (l : tie.At-loop Inv-loop μ-loop) → ℕ
 coded l =
     let vs = start l .args .vertices .now in
@@ -104,7 +104,7 @@ z-inside i = lt-same (inside i) (i .before .loop .inv .2 ∙ start (i .before) .
 o-fits : (i : tie.In-loop Inv-loop μ-loop) → Fits w64 (coded (i .before) * 8)
 o-fits i = fits-value (le-of-lt (inside i)) (start (i .before) .good .1 .1 .1 .1 .1 .1 .0)
 
--- the turn's vertex, and its values
+-- this turn's vertex and values exist
 here : (i : tie.In-loop Inv-loop μ-loop) → i .before .loop .i < length (start (i .before) .args .vertices .now)
 here i = lt-of-le-of-lt (i .loop-test .taken) (start (i .before) .pre .0 .1)
 
@@ -139,7 +139,7 @@ mul-row c =
 loop-holds : tie.Need-loop-holds Inv-loop μ-loop
 loop-holds c =
     let a = c .before .before .before .before .before .before .before .args in
-    let L = columnRows (a .vertices .now) (a .j) in
+    let L = blockColumnRows (a .vertices .now) (a .j) in
     let none = sym (take-none L) in (
       zero-le,
       refl,
@@ -216,7 +216,7 @@ count-column-requires c κs =
     (countable-left (a .standard) (length (a .s-out .now)) (suc (a .j)) 1 (take n (rows l)) (a .counts .now) (l .loop .counts) (l .loop .inv .3)
     (turn-counts n (a .j) (length (take n (rows l))) done (i .loop-test .taken)) (l .loop .inv .6) (s .pre .1 .1))
 
--- where the turn's column was counted
+-- the state after this turn's column was counted
 abbrev counted : tie.After-slice-known6 Inv-loop μ-loop → tie.After-count-column Inv-loop μ-loop
 counted c = c .before .before
 

@@ -14,13 +14,13 @@ use Rattle.layout.specs.Reverse.{addColumns}
 use Rattle.supernode_tree.specs.Reads.{patternAt}
 use Rattle.supernode_tree.specs.declared.Pattern.{Pattern as Head}
 use Rattle.supernode_tree.specs.declared.PatternRead.the-variants.{Pattern as Found}
-use Rattle.supernode_tree.proofs.Cliques.{right-head}
+use Rattle.supernode_tree.proofs.Cliques.{right-head, starts-before}
 use Rattle.blocks.specs.Cliques.{rowsHere}
 use Rattle.blocks.proofs.Offsets.{StandAt, cliques-here, cliques-count, count-few, ordering-part, stand-here, all-stand}
 use Rattle.reverse_blocks.specs.Joins.{joinZ, Counts, Countable, ownRows}
-use Rattle.reverse_standard.specs.Routes.{inOrder, Starts}
+use Rattle.reverse_standard.specs.Routes.{inRouteOrder, Starts}
 use Rattle.reverse_blocks.proofs.Laws.{rows-order, starts-order, length-own, by-same}
-use Rattle.reverse_blocks.proofs.Room.{fits-number, sum-above}
+use Rattle.reverse_blocks.proofs.Room.{fits-number}
 use Rattle.reverse_blocks.proofs.join_pattern.Statement.{statement}
 use Rattle.reverse_blocks.proofs.join_pattern.Tie as tie
 
@@ -33,7 +33,7 @@ pattern s = patternAt (s .args .words .now) (s .args .at)
 abbrev head : tie.After-here → Head
 head h = h .here .result
 
--- as many cliques as were read, and few
+-- there are as many cliques as were read, at most 256
 count : (h : tie.After-here) → cliqueCount (pattern (start h)) ≡ head h .«clique_count»
 count h =
     let s = start h in
@@ -46,7 +46,7 @@ few h =
 
 -- the ordering is a part of the words
 ordering-ends : (h : tie.After-here) → head h .ordering ≤ head h .cliques
-ordering-ends h = sum-above (head h .ordering) (head h .cliques) (head h .«vertex_count») (h .here .ensures .1 .1)
+ordering-ends h = starts-before (head h .«vertex_count») (h .here .ensures .1 .1)
 
 ordering-here : (h : tie.After-here) → take (head h .cliques - head h .ordering) (drop (head h .ordering) (start h .args .words .now)) ≡ pattern (start h) .ordering
 ordering-here h =
@@ -70,19 +70,19 @@ standing o =
     let s = start h in
     stand-here (s .args .words .now) (s .args .at) (Found (head h)) (s .pre .0 .0) (h .here .ensures .0) (head h) refl (offsets o) (o .clique-offsets .ensures)
 
--- the rows of the cliques at the offsets are the pattern's
+-- the rows of the cliques at the offsets are those of the pattern
 abbrev joined : tie.After-clique-offsets → List ℕ
 joined o =
     let h = read o in
     let s = start h in
-    join (rowsHere 0 (s .args .words .now) (take (head h .cliques - head h .ordering) (drop (head h .ordering) (s .args .words .now)))) (inOrder (s .args .standard) (take (head h .«clique_count») (offsets o)))
+    join (rowsHere 0 (s .args .words .now) (take (head h .cliques - head h .ordering) (drop (head h .ordering) (s .args .words .now)))) (inRouteOrder (s .args .standard) (take (head h .«clique_count») (offsets o)))
 
 rows : (o : tie.After-clique-offsets) → let s = start (read o) in joined o ≡ ownRows (s .args .standard) (pattern s)
 rows o =
     let h = read o in
     let s = start h in
     let n = head h .«clique_count» in
-    ap (λ (ordering : List ℕ). join (rowsHere 0 (s .args .words .now) ordering) (inOrder (s .args .standard) (take n (offsets o)))) (ordering-here h)
+    ap (λ (ordering : List ℕ). join (rowsHere 0 (s .args .words .now) ordering) (inRouteOrder (s .args .standard) (take n (offsets o)))) (ordering-here h)
     ∙ rows-order (s .args .standard) (pattern s) (s .pre .0 .0) (s .args .words .now) (offsets o) n (count h) (room o) (standing o)
 
 size : (o : tie.After-clique-offsets) → length (joined o) ≡ blockRows (pattern (start (read o)))
@@ -150,7 +150,7 @@ join-cliques-requires c κs =
             (
               s .pre .1 .1 .1 .1 .0 .1,
               (
-                subst (λ (ordering : List ℕ). Starts (a .standard) (a .map .now) (a .entry) (a .first) (map (λ o. length (rowsHere 0 (a .words .now) ordering o)) (inOrder (a .standard) (take (head h .«clique_count») (offsets o))))) (sym (ordering-here h))
+                subst (λ (ordering : List ℕ). Starts (a .standard) (a .map .now) (a .entry) (a .first) (map (λ o. length (rowsHere 0 (a .words .now) ordering o)) (inRouteOrder (a .standard) (take (head h .«clique_count») (offsets o))))) (sym (ordering-here h))
                     (starts-order (a .standard) p (s .pre .0 .0) (a .words .now) (offsets o) (head h .«clique_count») (count h) (room o) (standing o) (a .map .now) (a .entry) (a .first) (s .pre .1 .1 .1 .1 .1 .0)),
                 few-entries (a .entry) (length (take (head h .«clique_count») (offsets o))) (head h .«clique_count») (s .pre .1 .1 .1 .1 .1 .1) (length-take-le (head h .«clique_count») (offsets o) (room o)) (few h),
               ),
@@ -160,7 +160,7 @@ join-cliques-requires c κs =
       ),
     )
 
--- where the cliques were joined
+-- the state after the cliques were joined
 abbrev end : tie.After-slice-known10 → tie.After-join-cliques
 end c = c .before .before .before .before .before .before .before .before
 

@@ -8,7 +8,7 @@ use Rattle.reverse_cones.proofs.average.Tie as tie
 abbrev start : tie.Then1 → tie.Start
 start t = t .before .before .before
 
--- where the averages were taken
+-- earlier states: the call that takes the averages, and the branch before it
 abbrev taken : tie.After-slice-known4 → tie.After-take-averages
 taken c = c .before .before .before .before
 

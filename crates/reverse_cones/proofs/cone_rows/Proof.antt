@@ -25,7 +25,7 @@ square-fits v h = let g : v * (v + 1) ≤ 257 * 257 = mul-le-mul {n₂ = 257} {m
 here-requires : tie.Need-here-requires
 here-requires c κs = let s = c .before in right-head (s .args .words .now) (s .args .at) (s .pre .0 .tree)
 
--- as many vertices as were read
+-- the vertex count is the number read
 vertices : (h : tie.After-here) → let a = h .before .before .args in patternAt (a .words .now) (a .at) .vertexCount ≡ h .here .result .«vertex_count»
 vertices h =
     let s = h .before .before in

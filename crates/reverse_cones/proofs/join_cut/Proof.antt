@@ -15,14 +15,14 @@ use Rattle.reverse_cones.proofs.join_cut.Tie as tie
 abbrev here : tie.Start → Pattern
 here s = patternAt (s .args .words .now) (s .args .at)
 
--- the rows begin in their slices
+-- the first row is within each output
 s-rows : (s : tie.Start) → s .args .row ≤ length (s .args .s-out .now)
 s-rows s = begins (s .args .row) (s .args .n) (length (s .args .s-out .now)) (s .pre .1 .0 .0)
 
 z-rows : (s : tie.Start) → s .args .row ≤ length (s .args .z-out .now)
 z-rows s = begins (s .args .row) (s .args .n) (length (s .args .z-out .now)) (s .pre .1 .0 .1)
 
--- where each part is lent
+-- earlier states, from which the slices passed are taken
 abbrev start : tie.After-slice-known5 → tie.Start
 start c = c .before .before .before .before .before .before .before .before .before
 
@@ -76,7 +76,7 @@ join-rows-requires c κs =
       ),
     )
 
--- after the rows were joined
+-- earlier states, once the rows are joined
 abbrev end : tie.After-slice-known10 → tie.After-join-rows
 end c = c .before .before .before .before .before .before .before .before .before .before
 

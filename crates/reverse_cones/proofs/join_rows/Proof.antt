@@ -32,7 +32,7 @@ zeros-as old new k n e h l = e ∙ filled old k zero64 h ∙ ap (λ (m : ℕ). r
 sizes : (s : tie.Start) → length (s .args .s-out .now) ≡ length (s .args .z-out .now)
 sizes s = s .pre .1 .0 .0 ∙ sym (s .pre .1 .0 .1)
 
--- where the outputs were filled
+-- earlier states: the start and the calls that fill the outputs
 abbrev start : tie.After-fill-values → tie.Start
 start f = f .before .before .before .before .before .before .before .before .before .before .before
 
@@ -51,7 +51,7 @@ z-zeros f =
     let s = start (s-filled f) in
     zeros-as (s .args .z-out .now) (f .fill-values2 .last .0) (length (s .args .s-out .now)) (triangle (here s .vertexCount)) (f .fill-values2 .ensures) (sizes s) (s .pre .1 .0 .1)
 
--- after the pattern was joined: as many rows as the cone has, and the counts
+-- once the pattern is joined: the outputs have as many rows as the cone, and the counts
 abbrev z-filled : tie.After-join-pattern → tie.After-fill-values2
 z-filled j = j .before .before .before .before .before .before .before .before
 
@@ -66,7 +66,7 @@ size j =
     let f = z-filled j in
     kept-twice (j .join-pattern .kept .1 .1 .1 .1 .1 .1 .1 .1 .1 .0) (f .fill-values2 .kept .0) (sym (sizes (start (s-filled f))))
 
--- the counts have room
+-- there is a count for each row
 room : (j : tie.After-join-pattern) → CountsRows (start (s-filled (z-filled j)) .args .standard) (length (z-joined j)) (counted j)
 room j =
     let s = start (s-filled (z-filled j)) in
@@ -105,7 +105,7 @@ join-pattern-requires c κs =
 average-requires : tie.Need-average-requires
 average-requires c κs = room (c .before .before .before .before .before .before .before .before .before .before .before .before)
 
--- after the averages
+-- earlier states, once the averages are taken
 abbrev averaged : tie.After-slice-known14 → tie.After-average
 averaged c = c .before .before .before .before
 

@@ -4,11 +4,10 @@ use mathlib.Core.Bool.{Bool}
 use lib.ListN.{length}
 use Rattle.reverse_standard.specs.Routes.{startOf, HasEntry}
 use native.Mathlib.Omega.{arith}
-use borrow.Author.Needs.{needs}
 use Rattle.reverse_standard.proofs.block_start.Statement.{statement}
 use Rattle.reverse_standard.proofs.block_start.Tie as tie
 
--- the compact route's map has the entry
+-- on the compact route the map has all words of the entry
 inside : (c : tie.Else1) → let a = c .before .args in a .entry * 5 + 5 ≤ length (a .map .now)
 inside c = let s = c .before in subst (λ (b : Bool). HasEntry b (s .args .map .now) (s .args .entry)) (c .if1 .left) (s .pre)
 

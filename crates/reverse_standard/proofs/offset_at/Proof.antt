@@ -3,7 +3,7 @@ use mathlib.Core.Path.{ap, sym, _∙_}
 use mathlib.Core.Logic.{⊎-elim}
 use mathlib.Core.Bool.{Bool}
 use lib.ListN.{length, getD}
-use Rattle.reverse_standard.specs.Routes.{inOrder}
+use Rattle.reverse_standard.specs.Routes.{inRouteOrder}
 use Rattle.reverse_standard.proofs.Routes.{reverse-at}
 use native.Mathlib.Omega.{arith}
 use borrow.Author.Needs.{needs}
@@ -32,8 +32,8 @@ returns c =
     let os = s .args .offsets .now in
     let i = s .args .i in
     ⊎-elim
-    (λ w. rw (w .1) (ap (λ (b : Bool). getD (inOrder b os) i 0) (sym (w .0 .taken))))
-    (λ w. rw (w .1) (sym (ap (λ (b : Bool). getD (inOrder b os) i 0) (w .0 .left) ∙ reverse-at os i (s .pre))))
+    (λ w. rw (w .1) (ap (λ (b : Bool). getD (inRouteOrder b os) i 0) (sym (w .0 .taken))))
+    (λ w. rw (w .1) (sym (ap (λ (b : Bool). getD (inRouteOrder b os) i 0) (w .0 .left) ∙ reverse-at os i (s .pre))))
     (j .if1 .came)
 
 pub offset-at-spec : {M : Type 1} → statement M

@@ -20,7 +20,7 @@ Inv-loop z₀ counts₀ i₀ z counts i =
 abbrev μ-loop : tie.MeasureT-loop
 μ-loop z₀ counts₀ i₀ z counts i = length z - i
 
--- row i as it stands, averaged, is what is to stand there
+-- averaging the current z at row i gives the value to be written there
 next : (l : tie.At-loop Inv-loop μ-loop)
     → let a = l .before .before .before .args in
     shared (getD (l .loop .counts) (l .loop .i) 0) (getD (l .loop .z) (l .loop .i) nan) ≡ averagedBy (a .counts .now) (a .z .now) (l .loop .i)
@@ -30,7 +30,7 @@ next l =
     ap₂ shared (l .loop .inv .4 i .1 (le-refl i))
     (ap (λ (z : List Float). getD z i nan) (l .loop .inv .2) ∙ mapped-next (averagedBy (a .counts .now) (a .z .now)) (a .z .now) i nan)
 
--- the row has a count
+-- row i has a count
 room : (k : tie.In-loop Inv-loop μ-loop) → k .before .loop .i < length (k .before .loop .counts)
 room k = let l = k .before in omega (arith, k .loop-test .taken, l .loop .inv .1, l .loop .inv .3, l .before .before .before .pre)
 
@@ -67,7 +67,7 @@ slice-write-counts c = room (c .before .before .before)
 add-i : tie.Need-add-i Inv-loop μ-loop
 add-i c = search needs
 
--- z after the store is as long as before
+-- z keeps its length when the average is stored
 kept : (c : tie.After-row-average Inv-loop μ-loop)
     → let l = c .before .before .before .before in
     length (set (l .loop .z) (l .loop .i) (c .row-average .result)) ≡ length (l .loop .z)

@@ -9,7 +9,7 @@ use Rattle.layout.proofs.Starts.{length-written}
 use Rattle.layout.proofs.Buffers.{written-after, length-tail}
 use Rattle.sparsevector.specs.Values.{codeValue}
 use Rattle.right_sides.specs.Sides.{movedSides}
-use Rattle.right_sides.proofs.Laws.{movedSide, moved-more, length-moved, run-ends}
+use Rattle.right_sides.proofs.Laws.{moved-more, length-moved, run-ends}
 use native.Mathlib.Omega.{arith}
 use borrow.Author.Needs.{needs}
 use Rattle.right_sides.proofs.move_sides.Statement.{statement}
@@ -22,7 +22,7 @@ Inv-loop out₀ codes m sides count k₀ start₀ at₀ out k start at =
 abbrev μ-loop : tie.MeasureT-loop
 μ-loop out₀ codes m sides count k₀ start₀ at₀ out k start at = count - k
 
--- side k and its run of rows end inside
+-- side k lies within the list of sides, and its augmented values within the output
 side-inside : (c : tie.In-loop Inv-loop μ-loop)
     → let l = c .before in
     let a = l .before .before .before .before .args in

@@ -9,8 +9,6 @@ use Rattle.layout.specs.Answers.{joinedParts}
 use Rattle.codes.specs.Codes.{cutCode, RowsInside}
 use Rattle.compact_constraints.proofs.Laws.{codes-count, front}
 use Rattle.right_sides.specs.Sides.{movedSides}
-use native.Mathlib.Omega.{arith}
-use borrow.Author.Needs.{needs}
 use Rattle.right_sides.proofs.sides_by_table.Statement.{statement}
 use Rattle.right_sides.proofs.sides_by_table.Tie as tie
 
@@ -26,7 +24,7 @@ start w = w .before .before .before .before .before .before .before
 abbrev filled : tie.After-write-table → List ℕ
 filled w = w .write-table .last .1 .1 .1 .1 .1 .0
 
--- the codes stand at the front of their table
+-- the codes are a prefix of the table
 taken : (w : tie.After-write-table) → (take (start w .args .rows) (filled w) ≡ codes (start w)) × (start w .args .rows ≤ length (filled w))
 taken w = let s = start w in front (codes s) (s .args .table .now) (as-many s) (s .pre .1 .0 .2) (w .write-table .ensures .1)
 

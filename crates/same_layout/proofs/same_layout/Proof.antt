@@ -6,7 +6,9 @@ use borrow.Author.Tests.{not-false}
 use Rattle.layout.specs.Problem.{Problem, problem}
 use mathlib.Core.Logic.{⊎-elim}
 use Rattle.layout.specs.Answers.{orElse, problemRefusal, sameLayout}
-use Rattle.same_layout.proofs.Agreement.{unchecked, second-checked, first-refused, refused, no-room, answered}
+use Rattle.agreement.proofs.Alike.{unchecked}
+use Rattle.same_layout.proofs.Agreement.{refused, no-room, answered}
+use Rattle.checks.proofs.Order.{first-refused, next-given}
 use Rattle.same_layout.proofs.same_layout.Statement.{statement}
 use Rattle.same_layout.proofs.same_layout.Tie as tie
 
@@ -22,23 +24,23 @@ given2 s =
     (s .args .a-starts2 .now) (s .args .a-rows2 .now) (s .args .a-values2 .now) (s .args .b2 .now)
     (s .args .cones2 .now) (s .args .alphas2 .now) (s .args .count2) (s .args .words2 .now)
 
--- before the first test
+-- the state before the first check
 abbrev start : tie.After-check-problem → tie.Start
 start c = c .before .before .before .before .before .before .before .before .before .before .before .before .before .before .before .before .before .before .before .before .before .before .before .before
 
--- the first problem passes, and so the second decides: k is what its checks answer
+-- where the first problem passes, the number is the result k of the second problem's checks
 decides : (c : tie.Else1) (k : ℕ) → let s = start (c .before) in
     k ≡ problemRefusal (given2 s) → k ≡ orElse (problemRefusal (given s)) (problemRefusal (given2 s))
 decides c k e =
     let s = start (c .before) in
-    second-checked (problemRefusal (given s)) (problemRefusal (given2 s)) (c .before .check-problem .result) k
+    next-given (problemRefusal (given s)) (problemRefusal (given2 s)) (c .before .check-problem .result) k
     (c .before .check-problem .ensures) (c .if1 .left) e
 
--- what the comparison answered
+-- the comparison's result is whether the layouts are the same
 agreed : (c : tie.After-layouts-agree) → let s = start (c .before .before) in c .layouts-agree .result ≡ sameLayout (given s) (given2 s)
 agreed c = c .layouts-agree .ensures
 
--- what the second problem's checks answer, made or not
+-- the result of the second problem's checks, whether they were made or not
 second : (c : tie.Joined2) → let s = start (c .before .before .before .before) in c .if2 .refusal ≡ problemRefusal (given2 s)
 second c =
     let a = c .before in
@@ -46,8 +48,8 @@ second c =
     let s = start (f .before) in
     ⊎-elim
     (λ w. w .2 ∙ w .1 .ensures)
-    (λ w. w .1 ∙ unchecked (given s) (given2 s) (a .before .layouts-agree .result) (agreed (a .before))
-    (sym (a .checked-alike .ensures) ∙ not-false _ (w .0 .left)) (sym (f .before .check-problem .ensures) ∙ f .if1 .left))
+    (λ w. w .1 ∙ unchecked (given s) (given2 s) (a .before .layouts-agree .result) (a .checked-alike .result) (f .before .check-problem .result)
+    (agreed (a .before)) (a .checked-alike .ensures) (not-false _ (w .0 .left)) (f .before .check-problem .ensures) (f .if1 .left))
     (c .if2 .came)
 
 check-problem-requires : tie.Need-check-problem-requires

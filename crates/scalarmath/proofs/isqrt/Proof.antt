@@ -19,7 +19,7 @@ v-of c = c .before .args .v
 first : (c : tie.Else1 Inv-loop μ-loop) → (0 < guess (v-of c)) × (guess (v-of c) ≤ 65536) × Reaches (v-of c) (guess (v-of c))
 first c = first-guess (v-of c) (c .before .fits .v .fits)
 
--- the guess after a turn
+-- the next guess
 abbrev next : (c : tie.In-loop Inv-loop μ-loop) → ℕ
 next c = (c .before .loop .r + c .before .loop .q) / 2
 

@@ -12,7 +12,7 @@ use Rattle.layout.proofs.Buffers.{set-written}
 use Rattle.scalarmath.proofs.pair_back.Statement.{statement}
 use Rattle.scalarmath.proofs.pair_back.Tie as tie
 
--- what the checks leave, stated before the call: its answer's definitions are too large for `omega` to read
+-- what holds after the checks, stated before the call: the definitions in the call's result are too large for `omega` to read
 within : (e : tie.Else2) → e .before .before .before .args .index ≤ 32895
 within e = omega arith
 

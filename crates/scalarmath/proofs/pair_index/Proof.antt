@@ -8,7 +8,7 @@ use Rattle.layout.proofs.Buffers.{set-written}
 use Rattle.scalarmath.proofs.pair_index.Statement.{statement}
 use Rattle.scalarmath.proofs.pair_index.Tie as tie
 
--- what the checks leave, stated before the call
+-- what holds after the checks, stated before the call
 within : (e : tie.Else3) → let s = e .before .before .before .before in (s .args .i ≤ 255) × (s .args .j ≤ 255)
 within e = (omega arith, omega arith)
 

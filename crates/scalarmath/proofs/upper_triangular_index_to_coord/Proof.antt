@@ -6,7 +6,7 @@ use Rattle.scalarmath.proofs.Columns.{AtColumn, rootColumn, root-column
 use Rattle.scalarmath.proofs.upper_triangular_index_to_coord.Statement.{statement}
 use Rattle.scalarmath.proofs.upper_triangular_index_to_coord.Tie as tie
 
--- the column that the root gives is the index's
+-- the column computed from the root is the column of the index
 found : (c : tie.After-isqrt) → AtColumn (c .before .args .index) (rootColumn (c .isqrt .result))
 found c = root-column (c .before .args .index) (c .isqrt .result) (c .before .pre) (c .isqrt .ensures .0) (c .isqrt .ensures .1)
 

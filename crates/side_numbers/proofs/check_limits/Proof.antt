@@ -1,6 +1,5 @@
 use mathlib.Core.Path.{sym, ap, _∙_}
 use mathlib.Core.Bool.{Bool, cond}
-use native.Mathlib.Omega.{arith}
 use borrow.Author.Needs.{needs}
 use Rattle.side_numbers.proofs.check_limits.Statement.{statement}
 use Rattle.side_numbers.proofs.check_limits.Tie as tie

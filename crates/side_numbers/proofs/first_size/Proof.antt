@@ -1,5 +1,4 @@
 use borrow.Author.Tests.{le-leb, lt-leb}
-use native.Mathlib.Omega.{arith}
 use Rattle.side_numbers.proofs.first_size.Statement.{statement}
 use Rattle.side_numbers.proofs.first_size.Tie as tie
 

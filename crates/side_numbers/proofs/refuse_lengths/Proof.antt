@@ -4,7 +4,6 @@ use mathlib.Core.Path.{_≡_, sym, _∙_}
 use Rattle.checks.proofs.Order.{first-given}
 use Rattle.side_numbers.proofs.Laws.{sides-length, sides-late}
 use native.Mathlib.Omega.{arith}
-use borrow.Author.Needs.{needs}
 use Rattle.side_numbers.proofs.refuse_lengths.Statement.{statement}
 use Rattle.side_numbers.proofs.refuse_lengths.Tie as tie
 

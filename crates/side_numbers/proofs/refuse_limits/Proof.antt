@@ -3,8 +3,6 @@ use mathlib.Core.Path.{_≡_, sym, ap, _∙_}
 use Rattle.layout.specs.Answers.{orElse}
 use Rattle.checks.proofs.Order.{first-given}
 use Rattle.side_numbers.proofs.Laws.{limits-length, limits-late}
-use native.Mathlib.Omega.{arith}
-use borrow.Author.Needs.{needs}
 use Rattle.side_numbers.proofs.refuse_limits.Statement.{statement}
 use Rattle.side_numbers.proofs.refuse_limits.Tie as tie
 

@@ -1,6 +1,4 @@
 use borrow.Author.Tests.{le-leb, lt-leb}
-use native.Mathlib.Omega.{arith}
-use borrow.Author.Needs.{needs}
 use Rattle.side_numbers.proofs.up_to.Statement.{statement}
 use Rattle.side_numbers.proofs.up_to.Tie as tie
 

@@ -2,8 +2,6 @@ use mathlib.Core.Path.{_≡_, sym, ap, _∙_}
 use mathlib.Core.Bool.{Bool, cond, _&&_}
 use lib.ListN.{getD}
 use borrow.Author.Tests.{le-leb, lt-leb}
-use Rattle.layout.specs.Answers.{roomy}
-use Rattle.side_numbers.specs.Order.{withAnother}
 use Rattle.side_numbers.proofs.Laws.{another-room}
 use native.Mathlib.Omega.{arith}
 use borrow.Author.Needs.{needs}

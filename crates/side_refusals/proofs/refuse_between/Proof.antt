@@ -1,17 +1,15 @@
 use Prim.Native.Nat.{ℕ, _≤_}
-use native.Mathlib.Nat.{le-trans}
 use mathlib.Core.Path.{_≡_, sym, ap, ap₂, subst, _∙_}
 use mathlib.Core.Bool.{Bool, cond, _&&_}
 use mathlib.Core.List.{List, [], _∷_}
 use lib.ListN.{length, replicate}
-use lib.Dec.{ltb, lit≤}
+use lib.Dec.{lit≤}
 use Rattle.layout.specs.Problem.{Problem, problem, compact}
 use Rattle.layout.specs.Checks.{Checked, layout, check9, check10, check, firstFailing}
 use Rattle.layout.specs.Answers.{orElse, problemRefusal, sizes}
 use Rattle.layout.specs.Between.{limitsFailing}
 use Rattle.layout.proofs.OtherSide.{covers}
 use Rattle.layout.proofs.Between.{limits-iff}
-use Rattle.checks.proofs.Checked.{problem-checked}
 use Rattle.chordal_info.proofs.Routes.{counted-rows}
 use Rattle.decomp.proofs.Refusals.{counts-fit, sizes-written}
 use Rattle.side_numbers.specs.Order.{withAnother, limitsOrder}
@@ -20,6 +18,7 @@ use Rattle.side_numbers.proofs.Laws.{limits-passed}
 use Rattle.side_refusals.proofs.Limits.{nines, only-covers, stopped-early, stopped-late, accepted-limits, by-rooms}
 use native.Mathlib.Omega.{arith}
 use borrow.Author.Needs.{needs}
+use Rattle.layout.proofs.Accepted.{problem-checked}
 use Rattle.side_refusals.proofs.refuse_between.Statement.{statement}
 use Rattle.side_refusals.proofs.refuse_between.Tie as tie
 
@@ -40,7 +39,7 @@ ordered c =
     let a = start (c .before) .args in
     c .refuse-limits .ensures ∙ ap (λ (r : ℕ). limitsOrder r (a .m) (a .low .now) (a .high .now)) (c .before .check-problem .ensures)
 
--- they passed
+-- checks 1 to 7 and 16 have passed
 passed : (c : tie.Else1)
     → let s = start (c .before .before) in
     limitsOrder (problemRefusal (given s)) (s .args .m) (s .args .low .now) (s .args .high .now) ≡ 0
@@ -55,7 +54,7 @@ both c =
 checked : (c : tie.Else1) → Checked (given (start (c .before .before)))
 checked c = problem-checked (given (start (c .before .before))) (both c .0)
 
--- checks 9 and 10
+-- the number of checks 9 and 10
 answered : (f : tie.After-refuse-limits-rows)
     → let s = start (f .before .before .before .before .before .before) in
     f .refuse-limits-rows .result ≡ firstFailing (check 9 (check9 compact (given s) && covers (given s) (s .args .high .now)) ∷ check 10 (check10 compact (s .args .m) (layout (given s))) ∷ [])
@@ -76,7 +75,7 @@ answered f =
     (r .rows-refusal .ensures ∙ counted-rows compact (a .m) (layout p) (d .result .rows) (d .result .overlaps) (d .ensures .0, d .ensures .1 .0)))
     ∙ nines (check9 compact p) (covers p (a .high .now)) (check10 compact (a .m) (layout p))
 
--- nothing up to 10 is refused
+-- no check up to 10 fails
 ok : (c : tie.Else2)
     → let s = start (c .before .before .before .before .before .before .before) in
     limitsFailing (given s) (s .args .low .now) (s .args .high .now) ≡ 0
@@ -85,7 +84,7 @@ ok c =
     let s = start (e .before .before) in
     accepted-limits (given s) (s .args .low .now) (s .args .high .now) (passed e) (c .before .refuse-limits-rows .result) (answered (c .before)) (c .if2 .left)
 
--- what the outputs of the cut with low need
+-- the required lengths of the outputs of the cut with low
 needed : (c : tie.After-cut-needs)
     → let s = start (c .before .before .before .before .before .before .before .before .before) in
     c .cut-needs .last .1 .1 .1 .1 .1 .1 .1 .1 .1 .0 ≡ sizes compact (given s)

@@ -5,8 +5,6 @@ use lib.Seq.{length-take-le}
 use Rattle.layout.specs.Problem.{Problem, problem}
 use Rattle.layout.specs.Sides.{side}
 use Rattle.side_refusals.proofs.Many.{first-front, stopped-count, count-right}
-use native.Mathlib.Omega.{arith}
-use borrow.Author.Needs.{needs}
 use Rattle.side_refusals.proofs.refuse_many.Statement.{statement}
 use Rattle.side_refusals.proofs.refuse_many.Tie as tie
 
@@ -16,7 +14,7 @@ given s =
     problem (a .n) (a .m) (a .p-starts .now) (a .p-rows .now) (a .p-values .now) (a .q .now) (a .a-starts .now) (a .a-rows .now)
     (a .a-values .now) (a .sides .now) (a .cones .now) (a .alphas .now) (a .pattern-count) (a .words .now)
 
--- the first side
+-- the first side is a prefix of the list
 front : (c : tie.After-first-size)
     → let a = c .before .before .before .before .before .before .before .before .before .before .before .before .before .before .before .args in
     (c .first-size .result ≤ length (a .sides .now)) × (take (c .first-size .result) (a .sides .now) ≡ side (a .m) 0 (a .sides .now))

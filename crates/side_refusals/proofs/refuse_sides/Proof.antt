@@ -2,14 +2,13 @@ use Prim.Native.Nat.{ℕ, _-_, _*_, _≤_, _<_}
 use mathlib.Core.Path.{_≡_, sym, ap, ap₂, subst, _∙_}
 use mathlib.Core.Bool.{Bool, cond}
 use mathlib.Core.List.{List}
-use lib.ListN.{length, getD, set, replicate}
-use lib.Dec.{T, ltb, lit≤}
+use lib.ListN.{length, getD, replicate}
+use lib.Dec.{lit≤}
 use lib.Ieee.{Float}
 use Rattle.layout.specs.Problem.{Problem, problem, compact}
 use Rattle.layout.specs.Checks.{Checked, layout, check9, check10, routeChecks, firstFailing, refusal}
-use Rattle.layout.specs.Answers.{orElse, roomy, problemRefusal, sizes}
-use Rattle.layout.specs.Sides.{side, withSide}
-use Rattle.checks.proofs.Checked.{problem-checked}
+use Rattle.layout.specs.Answers.{orElse, problemRefusal, sizes}
+use Rattle.layout.specs.Sides.{withSide}
 use Rattle.covered_rows.specs.Covered.{entriesRight}
 use Rattle.chordal_info.specs.Sizes.{entriesKept, Fitting}
 use Rattle.chordal_info.proofs.Routes.{counted-rows}
@@ -20,10 +19,11 @@ use Rattle.side_numbers.proofs.Laws.{sides-passed}
 use Rattle.side_refusals.proofs.Many.{nine-ten, further-covers, sides-few, stopped-early, stopped-late, accepted-first, by-others}
 use native.Mathlib.Omega.{arith}
 use borrow.Author.Needs.{needs}
+use Rattle.layout.proofs.Accepted.{problem-checked}
 use Rattle.side_refusals.proofs.refuse_sides.Statement.{statement}
 use Rattle.side_refusals.proofs.refuse_sides.Tie as tie
 
--- the problem with a right side, and that whose b is the whole list
+-- the problem with b as its right side, and the problem with the whole list of sides as b
 abbrev withThis : tie.Start → List Float → Problem
 withThis s b =
     let a = s .args in
@@ -33,7 +33,7 @@ withThis s b =
 abbrev given : tie.Start → Problem
 given s = withThis s (s .args .sides .now)
 
--- that with the first side
+-- the problem with the first side as b
 abbrev single : tie.Start → Problem
 single s = withSide (given s) (s .args .sides .now) 0
 
@@ -50,7 +50,7 @@ ordered c =
     c .refuse-lengths .ensures
     ∙ ap (λ (r : ℕ). sidesOrder r (a .m) (a .count) (length (a .sides .now))) (c .before .check-problem .ensures ∙ ap (λ (b : List Float). problemRefusal (withThis s b)) (s .pre .2))
 
--- they passed
+-- checks 1 to 7 have passed
 passed : (c : tie.Else1)
     → let s = start (c .before .before) in
     sidesOrder (problemRefusal (single s)) (s .args .m) (s .args .count) (length (s .args .sides .now)) ≡ 0
@@ -67,7 +67,7 @@ both c =
 checked : (c : tie.Else1) → Checked (single (start (c .before .before)))
 checked c = problem-checked (single (start (c .before .before))) (both c .0)
 
--- checks 9 and 10 of the first side
+-- the number of checks 9 and 10 on the first side
 answered : (f : tie.After-refuse-first)
     → let s = start (f .before .before .before .before .before .before) in
     f .refuse-first .result ≡ firstFailing (routeChecks compact (single s))
@@ -100,7 +100,7 @@ fit k =
     let d = k .before .before .before .before .get-decomposed-dim-and-overlaps in
     counts-fit compact (single (start (k .before .before .before .before .before .before .before))) (ok k) (d .result .rows) (d .result .overlaps) (d .result .cones) (d .ensures .0) (d .ensures .1 .0) (d .ensures .1 .1)
 
--- what the outputs of the first side's cut need
+-- the required lengths of the outputs of the cut with the first side
 needed : (c : tie.After-cut-needs)
     → let s = start (c .before .before .before .before .before .before .before .before .before) in
     c .cut-needs .last .1 .1 .1 .1 .1 .1 .1 .1 .1 .0 ≡ sizes compact (single s)

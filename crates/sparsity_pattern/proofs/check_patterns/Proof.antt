@@ -11,7 +11,7 @@ use borrow.Author.Needs.{needs}
 use Rattle.sparsity_pattern.proofs.check_patterns.Statement.{statement}
 use Rattle.sparsity_pattern.proofs.check_patterns.Tie as tie
 
--- the check's four tests
+-- the tests of check 5 in order
 tests : (s : tie.Start) → let ws = s .args .words .now in
     let ps = patterns (s .args .count) ws in
     let a = endsRight (readPatterns (s .args .count) ws) in

@@ -7,7 +7,7 @@ use borrow.Author.Tests.{le-leb, lt-leb}
 use Rattle.layout.specs.Patterns.{Pattern, patterns, readPattern}
 use Rattle.layout.specs.Checks.{originsRise}
 use Rattle.layout.proofs.Tests.{and-true, and-false}
-use Rattle.supernode_tree.specs.Reads.{whole, patternAt, headOf}
+use Rattle.supernode_tree.specs.Reads.{isWhole, patternAt, headOf}
 use Rattle.supernode_tree.proofs.Cliques.{head-of-whole, pattern-head}
 use Rattle.supernode_tree.proofs.Patterns.{patternsFrom, WholePatterns, patterns-whole, patterns-start, patterns-none, pattern-first, patterns-first, whole-later, patterns-next}
 use Rattle.sparsity_pattern.proofs.Sparsity.{risesFrom, rises-start}
@@ -27,8 +27,8 @@ Inv-loop count words least₀ at₀ left₀ least at left =
 abbrev μ-loop : tie.MeasureT-loop
 μ-loop count words least₀ at₀ left₀ least at left = left
 
--- a pattern is left, and its head was read
-here-at : (c : tie.In-loop Inv-loop μ-loop) → whole (readPattern (drop (c .before .loop .at) (c .before .before .before .args .words .now))) ≡ true
+-- a pattern is left, and its words are complete
+here-at : (c : tie.In-loop Inv-loop μ-loop) → isWhole (readPattern (drop (c .before .loop .at) (c .before .before .before .args .words .now))) ≡ true
 here-at c = let l = c .before in pattern-first (l .before .before .args .words .now) (l .loop .at) (l .loop .left) (c .loop-test .taken) (l .loop .inv .0)
 
 origin-at : (c : tie.After-here Inv-loop μ-loop)

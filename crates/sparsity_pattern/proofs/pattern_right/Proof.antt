@@ -14,7 +14,7 @@ use borrow.Author.Needs.{needs}
 use Rattle.sparsity_pattern.proofs.pattern_right.Statement.{statement}
 use Rattle.sparsity_pattern.proofs.pattern_right.Tie as tie
 
--- the head was read: what is asked of the pattern, by its offsets
+-- after reading the pattern's head: the test of the pattern in terms of its offsets
 right-at : (c : tie.After-here) → let s = c .before .before .before in
     let ws = s .args .words .now in
     let p = c .here .result in

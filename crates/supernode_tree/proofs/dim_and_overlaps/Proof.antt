@@ -10,7 +10,7 @@ use Rattle.layout.specs.Patterns.{blockSize}
 use Rattle.layout.proofs.Tests.{passes}
 use Rattle.supernode_tree.specs.Reads.{Whole, cliquesFrom, cliqueOf}
 use Rattle.supernode_tree.proofs.Cliques.{first-whole, whole-next, from-next, from-none, separator-size, block-size}
-use Rattle.supernode_tree.specs.Sizes.{atMost, dimOf, overlapsOf}
+use Rattle.supernode_tree.specs.Sizes.{blockAtMost, dimOf, overlapsOf}
 use Rattle.supernode_tree.proofs.Sizes.{triangle-small, all-cons, sum-cons, sum-none}
 use native.Mathlib.Omega.{arith}
 use Rattle.supernode_tree.proofs.dim_and_overlaps.Statement.{statement}
@@ -18,7 +18,7 @@ use Rattle.supernode_tree.proofs.dim_and_overlaps.Tie as tie
 
 abbrev Inv-loop : tie.InvT-loop
 Inv-loop words first count dim₀ overlaps₀ at₀ left₀ dim overlaps at left =
-    Whole words at left × (all (atMost 256) (cliquesFrom words at left) ≡ true)
+    Whole words at left × (all (blockAtMost 256) (cliquesFrom words at left) ≡ true)
     × (dim + sum (map dimOf (cliquesFrom words at left)) ≡ sum (map dimOf (cliquesFrom words first count)))
     × (overlaps + sum (map overlapsOf (cliquesFrom words at left)) ≡ sum (map overlapsOf (cliquesFrom words first count)))
     × (dim + left * 32896 ≤ count * 32896) × (overlaps + left * 32896 ≤ count * 32896)
@@ -42,7 +42,7 @@ module _ (c : tie.After-here Inv-loop μ-loop) where
       let l = c .before .before in
       sym (whole-next (l .before .before .args .words .now) (l .loop .at) (l .loop .left) _ (c .here .ensures .0) (c .before .loop-test .taken) (c .here .result) refl) ∙ l .loop .inv .0
 
-  -- its sizes
+  -- the sizes of its block and separator
   sizes : let ws = c .before .before .before .before .args .words .now in
       let q = c .here .result in
       (blockSize (cliqueOf ws q) ≡ q .«snode_count» + q .«separator_count») × (length (cliqueOf ws q .separator) ≡ q .«separator_count»)
@@ -53,10 +53,10 @@ module _ (c : tie.After-here Inv-loop μ-loop) where
       let q = c .here .result in
       let inside = c .here .ensures .1 in
       let e = block-size ws (l .loop .at) q inside in
-      let small = all-cons (atMost 256) (cliqueOf ws q) (cliquesFrom ws (q .next) (l .loop .left - 1)) _ first-of (l .loop .inv .1) .0 in
+      let small = all-cons (blockAtMost 256) (cliqueOf ws q) (cliquesFrom ws (q .next) (l .loop .left - 1)) _ first-of (l .loop .inv .1) .0 in
       (e, separator-size ws (l .loop .at) q inside, omega (arith, leb→le (blockSize (cliqueOf ws q)) 256 (passes _ small)))
 
--- its rows
+-- the rows of its block are at most 32896
 block-rows : (c : tie.After-triangular-number Inv-loop μ-loop) → c .triangular-number .result ≤ 32896
 block-rows c = omega (arith, c .triangular-number .ensures, triangle-small (c .before .get-nblk .result) (omega (arith, sizes (c .before .before), c .before .get-nblk .ensures)))
 
@@ -104,7 +104,7 @@ loop-again c =
     let others = cliquesFrom ws (q .next) (l .loop .left - 1) in
     let cs = cliquesFrom ws (l .loop .at) (l .loop .left) in (
       next-whole k,
-      all-cons (atMost 256) (cliqueOf ws q) others cs (first-of k) (l .loop .inv .1) .1,
+      all-cons (blockAtMost 256) (cliqueOf ws q) others cs (first-of k) (l .loop .inv .1) .1,
       sum-cons dimOf (cliqueOf ws q) others cs (l .loop .dim) (t .triangular-number .result) _ (first-of k) (t .triangular-number .ensures ∙ ap triangle (t .before .get-nblk .ensures ∙ sym (sizes k .0))) (l .loop .inv .2),
       sum-cons overlapsOf (cliqueOf ws q) others cs (l .loop .overlaps) (c .triangular-number2 .result) _ (first-of k) (c .triangular-number2 .ensures ∙ ap triangle (sym (sizes k .1))) (l .loop .inv .3),
       omega (arith, block-rows t),

@@ -4,13 +4,13 @@ use Rattle.layout.specs.Patterns.{Pattern, withCliques}
 use Rattle.layout.specs.Blocks.{blockRows, overlapRows}
 use Rattle.supernode_tree.specs.Reads.{patternAt, headOf, Whole, cliquesFrom}
 use Rattle.supernode_tree.proofs.Cliques.{right-head, right-whole, pattern-whole}
-use Rattle.supernode_tree.specs.Sizes.{atMost}
+use Rattle.supernode_tree.specs.Sizes.{blockAtMost}
 use Rattle.supernode_tree.proofs.Sizes.{blocks-small}
 use Rattle.supernode_tree.proofs.get_decomposed_dim_and_overlaps.Statement.{statement}
 use Rattle.supernode_tree.proofs.get_decomposed_dim_and_overlaps.Tie as tie
 
 module _ (c : tie.After-here) where
-  -- the cliques are whole
+  -- the cliques are complete
   whole-at : let p = c .here .result in Whole (c .before .before .args .words .now) (p .cliques) (p .«clique_count»)
   whole-at =
       let s = c .before .before in
@@ -33,7 +33,7 @@ dim-and-overlaps-requires : tie.Need-dim-and-overlaps-requires
 dim-and-overlaps-requires c κs =
     let s = c .before .before in
     let p = patternAt (s .args .words .now) (s .args .at) in
-    (whole-at c, sym (ap (λ (p : Pattern). all (atMost 256) (p .cliques)) (pattern-at c)) ∙ blocks-small p 256 (s .pre .0) (s .pre .1))
+    (whole-at c, sym (ap (λ (p : Pattern). all (blockAtMost 256) (p .cliques)) (pattern-at c)) ∙ blocks-small p 256 (s .pre .0) (s .pre .1))
 
 returns : tie.Need-returns
 returns c =

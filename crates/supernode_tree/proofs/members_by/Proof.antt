@@ -11,11 +11,11 @@ use native.Mathlib.Omega.{arith}
 use Rattle.supernode_tree.proofs.members_by.Statement.{statement}
 use Rattle.supernode_tree.proofs.members_by.Tie as tie
 
--- as many cliques are passed as the offset is away from the first
+-- the offset used is that of clique c or of one before it
 passed-le : (c : tie.Else1) → let s = c .before .before .before in s .args .c / s .args .step * s .args .step ≤ s .args .c
 passed-le c = let s = c .before .before .before in div-mul-le-self (s .args .c) (s .args .step)
 
--- and that offset is one of the table
+-- and that clique is one of the pattern's
 passed-less : (c : tie.Else1) → let s = c .before .before .before in s .args .c / s .args .step * s .args .step < s .args .count
 passed-less c = omega (arith, passed-le c)
 
@@ -57,7 +57,7 @@ cliques-next-requires c κs =
     (after-whole (s .args .words .now) (s .args .first) (s .args .count) (s .pre .0) (i * s .args .step) at (omega (arith, passed-less e))
     (s .pre .1 .1 i (passed-less e)))
 
--- the clique is found
+-- the offset reached is that of clique c
 found : (c : tie.After-cliques-next) → let s = c .before .before .before .before .before in
     drop (c .cliques-next .result) (s .args .words .now) ≡ after (s .args .words .now) (s .args .first) (s .args .c)
 found c =
@@ -69,7 +69,7 @@ found c =
     rw q at (after-more ws (s .args .first) (s .args .count) (s .pre .0) (i * s .args .step) (getD (s .args .offsets .now) i 0) (omega (arith, passed-less e))
     (s .pre .1 .1 i (passed-less e)) (s .args .c - i * s .args .step) (c .cliques-next .result) (omega (arith, passed-le e)) (c .cliques-next .ensures))
 
--- it is one of those that stand whole
+-- clique c is one of the pattern's
 less : (c : tie.After-cliques-next) → let s = c .before .before .before .before .before in s .args .c < s .args .count
 less c = c .before .before .if1 .left
 

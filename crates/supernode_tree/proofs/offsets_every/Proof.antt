@@ -15,7 +15,7 @@ Inv-loop words first count step out₀ at₀ left₀ i₀ out at left i =
 abbrev μ-loop : tie.MeasureT-loop
 μ-loop words first count step out₀ at₀ left₀ i₀ out at left i = left
 
--- the cliques that are left stand whole
+-- the cliques left are complete
 whole-left : (l : tie.At-loop Inv-loop μ-loop) → Whole (l .before .before .before .args .words .now) (l .loop .at) (l .loop .left)
 whole-left l =
     let s = l .before .before .before in

@@ -24,7 +24,7 @@ Inv-loop cones alphas count next₀ i₀ next i =
 abbrev μ-loop : tie.MeasureT-loop
 μ-loop cones alphas count next₀ i₀ next i = count - i
 
--- how many α a record took, and that they were left
+-- the number of α values that the record takes, and that at least that many were left
 counted : (c : tie.After-alpha-count Inv-loop μ-loop) → let l = c .before .before .before .before .before .before .before in
     let s = l .before .before .before .before in
     let r = recordAt (s .args .cones .now) (l .loop .i) in

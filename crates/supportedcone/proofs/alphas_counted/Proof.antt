@@ -26,7 +26,7 @@ Inv-loop cones count records₀ next₀ i₀ next i =
 abbrev μ-loop : tie.MeasureT-loop
 μ-loop cones count records₀ next₀ i₀ next i = records₀ - i
 
--- how many α a record takes
+-- the number of α values that the record takes
 counted : (c : tie.After-alpha-count Inv-loop μ-loop) → let l = c .before .before .before .before .before .before in
     let s = l .before .before .before in
     c .alpha-count .result ≡ alphaCount (recordAt (s .args .cones .now) (l .loop .i))

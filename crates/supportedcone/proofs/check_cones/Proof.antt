@@ -28,7 +28,7 @@ Inv-loop m cones count rows₀ i₀ rows i =
 abbrev μ-loop : tie.MeasureT-loop
 μ-loop m cones count rows₀ i₀ rows i = count - i
 
--- a record was read
+-- the record at i reads as a kind, and the cone read represents it
 is-read : (c : tie.After-known-told Inv-loop μ-loop) → let l = c .before .before .before .before .before in
     let r = recordAt (l .before .before .before .before .args .cones .now) (l .loop .i) in
     (reads r ≡ true) × (recordOf (c .before .cone .given .0 .0) ≡ r)
@@ -37,7 +37,7 @@ is-read c =
     told-is (c .before .cone .given .0 .0) (recordAt (l .before .before .before .before .args .cones .now) (l .loop .i)) _
     (ap told (sym (c .before .cone .given .1)) ∙ c .before .before .before .cone-at .ensures)
 
--- its rows, and how many there may be
+-- its row count, with bounds on it and on the number of records
 counted : (c : tie.After-nvars Inv-loop μ-loop) → let l = c .before .before .before .before .before .before in
     let s = l .before .before .before .before in
     let r = recordAt (s .args .cones .now) (l .loop .i) in
@@ -48,7 +48,7 @@ counted c =
     let ws = s .args .cones .now in
     (c .nvars .ensures ∙ ap rowCount (is-read (c .before) .1), rows-bounded (recordAt ws (l .loop .i)) (bounded-at ws (l .loop .i) (s .pre)), few-records ws (s .pre))
 
--- all records were read
+-- after the loop all records have been read: only their row total is left to compare
 left-over : (c : tie.After-loop Inv-loop μ-loop) → let s = c .before .before .before .before .before in
     conesRead (s .args .m) (s .args .cones .now) ≡ eqb (rowTotal (records (s .args .cones .now))) (s .args .m)
 left-over c =

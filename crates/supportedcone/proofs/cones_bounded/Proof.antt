@@ -23,7 +23,7 @@ room : (c : tie.In-loop Inv-loop μ-loop)
     → c .before .loop .i * 3 + 3 ≤ length (c .before .before .before .before .before .args .cones .now)
 room c = inside (c .before .before .before .before .before .args .cones .now) (c .before .loop .i) (omega arith)
 
--- a record was looked at
+-- the result of the test on record i
 tested : (c : tie.After-sizes-bounded Inv-loop μ-loop) → let l = c .before .before .before .before .before in
     c .sizes-bounded .result ≡ sizesBounded (recordAt (l .before .before .before .before .args .cones .now) (l .loop .i))
 tested c =

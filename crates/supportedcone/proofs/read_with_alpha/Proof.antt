@@ -13,7 +13,7 @@ use borrow.Author.Needs.{needs}
 use Rattle.supportedcone.proofs.read_with_alpha.Statement.{statement}
 use Rattle.supportedcone.proofs.read_with_alpha.Tie as tie
 
--- the exponent that a power cone is given: the first that is left
+-- the exponent passed on: the first α value not yet used, or 0.0 if there is none
 first-left : (c : tie.Joined1) → c .if1 .alpha ≡ getD (c .before .before .before .args .alphas .now) 0 zero64
 unfolding ofBits
 first-left c =
@@ -23,7 +23,7 @@ first-left c =
     (λ w. w .1 ∙ sym (List·getD-eq-default αs zero64 {n = 0} (omega (arith, w .0 .left))))
     (c .if1 .came)
 
--- the cone that was read, as an answer
+-- the cone read, as a result of readsAs
 is-told : (c : tie.After-known-told) → let j = c .before .before .before .before in
     let s = j .before .before .before in
     told (Is (c .before .cone .given .0 .0)) ≡ readsAs (recordAt (s .args .cones .now) (s .args .i)) (j .if1 .alpha)

@@ -7,7 +7,7 @@ use Rattle.layout.specs.Compact.{psdWords}
 use Rattle.layout.proofs.Tests.{passes}
 use Rattle.supernode_tree.specs.Reads.{Whole, cliquesFrom, cliqueOf}
 use Rattle.supernode_tree.proofs.Cliques.{first-whole, whole-next, from-next, block-size}
-use Rattle.supernode_tree.specs.Sizes.{atMost}
+use Rattle.supernode_tree.specs.Sizes.{blockAtMost}
 use Rattle.supernode_tree.proofs.Sizes.{all-cons}
 use mathlib.Core.List.{List, [], _∷_, _++_, map, reverse, reverse-cons}
 use lib.ListN.{length, drop, length-map, length-reverse}
@@ -20,7 +20,7 @@ use borrow.Author.Needs.{needs}
 use Rattle.tables.proofs.cones_down.Statement.{statement}
 use Rattle.tables.proofs.cones_down.Tie as tie
 
--- their words, and one clique more
+-- the words of the cliques' cones, and those with one more clique
 abbrev wordsOf : List Clique → List ℕ
 wordsOf cs = join psdWords (reverse (map blockSize cs))
 
@@ -30,7 +30,7 @@ words-more q cs =
 
 abbrev Inv-loop : tie.InvT-loop
 Inv-loop words first count out₀ at₀ left₀ out at left =
-    (left ≤ count) × Whole words at left × (all (atMost 256) (cliquesFrom words at left) ≡ true) × (length out ≡ length out₀)
+    (left ≤ count) × Whole words at left × (all (blockAtMost 256) (cliquesFrom words at left) ≡ true) × (length out ≡ length out₀)
     × (wordsOf (cliquesFrom words at left) ++ drop (left * 3) out ≡ wordsOf (cliquesFrom words first count) ++ drop (count * 3) out₀)
 
 abbrev μ-loop : tie.MeasureT-loop
@@ -55,10 +55,10 @@ size c =
     let ws = l .before .before .before .args .words .now in
     let q = c .here .result in
     let e = block-size ws (l .loop .at) q (c .here .ensures .1) in
-    let small = all-cons (atMost 256) (cliqueOf ws q) (cliquesFrom ws (q .next) (l .loop .left - 1)) _ (first-of c) (l .loop .inv .2) .0 in
+    let small = all-cons (blockAtMost 256) (cliqueOf ws q) (cliquesFrom ws (q .next) (l .loop .left - 1)) _ (first-of c) (l .loop .inv .2) .0 in
     (e, omega (arith, leb→le (blockSize (cliqueOf ws q)) 256 (passes _ small)))
 
--- there is room for its cone
+-- there is room for the clique's cone
 room : (i : tie.In-loop Inv-loop μ-loop) → (i .before .loop .left - 1) * 3 + 3 ≤ length (i .before .loop .out)
 room i = omega (arith, i .before .loop .inv .0, i .before .loop .inv .3, i .before .before .before .before .pre .0 .1, i .loop-test .taken)
 
@@ -106,7 +106,7 @@ loop-again c =
     ap (λ (cs : List Clique). wordsOf cs) (first-of k) ∙ words-more (cliqueOf ws q) others ∙ ap (λ (m : ℕ). wordsOf others ++ psdWords m) e in (
       omega (arith, l .loop .inv .0),
       sym (whole-next ws (l .loop .at) (l .loop .left) _ (k .here .ensures .0) (i .loop-test .taken) q refl) ∙ l .loop .inv .1,
-      all-cons (atMost 256) (cliqueOf ws q) others (cliquesFrom ws (l .loop .at) (l .loop .left)) (first-of k) (l .loop .inv .2) .1,
+      all-cons (blockAtMost 256) (cliqueOf ws q) others (cliquesFrom ws (l .loop .at) (l .loop .left)) (first-of k) (l .loop .inv .2) .1,
       c .before .before .put .kept .0 ∙ l .loop .inv .3,
       down-more (l .loop .out) t 6 n 0 (room i) (c .before .before .put .last .0) (wordsOf others) _ (c .before .before .put .ensures)
           (ap (λ (m : ℕ). (wordsOf others ++ psdWords n) ++ drop m (l .loop .out)) (sym f)

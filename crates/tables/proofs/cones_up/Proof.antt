@@ -7,7 +7,7 @@ use Rattle.layout.specs.Compact.{psdWords}
 use Rattle.layout.proofs.Tests.{passes}
 use Rattle.supernode_tree.specs.Reads.{Whole, cliquesFrom, cliqueOf}
 use Rattle.supernode_tree.proofs.Cliques.{first-whole, whole-next, from-next, from-none, block-size}
-use Rattle.supernode_tree.specs.Sizes.{atMost}
+use Rattle.supernode_tree.specs.Sizes.{blockAtMost}
 use Rattle.supernode_tree.proofs.Sizes.{all-cons}
 use mathlib.Core.List.{List, _∷_, _++_, map}
 use lib.ListN.{length, take, drop}
@@ -17,13 +17,13 @@ use native.Mathlib.Omega.{arith}
 use Rattle.tables.proofs.cones_up.Statement.{statement}
 use Rattle.tables.proofs.cones_up.Tie as tie
 
--- their words
+-- the words of the cliques' cones
 abbrev wordsOf : List Clique → List ℕ
 wordsOf cs = join psdWords (map blockSize cs)
 
 abbrev Inv-loop : tie.InvT-loop
 Inv-loop words first count out₀ at₀ t₀ left₀ out at t left =
-    (t + left * 3 ≡ count * 3) × Whole words at left × (all (atMost 256) (cliquesFrom words at left) ≡ true) × (length out ≡ length out₀)
+    (t + left * 3 ≡ count * 3) × Whole words at left × (all (blockAtMost 256) (cliquesFrom words at left) ≡ true) × (length out ≡ length out₀)
     × (take t out ++ wordsOf (cliquesFrom words at left) ≡ wordsOf (cliquesFrom words first count)) × (drop t out ≡ drop t out₀)
 
 abbrev μ-loop : tie.MeasureT-loop
@@ -48,10 +48,10 @@ size c =
     let ws = l .before .before .before .args .words .now in
     let q = c .here .result in
     let e = block-size ws (l .loop .at) q (c .here .ensures .1) in
-    let small = all-cons (atMost 256) (cliqueOf ws q) (cliquesFrom ws (q .next) (l .loop .left - 1)) _ (first-of c) (l .loop .inv .2) .0 in
+    let small = all-cons (blockAtMost 256) (cliqueOf ws q) (cliquesFrom ws (q .next) (l .loop .left - 1)) _ (first-of c) (l .loop .inv .2) .0 in
     (e, omega (arith, leb→le (blockSize (cliqueOf ws q)) 256 (passes _ small)))
 
--- there is room for its cone
+-- there is room for the clique's cone
 room : (i : tie.In-loop Inv-loop μ-loop) → i .before .loop .t + 3 ≤ length (i .before .loop .out)
 room i = omega (arith, i .before .loop .inv .0, i .before .loop .inv .3, i .before .before .before .before .pre .0 .1, i .loop-test .taken)
 
@@ -96,7 +96,7 @@ loop-again c =
     (l .loop .inv .5) in (
       omega (arith, l .loop .inv .0, i .loop-test .taken),
       sym (whole-next ws (l .loop .at) (l .loop .left) _ (k .here .ensures .0) (i .loop-test .taken) q refl) ∙ l .loop .inv .1,
-      all-cons (atMost 256) (cliqueOf ws q) others (cliquesFrom ws (l .loop .at) (l .loop .left)) (first-of k) (l .loop .inv .2) .1,
+      all-cons (blockAtMost 256) (cliqueOf ws q) others (cliquesFrom ws (l .loop .at) (l .loop .left)) (first-of k) (l .loop .inv .2) .1,
       c .before .before .put .kept .0 ∙ l .loop .inv .3,
       more .0,
       more .1,

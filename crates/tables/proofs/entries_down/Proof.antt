@@ -10,7 +10,7 @@ use Rattle.layout.specs.Patterns.{Clique, readClique, blockSize}
 use Rattle.layout.proofs.Tests.{passes}
 use Rattle.layout.proofs.Sizes.{entries-length}
 use Rattle.supernode_tree.specs.Reads.{Whole, cliquesFrom, cliqueOf}
-use Rattle.supernode_tree.specs.Sizes.{atMost, dimOf}
+use Rattle.supernode_tree.specs.Sizes.{blockAtMost, dimOf}
 use Rattle.supernode_tree.proofs.Cliques.{first-whole, whole-next, from-next, block-size}
 use Rattle.supernode_tree.proofs.Sizes.{all-cons, triangle-small}
 use Rattle.supernode_tree.proofs.Many.{many-length}
@@ -26,7 +26,7 @@ abbrev Inv-loop : tie.InvT-loop
 Inv-loop cone pattern words first count end out₀ at₀ row₀ left₀ out at row left =
     let cs = cliquesFrom words first count in
     let base = end - sum (map dimOf cs) in
-    (left ≤ count) × Whole words at left × (all (atMost 256) (cliquesFrom words at left) ≡ true) × (length out ≡ length out₀)
+    (left ≤ count) × Whole words at left × (all (blockAtMost 256) (cliquesFrom words at left) ≡ true) × (length out ≡ length out₀)
     × (row ≡ base + sum (map dimOf (cliquesFrom words at left)))
     × (downWords cone pattern (count - left) base (cliquesFrom words at left) ++ drop (left * 5) out ≡ downWords cone pattern 0 base cs ++ drop (count * 5) out₀)
 
@@ -58,10 +58,10 @@ size c =
     let ws = start l .args .words .now in
     let q = c .here .result in
     let e = block-size ws (l .loop .at) q (c .here .ensures .1) in
-    let small = all-cons (atMost 256) (cliqueOf ws q) (cliquesFrom ws (q .next) (l .loop .left - 1)) _ (first-of c) (l .loop .inv .2) .0 in
+    let small = all-cons (blockAtMost 256) (cliqueOf ws q) (cliquesFrom ws (q .next) (l .loop .left - 1)) _ (first-of c) (l .loop .inv .2) .0 in
     (e, omega (arith, leb→le (blockSize (cliqueOf ws q)) 256 (passes _ small)))
 
--- its rows, and those of the cliques after it
+-- the rows of its block, and those of the cliques after it
 rows-are : (c : tie.After-triangular-number Inv-loop μ-loop)
     → let k = c .before .before in
     let ws = start (k .before .before) .args .words .now in
@@ -82,7 +82,7 @@ row-is c =
     let l = k .before .before in
     omega (arith, l .loop .inv .4, ap (λ (cs : List Clique). sum (map dimOf cs)) (first-of k), rows-are c .0)
 
--- there is room for its entry
+-- there is room for its map entry
 room : (i : tie.In-loop Inv-loop μ-loop) → (i .before .loop .left - 1) * 5 + 5 ≤ length (i .before .loop .out)
 room i = omega (arith, i .before .loop .inv .0, i .before .loop .inv .3, start (i .before) .pre .0 .1, i .loop-test .taken)
 
@@ -151,7 +151,7 @@ loop-again c =
     ∙ ap (λ (d : ℕ). downWords (a .cone) (a .pattern) (a .count - (l .loop .left - 1)) (baseOf s) others ++ (a .cone ∷ a .pattern ∷ number ∷ (l .loop .row - n) ∷ d ∷ [])) (sym (rows-are t .0)) in (
       omega (arith, l .loop .inv .0),
       sym (whole-next ws (l .loop .at) (l .loop .left) _ (k .here .ensures .0) (i .loop-test .taken) q refl) ∙ l .loop .inv .1,
-      all-cons (atMost 256) (cliqueOf ws q) others (cliquesFrom ws (l .loop .at) (l .loop .left)) (first-of k) (l .loop .inv .2) .1,
+      all-cons (blockAtMost 256) (cliqueOf ws q) others (cliquesFrom ws (l .loop .at) (l .loop .left)) (first-of k) (l .loop .inv .2) .1,
       w .put-entry .kept .0 ∙ l .loop .inv .3,
       sym row,
       entry-more (l .loop .out) from (a .cone) (a .pattern) number (l .loop .row - n) n (room i) (w .put-entry .last .0) (downWords (a .cone) (a .pattern) (a .count - (l .loop .left - 1)) (baseOf s) others) _ (w .put-entry .ensures)

@@ -7,7 +7,7 @@ use Rattle.layout.specs.Patterns.{Pattern, blockSize, cliqueCount}
 use Rattle.layout.specs.Blocks.{cut}
 use Rattle.layout.specs.Compact.{psdWords}
 use Rattle.supernode_tree.specs.Reads.{patternAt, Whole, cliquesFrom}
-use Rattle.supernode_tree.specs.Sizes.{atMost}
+use Rattle.supernode_tree.specs.Sizes.{blockAtMost}
 use Rattle.supernode_tree.proofs.Sizes.{blocks-small}
 use Rattle.supernode_tree.proofs.Cliques.{right-head}
 use Rattle.blocks.proofs.Offsets.{cliques-here, pattern-here, cliques-count}
@@ -17,7 +17,7 @@ use native.Mathlib.Omega.{arith}
 use Rattle.tables.proofs.pattern_cones.Statement.{statement}
 use Rattle.tables.proofs.pattern_cones.Tie as tie
 
--- the cliques by the head that was read
+-- the cliques of the pattern are those read after its head
 pattern : (k : tie.After-here)
     → let a = k .before .before .before .args in
     let q = k .here .result in
@@ -36,10 +36,10 @@ whole k =
     let s = k .before .before .before in
     cliques-here (s .args .words .now) (s .args .at) _ (s .pre .0 .0) (k .here .ensures .0) (k .here .result) refl
 
-small : (k : tie.After-here) → let q = k .here .result in all (atMost 256) (cliquesFrom (k .before .before .before .args .words .now) (q .cliques) (q .«clique_count»)) ≡ true
+small : (k : tie.After-here) → let q = k .here .result in all (blockAtMost 256) (cliquesFrom (k .before .before .before .args .words .now) (q .cliques) (q .«clique_count»)) ≡ true
 small k =
     let s = k .before .before .before in
-    sym (ap (all (atMost 256)) (pattern k)) ∙ blocks-small (patternAt (s .args .words .now) (s .args .at)) 256 (s .pre .0 .0) (s .pre .0 .1)
+    sym (ap (all (blockAtMost 256)) (pattern k)) ∙ blocks-small (patternAt (s .args .words .now) (s .args .at)) 256 (s .pre .0 .0) (s .pre .0 .1)
 
 here-requires : tie.Need-here-requires
 here-requires c κs = let s = c .before .before in right-head (s .args .words .now) (s .args .at) (s .pre .0 .0 .tree)

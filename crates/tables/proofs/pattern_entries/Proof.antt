@@ -7,18 +7,17 @@ use Rattle.layout.specs.Patterns.{Pattern, Clique, cliqueCount}
 use Rattle.layout.specs.Blocks.{blockRows}
 use Rattle.layout.specs.Compact.{mapWords}
 use Rattle.supernode_tree.specs.Reads.{patternAt, Whole, cliquesFrom}
-use Rattle.supernode_tree.specs.Sizes.{atMost, dimOf}
+use Rattle.supernode_tree.specs.Sizes.{blockAtMost, dimOf}
 use Rattle.supernode_tree.proofs.Sizes.{blocks-small}
 use Rattle.supernode_tree.proofs.Cliques.{right-head}
 use Rattle.blocks.proofs.Offsets.{cliques-here, pattern-here, cliques-count}
 use Rattle.tables.specs.Tables.{entriesDown}
 use Rattle.tables.proofs.Cones.{entries-down}
 use native.Mathlib.Omega.{arith}
-use borrow.Author.Needs.{needs}
 use Rattle.tables.proofs.pattern_entries.Statement.{statement}
 use Rattle.tables.proofs.pattern_entries.Tie as tie
 
--- the cliques by the head that was read
+-- the cliques of the pattern are those read after its head
 module _ (k : tie.After-here) where
   abbrev start : tie.Start
   start = k .before .before .before
@@ -38,14 +37,14 @@ module _ (k : tie.After-here) where
   whole : let q = k .here .result in Whole (start .args .words .now) (q .cliques) (q .«clique_count»)
   whole = cliques-here (start .args .words .now) (start .args .at) _ (start .pre .0 .0) (k .here .ensures .0) (k .here .result) refl
 
-  small : all (atMost 256) here ≡ true
-  small = sym (ap (all (atMost 256)) pattern) ∙ blocks-small given 256 (start .pre .0 .0) (start .pre .0 .1)
+  small : all (blockAtMost 256) here ≡ true
+  small = sym (ap (all (blockAtMost 256)) pattern) ∙ blocks-small given 256 (start .pre .0 .0) (start .pre .0 .1)
 
-  -- their rows
+  -- the rows of their blocks
   rows : sum (map dimOf here) ≡ blockRows given
   rows = ap (λ (cs : List Clique). sum (map dimOf cs)) (sym pattern)
 
--- the blocks were counted
+-- the counted rows are those of the pattern's blocks
 counted : (d : tie.After-get-decomposed-dim-and-overlaps) → d .get-decomposed-dim-and-overlaps .result .dim ≡ blockRows (given (d .before))
 counted d = d .get-decomposed-dim-and-overlaps .ensures .0
 

@@ -20,7 +20,7 @@ use native.Mathlib.Omega.{arith}
 use Rattle.tables.proofs.write_cut.Statement.{statement}
 use Rattle.tables.proofs.write_cut.Tie as tie
 
--- what the cone writes, by the table
+-- the words of the cone, table by table
 rows-h : (c : tie.After-enum-told)
     → let a = c .before .before .before .before .args in
     let p = patternAt (a .words .now) (a .at) in

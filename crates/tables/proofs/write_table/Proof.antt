@@ -12,8 +12,7 @@ use Rattle.layout.specs.Blocks.{Part, whole, cut, parts, partRows, blockRows, b
 use Rattle.layout.specs.Checks.{noCone}
 use Rattle.layout.proofs.Buffers.{copy-done}
 use Rattle.supernode_tree.specs.Reads.{patternAt}
-use Rattle.parts.specs.Ahead.{ahead, Stands, meets, Knows}
-use Rattle.blocks.proofs.Patterns.{cliques-few}
+use Rattle.parts.specs.Ahead.{ahead, Reached, meets, Knows}
 use Rattle.parts.proofs.Counts.{pattern-few, counted}
 use Rattle.parts.specs.declared.Met.the-variants.{Whole, Cut}
 use Rattle.tables.specs.Tables.{tableOf, partCodes, codesFrom}
@@ -21,6 +20,7 @@ use Rattle.tables.proofs.Codes.{codes-none, part-fits, wrote-part}
 use Rattle.tables.proofs.Tables.{table-is, few-rows}
 use native.Mathlib.Omega.{arith}
 use borrow.Author.Needs.{needs}
+use Rattle.layout.proofs.WordCounts.{cliques-few}
 use Rattle.tables.proofs.write_table.Statement.{statement}
 use Rattle.tables.proofs.write_table.Tie as tie
 
@@ -29,20 +29,20 @@ Inv-loop table m cones count words out₀ place₀ t₀ first₀ out place t fir
     let ps = parts (records cones) (patterns count words) in
     let full = codesFrom table 0 ps in
     (t ≤ length full) × (length out ≡ length out₀) × (out ≡ written (take t full) out₀)
-    × (drop t full ≡ codesFrom table first (ahead cones words place)) × Stands m cones words place
+    × (drop t full ≡ codesFrom table first (ahead cones words place)) × Reached m cones words place
     × (first + blockRowCount (ahead cones words place) ≡ blockRowCount ps) × (first ≤ place .cone * 8421376)
 
 abbrev μ-loop : tie.MeasureT-loop
 μ-loop table m cones count words out₀ place₀ t₀ first₀ out place t first = length (ahead cones words place)
 
--- the table, and the parts left
+-- the whole table, and the parts left
 abbrev fullOf : (s : tie.Start Inv-loop μ-loop) → List ℕ
 fullOf s = codesFrom (s .args .table) 0 (parts (records (s .args .cones .now)) (patterns (s .args .count) (s .args .words .now)))
 
 abbrev aheadOf : (l : tie.At-loop Inv-loop μ-loop) → List Part
 aheadOf l = let a = l .before .before .before .before .before .args in ahead (a .cones .now) (a .words .now) (l .loop .place)
 
--- it is the layout's, and there is room for it
+-- the whole table is that of the layout, and there is room for it
 same : (s : tie.Start Inv-loop μ-loop)
     → fullOf s ≡ tableOf (s .args .table) (parts (records (s .args .cones .now)) (patterns (s .args .count) (s .args .words .now)))
 same s = table-is (s .args .table) (parts (records (s .args .cones .now)) (patterns (s .args .count) (s .args .words .now)))
@@ -56,7 +56,7 @@ small l = omega (arith, room (l .before .before .before .before .before))
 inside : (l : tie.At-loop Inv-loop μ-loop) → l .loop .t ≤ length (l .loop .out)
 inside l = rw (l .loop .inv .1) (le-trans (l .loop .inv .0) (room (l .before .before .before .before .before)))
 
--- a whole cone was met
+-- the next cone is not decomposed
 abbrev wholeOf : (c : tie.After-known-told Inv-loop μ-loop) → Part
 wholeOf c =
     let l = c .before .before .before .before in
@@ -78,7 +78,7 @@ met-whole c =
       subst (Knows (a .m) (a .cones .now) (a .words .now) (l .loop .place)) (g .1) (r .next .ensures .1),
     )
 
--- the augmented rows before it, its own and those after it
+-- the augmented rows before the cone, its own and those after it add up to all
 rows-whole : (c : tie.After-known-told Inv-loop μ-loop)
     → let l = c .before .before .before .before in
     let a = l .before .before .before .before .before .args in
@@ -96,7 +96,7 @@ fits-whole c =
     let s = l .before .before .before .before .before in
     part-fits (s .args .table) (fullOf s) (l .loop .t) (l .loop .first) (l .loop .inv .0) (wholeOf c) (aheadOf l) _ (l .loop .inv .3) (met-whole c .0) .2
 
--- a cut cone was met
+-- the next cone is decomposed
 abbrev cutOf : (c : tie.After-known-told2 Inv-loop μ-loop) → Part
 cutOf c =
     let l = c .before .before .before .before in

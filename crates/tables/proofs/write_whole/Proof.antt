@@ -16,7 +16,7 @@ use borrow.Author.Needs.{needs}
 use Rattle.tables.proofs.write_whole.Statement.{statement}
 use Rattle.tables.proofs.write_whole.Tie as tie
 
--- what the cone writes, by the table
+-- the words of the cone, table by table
 rows : (c : tie.At-match-keys1)
     → let a = c .before .before .before .args in
     wholeCodes (a .table) (a .first) (a .place .cone) (getD (records (a .cones .now)) (a .place .cone) noCone) (a .place .row) ≡ upFrom (a .place .row) (a .rows)
@@ -55,7 +55,7 @@ copy-record-requires c κs =
 enum-told : tie.Need-enum-told
 enum-told c = c .match .keys3
 
--- the row fits
+-- the augmented rows up to the end of the cone are within the bound
 few : (c : tie.After-enum-told) → let a = c .before .before .before .before .args in a .first + a .rows ≤ 262144
 few c =
     let s = c .before .before .before .before in

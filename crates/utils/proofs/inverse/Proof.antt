@@ -24,7 +24,7 @@ returns c =
     let old = s .args .out .now in
     record { number = sym (refused-order ps (length old) (sym (a .is-permutation .ensures) ∙ not-true _ (c .if1 .taken))); out = refl }
 
--- past the first test
+-- past the first test p is a permutation
 permutes : (c : tie.Else1) → isPermutation (c .before .before .before .before .args .p .now) ≡ true
 permutes c = sym (c .before .is-permutation .ensures) ∙ not-false _ (c .if1 .left)
 

@@ -19,11 +19,11 @@ Inv-loop words marks₀ n low₀ marks low = (low ≤ length words) × (length m
 abbrev μ-loop : tie.MeasureT-loop
 μ-loop words marks₀ n low₀ marks low = length words - low
 
--- as many marks as before
+-- the number of marks is unchanged
 size : (m : tie.After-mark Inv-loop μ-loop) → length (m .mark .last .1 .1 .0) ≡ length (m .before .before .before .before .before .before .loop .marks)
 size m = m .mark .kept .1 .1 .0 ∙ m .before .before .before .before .clear .kept .0
 
--- whether no number of the window stands twice
+-- the result of marking: whether the numbers of the window are duplicate-free
 once : (m : tie.After-mark Inv-loop μ-loop) → let l = m .before .before .before .before .before .before in
     m .mark .result ≡ distinct (keep (within (l .loop .low) (length (l .loop .marks))) (l .before .before .before .before .before .args .words .now))
 once m =

@@ -15,7 +15,7 @@ Inv-loop words out₀ k₀ out k =
 abbrev μ-loop : tie.MeasureT-loop
 μ-loop words out₀ k₀ out k = length words - k
 
--- the place to write is inside
+-- the index written is within `out`
 at-out : (c : tie.In-loop Inv-loop μ-loop) → getD (c .before .before .args .words .now) (c .before .loop .k) 0 < length (c .before .loop .out)
 at-out c = omega (arith, c .before .before .pre .0 (c .before .loop .k) (c .loop-test .taken))
 

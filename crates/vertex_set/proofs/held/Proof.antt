@@ -25,11 +25,11 @@ Inv-walk us ms ok₀ j₀ i₀ ok j i = (i ≤ length us) × (j ≤ length ms) �
 abbrev μ-walk : tie.MeasureT-walk
 μ-walk us ms ok₀ j₀ i₀ ok j i = length us - i
 
--- a walk around is the last
+-- wrapping around decreases the measure
 wrap-less : (around : Bool) (n j : ℕ) → around ≡ false → cond true 0 (n + 1) + (n - 0) < cond around 0 (n + 1) + (n - j)
 wrap-less around n j e = rw e (omega arith)
 
--- a member that was found
+-- a member that was found is in ms
 found : (x : ℕ) (ms : List ℕ) (j : ℕ) → j < length ms → x ≡ getD ms j 0 → has x ms ≡ true
 found x ms j h e = passed (has x ms) (subst (λ (y : ℕ). T (has y ms)) (sym e) (has-getD ms j 0 h))
 

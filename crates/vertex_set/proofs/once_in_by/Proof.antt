@@ -30,7 +30,7 @@ mark-only-requires c κs = tt
 unmark-requires : tie.Need-unmark-requires Inv-loop μ-loop
 unmark-requires c κs = tt
 
--- the window was looked through, and the marks are as many as before
+-- the result for this window, and that the number of marks is unchanged
 looked : (c : tie.After-unmark Inv-loop μ-loop)
     → let l = c .before .before .before .before .before .before in
     let a = l .before .before .before .before .args in
@@ -56,7 +56,7 @@ returns c =
 sub-if2 : tie.Need-sub-if2 Inv-loop μ-loop
 sub-if2 c = omega arith
 
--- a window more
+-- one more window has passed
 more : (c : tie.Else1 Inv-loop μ-loop)
     → let l = c .before .before .before .before .before .before .before .before .before in
     let a = l .before .before .before .before .args in

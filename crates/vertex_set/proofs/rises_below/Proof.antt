@@ -1,7 +1,7 @@
 use Prim.Native.Nat.{ℕ, _≤_, _-_}
 use native.Mathlib.Omega.{arith}
 use mathlib.Core.Path.{_≡_, refl, sym, _∙_}
-use lib.ListN.{length, getD, drop}
+use lib.ListN.{length, drop}
 use Rattle.layout.proofs.Walks.{one-more, one-less}
 use Rattle.vertex_set.specs.OnceIn.{risesBelow}
 use Rattle.vertex_set.proofs.Walks.{rises-falls, rises-above, rises-step, rises-done}

@@ -45,7 +45,7 @@ add-i c = omega arith
 loop-less : tie.Need-loop-less Inv-loop μ-loop
 loop-less c = one-less (c .before .before .loop-test .taken)
 
--- what the walk says of the numbers met
+-- the invariant on the numbers met: the marks not yet cleared, and that the numbers in the window passed the test
 abbrev Met : ℕ → List Bool → List Bool → List ℕ → List ℕ → Type 0
 Met low marks₀ marks ms met = Left low marks ms met × T (onceIn ms (keep (within low (length marks₀)) met))
 
@@ -92,7 +92,7 @@ loop-again-2 c =
 slice-read-if3 : tie.Need-slice-read-if3 Inv-loop μ-loop
 slice-read-if3 c = c .before .if2 .left
 
--- the mark at a number of the window
+-- the mark of a number in the window
 mark-of : (c : tie.Else2 Inv-loop μ-loop) → let l = c .before .before .before .before in
     let a = l .before .args in
     let x : ℕ = getD (a .words .now) (l .loop .i) 0 in

@@ -2,7 +2,6 @@ use Prim.Native.Nat.{_+_, _*_}
 use mathlib.Core.Path.{ap}
 use lib.ListN.{getD}
 use Rattle.cone_map.specs.declared.TreeAndClique.{TreeAndClique}
-use native.Mathlib.Omega.{arith}
 use borrow.Author.Needs.{needs}
 use Rattle.cone_map.proofs.ConeMapEntry.read.Statement.{statement}
 use Rattle.cone_map.proofs.ConeMapEntry.read.Tie as tie
@@ -10,71 +9,54 @@ use Rattle.cone_map.proofs.ConeMapEntry.read.Reads as reads
 use Rattle.cone_map.proofs.ConeMapEntry.read.Lts as lts
 use Rattle.cone_map.proofs.TreeAndClique.of.Reads as of-reads
 
--- src/lib.rt:88:18
 mul-at : tie.Need-mul-at
 mul-at c = search needs
 
--- src/lib.rt:90:25
 mul-t4 : tie.Need-mul-t4
 mul-t4 c = search needs
 
--- src/lib.rt:90:25
 shared-slice-read-t6 : tie.Need-shared-slice-read-t6
 shared-slice-read-t6 c = search needs
 
--- src/lib.rt:91:54
 add-of : tie.Need-add-of
 add-of c = search needs
 
--- src/lib.rt:91:48
 mul-of : tie.Need-mul-of
 mul-of c = search needs
 
--- src/lib.rt:91:48
 shared-slice-read-of : tie.Need-shared-slice-read-of
 shared-slice-read-of c = search needs
 
--- src/lib.rt:91:69
 add-of-2 : tie.Need-add-of-2
 add-of-2 c = search needs
 
--- src/lib.rt:91:63
 mul-of-2 : tie.Need-mul-of-2
 mul-of-2 c = search needs
 
--- src/lib.rt:91:63
 shared-slice-read-of-2 : tie.Need-shared-slice-read-of-2
 shared-slice-read-of-2 c = search needs
 
--- src/lib.rt:91:30
 of-requires : tie.Need-of-requires
 of-requires c κs = search needs
 
--- src/lib.rt:92:30
 add-t16 : tie.Need-add-t16
 add-t16 c = search needs
 
--- src/lib.rt:92:24
 mul-t17 : tie.Need-mul-t17
 mul-t17 c = search needs
 
--- src/lib.rt:92:24
 shared-slice-read-t19 : tie.Need-shared-slice-read-t19
 shared-slice-read-t19 c = search needs
 
--- src/lib.rt:93:30
 add-t20 : tie.Need-add-t20
 add-t20 c = search needs
 
--- src/lib.rt:93:24
 mul-t21 : tie.Need-mul-t21
 mul-t21 c = search needs
 
--- src/lib.rt:93:24
 shared-slice-read-t23 : tie.Need-shared-slice-read-t23
 shared-slice-read-t23 c = search needs
 
--- src/lib.rt:84:5
 returns : tie.Need-returns
 returns c =
     let a = c .before .before .before .before .before .before .before .args in

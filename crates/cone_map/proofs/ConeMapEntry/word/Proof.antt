@@ -11,31 +11,24 @@ use Rattle.cone_map.proofs.ConeMapEntry.word.Lts as lts
 use Rattle.cone_map.proofs.TreeAndClique.clique.Reads as clique-reads
 use Rattle.cone_map.proofs.TreeAndClique.pattern.Reads as pattern-reads
 
--- src/lib.rt:69:13
 returns : tie.Need-returns
 returns c = search needs
 
--- src/lib.rt:72:13
 pattern-requires : tie.Need-pattern-requires
 pattern-requires c κs = search needs
 
--- src/lib.rt:72:13
 returns-2 : tie.Need-returns-2
 returns-2 c = search needs
 
--- src/lib.rt:75:13
 clique-requires : tie.Need-clique-requires
 clique-requires c κs = search needs
 
--- src/lib.rt:75:13
 returns-3 : tie.Need-returns-3
 returns-3 c = search needs
 
--- src/lib.rt:78:13
 returns-4 : tie.Need-returns-4
 returns-4 c = search needs
 
--- src/lib.rt:63:5
 returns-5 : tie.Need-returns-5
 returns-5 c = let a = c .before .before .before .before .args in let e : a .j ≡ 4 = omega (arith, c .before .before .before .before .pre) in sym (ap (λ (n : ℕ). getD (structWords (a .self)) n 0) e)
 

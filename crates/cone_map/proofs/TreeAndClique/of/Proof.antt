@@ -1,16 +1,12 @@
 use borrow.Author.Tests.{eq-eqb, ne-eqb}
-use native.Mathlib.Omega.{arith}
-use borrow.Author.Needs.{needs}
 use Rattle.cone_map.proofs.TreeAndClique.of.Statement.{statement}
 use Rattle.cone_map.proofs.TreeAndClique.of.Tie as tie
 use Rattle.cone_map.proofs.TreeAndClique.of.Reads as reads
 use Rattle.cone_map.proofs.TreeAndClique.of.Lts as lts
 
--- src/lib.rt:55:13
 returns : tie.Need-returns
 returns c = simp (eq-eqb _ _ (c .if1 .taken))
 
--- src/lib.rt:51:5
 returns-2 : tie.Need-returns-2
 returns-2 c = simp (ne-eqb _ _ (c .if1 .left))
 

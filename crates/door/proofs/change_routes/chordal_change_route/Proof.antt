@@ -1,4 +1,4 @@
--- `door::chordal_change_route` answers what the change of route answers: each fact is its own.
+-- `door::chordal_change_route` returns and writes what `change_route::change_route` does: each fact is the callee's.
 use Rattle.door.proofs.change_routes.chordal_change_route.Statement.{statement}
 use Rattle.door.proofs.change_routes.chordal_change_route.Tie as tie
 

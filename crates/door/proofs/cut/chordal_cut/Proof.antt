@@ -1,4 +1,4 @@
--- `door::chordal_cut` answers what `cut_on_route::cut` answers: each fact is its own.
+-- `door::chordal_cut` returns and writes what `cut_on_route::cut` does: each fact is the callee's.
 use Rattle.door.proofs.cut.chordal_cut.Statement.{statement}
 use Rattle.door.proofs.cut.chordal_cut.Tie as tie
 

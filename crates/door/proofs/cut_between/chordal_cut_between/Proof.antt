@@ -1,4 +1,4 @@
--- `door::chordal_cut_between` answers what `cut_with_limits::cut_between` answers: each fact is its own.
+-- `door::chordal_cut_between` returns and writes what `cut_with_limits::cut_between` does: each fact is the callee's.
 use Rattle.door.proofs.cut_between.chordal_cut_between.Statement.{statement}
 use Rattle.door.proofs.cut_between.chordal_cut_between.Tie as tie
 

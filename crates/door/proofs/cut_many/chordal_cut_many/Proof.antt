@@ -1,4 +1,4 @@
--- `door::chordal_cut_many` answers what `cut_with_sides::cut_many` answers: each fact is its own.
+-- `door::chordal_cut_many` returns and writes what `cut_with_sides::cut_many` does: each fact is the callee's.
 use Rattle.door.proofs.cut_many.chordal_cut_many.Statement.{statement}
 use Rattle.door.proofs.cut_many.chordal_cut_many.Tie as tie
 

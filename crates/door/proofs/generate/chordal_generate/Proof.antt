@@ -1,4 +1,4 @@
--- `door::chordal_generate` answers what the generator answers: each fact is the generator's own.
+-- `door::chordal_generate` returns and writes what `generator::generate` does: each fact is the callee's.
 use Rattle.door.proofs.generate.chordal_generate.Statement.{statement}
 use Rattle.door.proofs.generate.chordal_generate.Tie as tie
 

@@ -1,4 +1,4 @@
--- `door::chordal_join` answers what the joining answers: each fact is the joining's own.
+-- `door::chordal_join` returns and writes what `decomp_reverse::join` does: each fact is the callee's.
 use Rattle.door.proofs.join.chordal_join.Statement.{statement}
 use Rattle.door.proofs.join.chordal_join.Tie as tie
 

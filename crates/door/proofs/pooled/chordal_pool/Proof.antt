@@ -1,4 +1,4 @@
--- `door::chordal_pool` answers what the pool answers: each fact is the pool's own.
+-- `door::chordal_pool` returns and writes what `pool::pool` does: each fact is the callee's.
 use Rattle.door.proofs.pooled.chordal_pool.Statement.{statement}
 use Rattle.door.proofs.pooled.chordal_pool.Tie as tie
 

@@ -1,4 +1,4 @@
--- `door::chordal_read_file` answers what the reader answers: each fact is the reader's own.
+-- `door::chordal_read_file` returns and writes what `problem_file::read_file` does: each fact is the callee's.
 use Rattle.door.proofs.read_file.chordal_read_file.Statement.{statement}
 use Rattle.door.proofs.read_file.chordal_read_file.Tie as tie
 

@@ -15,7 +15,7 @@ use borrow.Author.Needs.{needs}
 use Rattle.parts.proofs.Place.next.Statement.{statement}
 use Rattle.parts.proofs.Place.next.Tie as tie
 
--- a record is there
+-- there is a record for the cone
 here : (c : tie.Else1) → let s = c .before .before .before in s .args .self .cone < length (records (s .args .cones .now))
 here c = omega (arith, record-count (c .before .before .before .args .cones .now))
 

@@ -10,7 +10,7 @@ use Rattle.layout.proofs.Members.{getD-map, length-below, getD-below}
 use Rattle.scalarmath.proofs.column_starts.column_start.Statement.{statement}
 use Rattle.scalarmath.proofs.column_starts.column_start.Tie as tie
 
--- the rule of the table, computed over all of its entries at once
+-- the rule of the table, computed over all entries at once
 by-rule : (starts : List ℕ) → starts ≡ map triangle (below 256) → (j : ℕ) → j ≤ 255 → getD starts j 0 ≡ triangle j
 by-rule starts all j small = ap (λ (l : List ℕ). getD l j 0) all ∙ getD-map triangle (below 256) j 0 0 (omega (arith, length-below 256)) ∙ ap triangle (getD-below 256 j 0 (omega arith))
 

@@ -27,7 +27,7 @@ add-word-2 c = omega (arith, fits (c .before .before .before))
 word-requires-2 : tie.Need-word-requires-2
 word-requires-2 c κs = omega (arith, fits (c .before .before .before))
 
--- the end, by the counts that were read
+-- the clique ends inside the words, by the counts that were read
 fits-read : (c : tie.After-word2) → let s = c .before .before .before .before in s .args .at + 3 + c .before .word .result + c .word2 .result ≤ length (s .args .words .now)
 fits-read c = omega (arith, fits (c .before .before .before .before))
 

@@ -16,7 +16,7 @@ returns c =
     let s = c .before .before .before in
     sym (clique-none (s .args .words .now) (s .args .at) (sym (c .before .has-room .ensures) ∙ not-true _ (c .if1 .taken)))
 
--- three words are there
+-- there are three words
 three : (c : tie.Else1) → let s = c .before .before .before in s .args .at + 3 ≤ length (s .args .words .now)
 three c = leb-true _ _ (sym (c .before .has-room .ensures) ∙ not-false _ (c .if1 .left))
 

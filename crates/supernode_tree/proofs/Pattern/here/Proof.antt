@@ -30,7 +30,7 @@ mul-clique-count c = omega (arith, fits (c .before .before .before))
 shared-slice-read-clique-count : tie.Need-shared-slice-read-clique-count
 shared-slice-read-clique-count c = omega (arith, fits (c .before .before .before .before))
 
--- the end, by the count that was read
+-- the head ends inside the words, by the count that was read
 fits-read : (c : tie.After-word) → let s = c .before .before .before in s .args .at + 3 + c .word .result ≤ length (s .args .words .now)
 fits-read c = omega (arith, fits (c .before .before .before))
 

@@ -15,7 +15,7 @@ use Rattle.supportedcone.proofs.SupportedCone.{the-type}
 use Rattle.supportedcone.proofs.SupportedCone.alpha_count.Statement.{statement}
 use Rattle.supportedcone.proofs.SupportedCone.alpha_count.Tie as tie
 
--- the cases that hold no α
+-- the tags of the cases without α values
 abbrev Others : ℕ → Type 0
 Others k = OneOf (0 ∷ 1 ∷ 2 ∷ 3 ∷ 6 ∷ []) k
 

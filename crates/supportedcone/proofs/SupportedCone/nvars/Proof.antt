@@ -14,7 +14,7 @@ use borrow.Author.Needs.{needs}
 use Rattle.supportedcone.proofs.SupportedCone.nvars.Statement.{statement}
 use Rattle.supportedcone.proofs.SupportedCone.nvars.Tie as tie
 
--- the case that holds two counts, and the one whose rows are a triangle
+-- bounds for GenPower, the case with two counts, and for the PSD case, whose row count is a triangle number
 abbrev gen : tie.After-known-told4 → SupportedCone
 gen c = GenPowerConeT (c .before .self4 .given .0 .0) (c .before .self4 .given .0 .1 .0)
 
