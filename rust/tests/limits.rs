@@ -1,4 +1,4 @@
-//! Threads with 2 MB of stack, each calling at the limits at the same time as the others.
+//! Threads with 1.5 MB of stack, each calling at the limits at the same time as the others.
 //!
 //! Every problem is cut and joined on both routes, cut with its b as both limits and with its b as each of two sides, and
 //! pooled with a pass that has no rows, by every thread; what comes out is held to document 01's plain reading
@@ -23,6 +23,9 @@ use std::sync::{Arc, Barrier};
 use tejiwakpa::flat::{self, BetweenOutputs, Tables};
 
 const THREADS: usize = 4;
+
+// 1.5 MB, for the calls and for the test itself
+const STACK: usize = 3 << 19;
 
 // ---- problems at several limits at once
 
@@ -229,7 +232,7 @@ fn refusal<T>(answer: &Result<T, u32>) -> u32 {
     answer.as_ref().err().copied().unwrap_or(0)
 }
 
-/// Runs the work of each thread on 2 MB of stack, once all are ready for it.
+/// Runs the work of each thread on `STACK` bytes of stack, once all are ready for it.
 fn on_threads<W: FnOnce() + Send + 'static>(prepare: impl Fn(usize) -> W + Send + Sync + 'static) {
     let (prepare, ready) = (Arc::new(prepare), Arc::new(Barrier::new(THREADS)));
     let threads = (0..THREADS).map(|thread| {
@@ -239,7 +242,7 @@ fn on_threads<W: FnOnce() + Send + 'static>(prepare: impl Fn(usize) -> W + Send 
             ready.wait();
             work();
         };
-        std::thread::Builder::new().stack_size(2 << 20).spawn(run).unwrap()
+        std::thread::Builder::new().stack_size(STACK).spawn(run).unwrap()
     });
     let ended: Vec<bool> = threads.collect::<Vec<_>>().into_iter().map(|thread| thread.join().is_ok()).collect();
     assert_eq!(ended, [true; THREADS]);
