@@ -450,11 +450,11 @@ pub fn write_samples(folder: &Path) -> std::io::Result<()> {
 
 // ---- stored answers
 
-// a case of crate file_answers: the file, with its length and the reader's number as the last two words
+// a case of crate replay_files: the file, with its length and the reader's number as the last two words
 const CASE: usize = 1_024;
 const LONGEST: usize = CASE - 8;
 
-/// Writes `cases` files, each with the number that the reader returns, for crate file_answers: at most a third accepted, and at most
+/// Writes `cases` files, each with the number that the reader returns, for crate replay_files: at most a third accepted, and at most
 /// a twelfth refused under each number.
 pub fn write_answers(path: &Path, cases: u64, seed: u64) -> std::io::Result<()> {
     let most = |number| if number == 0 { cases.div_ceil(3) } else { cases.div_ceil(12) };

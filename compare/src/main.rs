@@ -52,7 +52,7 @@ compare/run --malformed            time a word of refused calls, at 10,000, 100,
 compare/run --refused [--rounds N] times of refused calls, each damaged at the last place, beside accepted ones
 compare/run --speed [--rounds N]   times, with ratios where the door is linked, beside copying; N rounds at most (101)
 compare/run --store FOLDER --cases N --seed S    writes stored answers of each family, for crate replay
-compare/run --file-answers FILE --cases N --seed S   writes files with the reader's answers, for crate file_answers
+compare/run --file-answers FILE --cases N --seed S   writes files with the reader's answers, for crate replay_files
 compare/run --samples FOLDER       writes the sample files of crate cut_samples, with what the program makes of them
 The door is the libdoor.a in the folder that CHORDAL_DOOR_LIB names, or else the one that rt makes.";
 

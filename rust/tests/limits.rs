@@ -286,7 +286,9 @@ fn each_limit_and_one_over() {
 fn long_permutations_and_patterns() {
     on_threads(|thread| {
         let mut d = Draws::new(thread as u64);
-        let permutations = [65_536, 262_144, 262_145, 600_000].map(|length| d.permutation(length));
+        let tables = [16, 64, 256, 1_024, 4_096, 16_384, 65_536, 262_144];
+        let lengths = tables.into_iter().flat_map(|n| [n, n + 1]).chain([600_000]);
+        let permutations: Vec<_> = lengths.map(|n| d.permutation(n)).collect();
         let patterns = [256, 1_000, 3_000].map(|vertices| random::pattern(&mut d, 0, vertices).words());
         move || {
             for permutation in permutations {

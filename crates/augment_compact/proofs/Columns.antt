@@ -4,30 +4,27 @@ use native.Mathlib.Numerals.{add-one}
 use native.Mathlib.Omega.{arith}
 use mathlib.Core.Path.{_≡_, refl, ap, ap₂, sym, _∙_}
 use mathlib.Core.List.{List, [], _∷_, _++_, map, map-map, append-nil, map-append}
-use lib.ListN.{length, getD, drop, length-map, length-append}
-use lib.Seq.{getD-take, getD-drop}
+use lib.ListN.{length, getD, length-map, length-append}
 use lib.Ieee.{Float, nan}
-use Rattle.layout.specs.Lists.{upFrom, below, join, part}
-use Rattle.layout.specs.Problem.{Csc}
+use Rattle.layout.specs.General.Lists.{upFrom, below, join, part}
+use Rattle.layout.specs.Problems.Problem.{Csc}
 use Rattle.layout.specs.Checks.{columnRows}
-use Rattle.layout.specs.Compact.{Entry, entriesFrom, column, summed}
-use Rattle.layout.specs.Runs.{runs, sums, runCount}
-use Rattle.layout.proofs.Members.{has-below}
-use Rattle.layout.proofs.Joins.{map-same, upFrom-shift}
-use Rattle.layout.proofs.Keeps.{below-more}
-use Rattle.layout.proofs.Columns.{RightStarts}
+use Rattle.layout.specs.Cuts.Compact.{Entry, entriesFrom, column, summed}
+use Rattle.layout.specs.Cuts.Runs.{runs, sums, runCount}
+use Rattle.layout.proofs.Lists.Members.{has-below}
+use Rattle.layout.proofs.Lists.Joins.{map-same, upFrom-shift}
+use Rattle.layout.proofs.Lists.Starts.{part-getD}
+use Rattle.layout.proofs.Lists.Keeps.{below-more}
+use Rattle.layout.proofs.Columns.Columns.{RightStarts}
 use Rattle.csc.specs.Matrix.{matrix}
 use Rattle.csc.proofs.Compressed.{fields-append}
 use Rattle.csc.proofs.Runs.{count-more, count-le, sums-column}
-use Rattle.columns.proofs.Repeated.{summed-column-count}
-use Rattle.columns.proofs.Parts.{length-part}
-use Rattle.columns.specs.Column.{entries, codedColumn}
-use Rattle.columns.specs.Marks.{Placing}
+use Rattle.cut_columns.proofs.Repeated.{summed-column-count}
+use Rattle.cut_columns.proofs.Parts.{length-part}
+use Rattle.cut_columns.specs.Column.{entries, codedColumn}
+use Rattle.cut_columns.specs.Marks.{Placing}
 use Rattle.augment_compact.specs.Cut.{codedColumns}
 use Rattle.augment_compact.specs.Places.{ColumnsInOrder}
-
-part-getD : {A : Type 0} (d : A) (a b t : ℕ) (xs : List A) → t < b - a → getD (part a b xs) t d ≡ getD xs (a + t) d
-part-getD d a b t xs l = getD-take (b - a) (drop a xs) t d l ∙ getD-drop a xs t d
 
 -- the entries from a to b, from the slices of rows and values that hold them
 entries-part : (a b : ℕ) (M : Csc) → a ≤ b → b ≤ length (M .rows)
@@ -93,7 +90,8 @@ module _ (n : ℕ) (M : Csc) (codes place : List ℕ) (right : RightStarts n M) 
         ≡ summed (entries (columnRows M c) (part (getD (M .starts) c 0) (getD (M .starts) (suc c) 0) (M .values)))
     column-sums = sums-column n M c l ∙ ap summed column-part
 
-    column-size : length (codedColumn codes (column (sums n M) c)) ≡ length (runs (columnRows M c))
+    -- the moved column has one entry for each run
+    pub column-size : length (codedColumn codes (column (sums n M) c)) ≡ length (runs (columnRows M c))
     column-size =
         let a = getD (M .starts) c 0 in
         let b = getD (M .starts) (suc c) 0 in

@@ -8,27 +8,28 @@ use lib.ListN.{length, getD, length-map}
 use lib.Dec.{T, ltb}
 use lib.Ieee.{Float}
 use borrow.Author.Tests.{lt-ltb, le-ltb, ne-eqb}
-use Rattle.layout.specs.Lists.{upFrom, below, all, join, startsFrom}
-use Rattle.layout.specs.Problem.{Problem, compact, one64, minusOne64}
-use Rattle.layout.specs.Blocks.{Row, kept, owned, overlap, originalRow, compactRows, overlapCount}
+use Rattle.layout.specs.General.Lists.{upFrom, below, all, join, startsFrom}
+use Rattle.layout.specs.General.Floats.{one64, minusOne64}
+use Rattle.layout.specs.Problems.Problem.{Problem, compact}
+use Rattle.layout.specs.Rows.Blocks.{Row, kept, owned, overlap, originalRow, compactRows, overlapCount}
 use Rattle.layout.specs.Checks.{layout, refusal}
-use Rattle.layout.specs.Compact.{Entry, column, csc, summed, summedA, moved, rowEntries, augmentedColumn, overlapColumn, overlapColumns, compactA}
-use Rattle.layout.proofs.Tests.{and-iff, ltb-iff}
-use Rattle.layout.proofs.Members.{every-cons, has-below, all-has, has-at}
-use Rattle.layout.proofs.Joins.{map-same, join-same}
-use Rattle.layout.proofs.Accepted.{accepted-sound}
-use Rattle.layout.proofs.Columns.{column-all}
-use Rattle.layout.proofs.Repeats.{summed-column, right-summed, summed-each}
-use Rattle.layout.proofs.Links.{links}
-use Rattle.layout.proofs.Cut.{link-count}
-use Rattle.layout.proofs.Augmented.{columns-keep}
-use Rattle.codes.specs.Codes.{cutCode}
-use Rattle.codes.proofs.Rows.{Small, accepted-small}
-use Rattle.layout.proofs.Compressed.{totals}
+use Rattle.layout.specs.Cuts.Compact.{Entry, column, csc, summed, summedA, moved, rowEntries, augmentedColumn, overlapColumn, overlapColumns, compactA}
+use Rattle.layout.proofs.Lists.Tests.{and-iff, ltb-iff}
+use Rattle.layout.proofs.Lists.Members.{every-cons, has-below, all-has, has-at}
+use Rattle.layout.proofs.Lists.Joins.{map-same, join-same}
+use Rattle.layout.proofs.Checks.Accepted.{accepted-sound}
+use Rattle.layout.proofs.Columns.Columns.{column-all}
+use Rattle.layout.proofs.Columns.Repeats.{summed-column, right-summed, summed-each}
+use Rattle.layout.proofs.Equations.Links.{links}
+use Rattle.layout.proofs.Columns.Cut.{link-count}
+use Rattle.layout.proofs.Columns.Augmented.{columns-keep}
+use Rattle.rows_codes.specs.Codes.{cutCode}
+use Rattle.rows_codes.proofs.Rows.{Small, accepted-small}
+use Rattle.layout.proofs.Columns.Compressed.{totals}
 use Rattle.csc.proofs.Compressed.{starts-beside, fields-append}
 use Rattle.augment_standard.specs.Beside.{hStarts, pairValues}
 use Rattle.augment_standard.proofs.Columns.{length-pairs}
-use Rattle.columns.specs.Column.{codedColumn}
+use Rattle.cut_columns.specs.Column.{codedColumn}
 use Rattle.augment_compact.proofs.Places.{rows-known}
 use Rattle.augment_compact.specs.Cut.{codedColumns, tie, tiedRows, cutA}
 

@@ -9,21 +9,21 @@ use lib.ListN.{length, getD, set, length-set, length-map}
 use lib.Seq.{getD-set-same, getD-set-other}
 use lib.Dec.{T, ltb, leb}
 use borrow.Author.Tests.{lt-ltb}
-use Rattle.layout.specs.Lists.{has, all, below, Below}
-use Rattle.layout.specs.Problem.{Problem, compact}
-use Rattle.layout.specs.Blocks.{Row, kept, owned, overlap, originalRow, compactRows, blockRowCount, overlapCount}
-use Rattle.layout.specs.Checks.{layout, refusal, checks, neverFalls, columnRows, coveredRows}
-use Rattle.layout.proofs.Tests.{and-iff, leb-iff, ltb-iff}
-use Rattle.layout.proofs.Members.{getD-map, has-map, has-getD, has-below, all-has}
-use Rattle.layout.proofs.Order.{passed}
-use Rattle.layout.proofs.Accepted.{accepted-checked}
-use Rattle.layout.proofs.Laid.{accepted-count}
-use Rattle.layout.proofs.Moves.{rowAt, isMoved, RightRows}
-use Rattle.layout.proofs.Cut.{right-rows, covered-entries}
-use Rattle.layout.proofs.Columns.{right-A}
-use Rattle.codes.specs.Codes.{cutCode}
-use Rattle.codes.proofs.Rows.{rows-inside}
-use Rattle.columns.specs.Marks.{Placing}
+use Rattle.layout.specs.General.Lists.{has, all, below, Below, neverFalls}
+use Rattle.layout.specs.Problems.Problem.{Problem, compact}
+use Rattle.layout.specs.Rows.Blocks.{Row, kept, owned, overlap, originalRow, compactRows, blockRowCount, overlapCount}
+use Rattle.layout.specs.Checks.{layout, refusal, checks, columnRows, coveredRows}
+use Rattle.layout.proofs.Lists.Tests.{and-iff, leb-iff, ltb-iff}
+use Rattle.layout.proofs.Lists.Members.{getD-map, has-map, has-getD, has-below, all-has}
+use Rattle.layout.proofs.Checks.Order.{passed}
+use Rattle.layout.proofs.Checks.Accepted.{accepted-checked}
+use Rattle.layout.proofs.Rows.Laid.{accepted-count}
+use Rattle.layout.proofs.Rows.Moves.{rowAt, isMoved, RightRows}
+use Rattle.layout.proofs.Columns.Cut.{right-rows, covered-entries}
+use Rattle.layout.proofs.Columns.Columns.{right-A}
+use Rattle.rows_codes.specs.Codes.{cutCode}
+use Rattle.rows_codes.proofs.Rows.{rows-inside}
+use Rattle.cut_columns.specs.Marks.{Placing}
 use Rattle.augment_compact.specs.Places.{rowTable, ColumnsInOrder}
 
 -- ---- the table

@@ -6,11 +6,12 @@ use mathlib.Core.List.{List, [], _∷_, _++_, map}
 use lib.ListN.{length}
 use lib.Dec.{ltb}
 use lib.Ieee.{Float}
-use Rattle.layout.specs.Lists.{below, written}
-use Rattle.layout.specs.Problem.{Csc, one64, minusOne64}
-use Rattle.layout.specs.Compact.{Entry, column, csc}
+use Rattle.layout.specs.General.Lists.{below, written}
+use Rattle.layout.specs.General.Floats.{one64, minusOne64}
+use Rattle.layout.specs.Problems.Problem.{Csc}
+use Rattle.layout.specs.Cuts.Compact.{Entry, column, csc}
 use Rattle.augment_standard.specs.Beside.{pairValues, besideStarts}
-use Rattle.columns.specs.Column.{codedColumn}
+use Rattle.cut_columns.specs.Column.{codedColumn}
 
 -- the columns of A over the augmented rows
 abbrev pub codedColumns : ℕ → Csc → List ℕ → List (List Entry)

@@ -5,9 +5,10 @@ use mathlib.Core.Bool.{cond}
 use mathlib.Core.List.{List, [], _∷_}
 use lib.ListN.{length, getD, set}
 use lib.Dec.{T, ltb}
-use Rattle.layout.specs.Problem.{Csc}
-use Rattle.layout.specs.Checks.{neverFalls, columnRows}
-use Rattle.layout.specs.Runs.{runCount}
+use Rattle.layout.specs.General.Lists.{neverFalls}
+use Rattle.layout.specs.Problems.Problem.{Csc}
+use Rattle.layout.specs.Checks.{columnRows}
+use Rattle.layout.specs.Cuts.Runs.{runCount}
 
 -- the table from original row to augmented row, with the given codes written to it, the first for row r
 abbrev pub rowTable : ℕ → List ℕ → List ℕ → List ℕ

@@ -1,22 +1,26 @@
 // Writes the compact cut's A. `codes` describes each augmented row: a code below 65,536 is the original row that moves there; a larger one is
 // 65,536 plus the parent block's row of an overlap. A run of repeats in A becomes one entry, so column starts are taken from `run_starts`.
+// Where a column was sorted by marks, the columns after it with the same rows are in the same order: they are written by the same marks.
 ghost use mathlib.Core.Path.{_≡_};
+ghost use mathlib.Core.List.{map, _++_};
 ghost use Prim.Native.Nat.{suc, _+_, _-_, _*_, _≤_, _<_};
-ghost use lib.ListN.{length};
+ghost use lib.ListN.{length, getD, take};
 ghost use lib.Dec.{T};
-ghost use Rattle.layout.specs.Lists.{written};
-ghost use Rattle.layout.specs.Problem.{one64, minusOne64};
+ghost use Rattle.layout.specs.General.Lists.{written, part, sameNumbers};
+ghost use Rattle.layout.specs.General.Floats.{one64, minusOne64};
 ghost use Rattle.layout.specs.Checks.{startsRight};
-ghost use Rattle.layout.specs.Compact.{csc};
-ghost use Rattle.layout.specs.Runs.{sums, runStarts, runCount};
-ghost use Rattle.codes.specs.Codes.{RowsInside};
+ghost use Rattle.layout.specs.Cuts.Compact.{csc};
+ghost use Rattle.layout.specs.Cuts.Runs.{sums, runStarts, runCount};
+ghost use Rattle.rows_codes.specs.Codes.{RowsInside};
 ghost use Rattle.csc.specs.Matrix.{matrix, table, ColumnsInside};
 ghost use Rattle.augment_standard.specs.Beside.{pairValues, besideStarts};
 ghost use Rattle.augment_compact.specs.Cut.{codedColumns, tiedRows, cutRows, cutValues, Behind};
 ghost use Rattle.augment_compact.specs.Places.{rowTable, ColumnsInOrder, RunsStart};
-ghost use Rattle.columns.specs.Marks.{Placing, Clear};
-use codes::FIRST_OVERLAP;
+ghost use Rattle.augment_compact.specs.Groups.{unmarked, Marking, RowsGrow, ValuesGrow};
+ghost use Rattle.cut_gather.specs.Gathered.{MarksInside, markedValue};
+ghost use Rattle.cut_columns.specs.Marks.{Placing, Clear, markedBelow};
 use constants::scratch;
+use rows_codes::FIRST_OVERLAP;
 
 // Writes to `place`, at each original row that moves, the augmented row it moves to.
 pub fn write_place(place: &mut [u32], codes: &[u32])
@@ -41,6 +45,149 @@ pub fn write_starts(out: &mut [u32], n: u32, starts: &[u32], rows: &[u32], k: us
 {
     let entries = csc::write_run_starts(&mut *out, n, starts, rows);
     augment_standard::write_h_starts(&mut out[starts.len()..], entries, k);
+}
+
+// Writes a column with the rows of an earlier one, whose output rows start at `from` and whose marks are in `codes`: the same rows at `start`, and each
+// row's value from `values`.
+fn repeat_column(
+    rows_out: &mut [u32],
+    values_out: &mut [f64],
+    codes: &[u32],
+    values: &[f64],
+    from: usize,
+    start: usize,
+)
+    requires { ⌜ MarksInside (now codes) (length (now values)) (part from (from + length (now values)) (now «rows_out»)) ⌝ }
+    requires { ⌜ (from + length (now values) ≤ start) × (start + length (now values) ≤ length (now «rows_out»)) × (start + length (now values) ≤ length (now «values_out»)) ⌝ }
+    ensures { λ _. ⌜ now («rows_out» .exit) ≡ written (take start (now («rows_out» .entry)) ++ part from (from + length (now (values .entry))) (now («rows_out» .entry))) (now («rows_out» .entry)) ⌝ }
+    ensures { λ _. ⌜ now («values_out» .exit) ≡ written (take start (now («values_out» .entry)) ++ map (markedValue (now (codes .entry)) (now (values .entry))) (part from (from + length (now (values .entry))) (now («rows_out» .entry)))) (now («values_out» .entry)) ⌝ }
+{
+    let mut i = 0;
+    while i < values.len() {
+        let r = rows_out[from + i];
+        let t = codes[r as usize] - 1048576;
+        rows_out[start + i] = r;
+        values_out[start + i] = values[t as usize];
+        i += 1;
+    }
+}
+
+// Returns whether columns `c` and `d` have the same rows.
+fn same_rows(starts: &[u32], rows: &[u32], c: usize, d: usize) -> bool
+    requires { ⌜ (c + 1 < length (now starts)) × (getD (now starts) c 0 ≤ getD (now starts) (c + 1) 0) × (getD (now starts) (c + 1) 0 ≤ length (now rows)) ⌝ }
+    requires { ⌜ (d + 1 < length (now starts)) × (getD (now starts) d 0 ≤ getD (now starts) (d + 1) 0) × (getD (now starts) (d + 1) 0 ≤ length (now rows)) ⌝ }
+    ensures { λ r. ⌜ r ≡ sameNumbers (part (getD (now (starts .entry)) c 0) (getD (now (starts .entry)) (c + 1) 0) (now (rows .entry))) (part (getD (now (starts .entry)) d 0) (getD (now (starts .entry)) (d + 1) 0) (now (rows .entry))) ⌝ }
+{
+    let first = starts[c] as usize;
+    let end = starts[c + 1] as usize;
+    let first2 = starts[d] as usize;
+    let end2 = starts[d + 1] as usize;
+    same_tables::same_numbers(&rows[first..end], &rows[first2..end2])
+}
+
+// Writes the columns after column `c`, up to the first with other rows, by the marks of column `c` in `codes`; `place` tells where its rows moved.
+// Returns the first column that is not written.
+fn write_followers(
+    rows_out: &mut [u32],
+    values_out: &mut [f64],
+    codes: &[u32],
+    place: &[u32],
+    n: u32,
+    starts: &[u32],
+    rows: &[u32],
+    values: &[f64],
+    run_starts: &[u32],
+    c: usize,
+) -> usize
+    requires { let M = matrix (now starts) (now rows) (now values) in ⌜ T (startsRight n M) × ColumnsInOrder n M × RunsStart n M (now «run_starts») ⌝ }
+    requires { let M = matrix (now starts) (now rows) (now values) in ⌜ (c < n) × Marking M (now place) c (unmarked M (now place) c (now codes)) (now codes) ⌝ }
+    requires { let M = matrix (now starts) (now rows) (now values) in ⌜ (runCount n M ≤ length (now «rows_out»)) × (runCount n M ≤ length (now «values_out»)) ⌝ }
+    requires { ⌜ part (getD (now «run_starts») c 0) (getD (now «run_starts») (c + 1) 0) (now «rows_out») ≡ markedBelow (now codes) (length (now codes)) ⌝ }
+    ensures { λ d. ⌜ (c < d) × (d ≤ n) ⌝ }
+    ensures { λ d. let M = matrix (now (starts .entry)) (now (rows .entry)) (now (values .entry)) in ⌜ RowsGrow n M (unmarked M (now (place .entry)) c (now (codes .entry))) (c + 1) d (now («rows_out» .entry)) (now («rows_out» .exit)) ⌝ }
+    ensures { λ d. let M = matrix (now (starts .entry)) (now (rows .entry)) (now (values .entry)) in ⌜ ValuesGrow n M (unmarked M (now (place .entry)) c (now (codes .entry))) (c + 1) d (now («values_out» .entry)) (now («values_out» .exit)) ⌝ }
+{
+    let count = n as usize;
+    let from = run_starts[c] as usize;
+    let mut d = c + 1;
+    while d < count {
+        if !same_rows(starts, rows, c, d) {
+            break;
+        }
+        let first = starts[d] as usize;
+        let end = starts[d + 1] as usize;
+        let start = run_starts[d] as usize;
+        repeat_column(
+            &mut *rows_out,
+            &mut *values_out,
+            codes,
+            &values[first..end],
+            from,
+            start,
+        );
+        d += 1;
+    }
+    d
+}
+
+// Writes column `c` of A over the augmented rows and, where it was sorted by marks, the columns after it with the same rows. `codes` and the flags in
+// `chunks` are changed on the way and restored. Returns the first column that is not written.
+fn write_group(
+    rows_out: &mut [u32],
+    values_out: &mut [f64],
+    codes: &mut [u32],
+    chunks: &mut [bool],
+    place: &[u32],
+    n: u32,
+    starts: &[u32],
+    rows: &[u32],
+    values: &[f64],
+    run_starts: &[u32],
+    c: usize,
+) -> usize
+    requires { let M = matrix (now starts) (now rows) (now values) in ⌜ T (startsRight n M) × ColumnsInOrder n M × RunsStart n M (now «run_starts») ⌝ }
+    requires { ⌜ Placing (now codes) (now place) (now rows) × Clear (length (now codes)) (now chunks) × (c < n) ⌝ }
+    requires { let M = matrix (now starts) (now rows) (now values) in ⌜ (runCount n M ≤ length (now «rows_out»)) × (runCount n M ≤ length (now «values_out»)) ⌝ }
+    ensures { λ d. ⌜ (c < d) × (d ≤ n) ⌝ }
+    ensures { λ d. let M = matrix (now (starts .entry)) (now (rows .entry)) (now (values .entry)) in ⌜ RowsGrow n M (now (codes .entry)) c d (now («rows_out» .entry)) (now («rows_out» .exit)) ⌝ }
+    ensures { λ d. let M = matrix (now (starts .entry)) (now (rows .entry)) (now (values .entry)) in ⌜ ValuesGrow n M (now (codes .entry)) c d (now («values_out» .entry)) (now («values_out» .exit)) ⌝ }
+    ensures { λ _. ⌜ now (codes .exit) ≡ now (codes .entry) ⌝ }
+    ensures { λ _. ⌜ now (chunks .exit) ≡ now (chunks .entry) ⌝ }
+{
+    let first = starts[c] as usize;
+    let end = starts[c + 1] as usize;
+    let start = run_starts[c] as usize;
+    let stop = run_starts[c + 1] as usize;
+    let marked = cut_columns::move_column(
+        &mut *rows_out,
+        &mut *values_out,
+        &mut *codes,
+        chunks,
+        place,
+        rows,
+        values,
+        first,
+        end,
+        start,
+        stop,
+    );
+    if !marked {
+        return c + 1;
+    }
+    let d = write_followers(
+        rows_out,
+        values_out,
+        &*codes,
+        place,
+        n,
+        starts,
+        rows,
+        values,
+        run_starts,
+        c,
+    );
+    cut_columns::put_back(codes, place, &rows[first..end]);
+    d
 }
 
 // Writes the `n` columns of A over the augmented rows, with one entry for each run. `codes` and the flags in `chunks` are changed on the way
@@ -68,22 +215,19 @@ pub fn write_columns(
     let count = n as usize;
     let mut c = 0;
     while c < count {
-        let first = starts[c] as usize;
-        let end = starts[c + 1] as usize;
-        columns::move_column(
+        c = write_group(
             &mut *rows_out,
             &mut *values_out,
             &mut *codes,
             &mut *chunks,
             place,
+            n,
+            starts,
             rows,
             values,
-            first,
-            end,
-            run_starts[c] as usize,
-            run_starts[c + 1] as usize,
+            run_starts,
+            c,
         );
-        c += 1;
     }
 }
 

@@ -5,14 +5,15 @@ use mathlib.Core.List.{List, [], _∷_, _++_, map}
 use lib.ListN.{length}
 use lib.Dec.{T}
 use lib.Ieee.{Float}
-use Rattle.layout.specs.Lists.{below}
-use Rattle.layout.specs.Problem.{Problem, Csc, one64, minusOne64}
-use Rattle.layout.specs.Blocks.{standardRows}
+use Rattle.layout.specs.General.Lists.{below}
+use Rattle.layout.specs.General.Floats.{one64, minusOne64}
+use Rattle.layout.specs.Problems.Problem.{Problem, Csc}
+use Rattle.layout.specs.Rows.Blocks.{standardRows}
 use Rattle.layout.specs.Checks.{layout, startsRight}
-use Rattle.layout.specs.Compact.{column, csc}
-use Rattle.layout.specs.Standard.{blockColumns, standardA}
-use Rattle.layout.proofs.Columns.{RightStarts, starts-right}
-use Rattle.layout.proofs.Compressed.{totals}
+use Rattle.layout.specs.Cuts.Compact.{column, csc}
+use Rattle.layout.specs.Cuts.Standard.{blockColumns, standardA}
+use Rattle.layout.proofs.Columns.Columns.{RightStarts, starts-right}
+use Rattle.layout.proofs.Columns.Compressed.{totals}
 use Rattle.csc.proofs.Compressed.{starts-beside, rows-beside, values-beside}
 use Rattle.augment_standard.specs.Beside.{hStarts, hRows, pairValues, besideH}
 

@@ -7,10 +7,10 @@ use mathlib.Core.List.{List, [], _∷_, _++_}
 use lib.ListN.{length, getD, take, drop, set, length-drop}
 use lib.Seq.{take-suc, take-all, length-take-le, getD-take, getD-drop}
 use lib.Ieee.{Float}
-use Rattle.layout.specs.Lists.{written}
-use Rattle.layout.proofs.Starts.{written-rest}
+use Rattle.layout.specs.General.Lists.{written}
+use Rattle.layout.proofs.Lists.Starts.{written-rest}
 use Rattle.augment_standard.specs.Beside.{hStarts, hRows, pairValues}
-use Rattle.layout.proofs.Buffers.{two-more}
+use Rattle.layout.proofs.Lists.Buffers.{two-more}
 
 pub length-hStarts : (a k : ℕ) → length (hStarts a k) ≡ k
 length-hStarts a zero = refl

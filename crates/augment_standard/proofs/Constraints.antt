@@ -5,11 +5,11 @@ use mathlib.Core.Path.{_≡_, ap, _∙_}
 use mathlib.Core.List.{List}
 use lib.ListN.{length}
 use lib.Dec.{T}
-use Rattle.layout.specs.Lists.{written}
-use Rattle.layout.specs.Problem.{Problem, Route}
+use Rattle.layout.specs.General.Lists.{written}
+use Rattle.layout.specs.Problems.Problem.{Problem, Route}
 use Rattle.layout.specs.Checks.{Sound, startsRight}
-use Rattle.layout.proofs.Accepted.{accepted-sound, accepted-checked}
-use Rattle.layout.proofs.Columns.{right-A}
+use Rattle.layout.proofs.Checks.Accepted.{accepted-sound, accepted-checked}
+use Rattle.layout.proofs.Columns.Columns.{right-A}
 use Rattle.augment_standard.specs.Constraints.{completed, Accepted}
 
 -- writing a list is writing an equal list

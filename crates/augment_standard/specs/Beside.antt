@@ -3,7 +3,8 @@ use Prim.Native.Nat.{ℕ, zero, suc, _+_}
 use mathlib.Core.List.{List, [], _∷_, _++_}
 use lib.ListN.{length}
 use lib.Ieee.{Float}
-use Rattle.layout.specs.Problem.{Csc, one64, minusOne64}
+use Rattle.layout.specs.General.Floats.{one64, minusOne64}
+use Rattle.layout.specs.Problems.Problem.{Csc}
 
 -- the ends of k columns of two entries each, after a entries
 abbrev pub hStarts : ℕ → ℕ → List ℕ

@@ -3,7 +3,7 @@ use Prim.Native.Nat.{ℕ}
 use mathlib.Core.Path.{_≡_}
 use mathlib.Core.List.{List, []}
 use lib.Ieee.{Float}
-use Rattle.layout.specs.Problem.{Problem, Csc, Route, problem}
+use Rattle.layout.specs.Problems.Problem.{Problem, Csc, Route, problem}
 use Rattle.layout.specs.Checks.{refusal}
 
 -- a problem with A, b, the cones and the patterns, and empty P, q and α

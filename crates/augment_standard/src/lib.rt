@@ -2,7 +2,7 @@
 ghost use mathlib.Core.Path.{_≡_};
 ghost use Prim.Native.Nat.{_+_, _*_, _≤_, _<_};
 ghost use lib.ListN.{length, take, drop};
-ghost use Rattle.layout.specs.Lists.{written};
+ghost use Rattle.layout.specs.General.Lists.{written};
 ghost use Rattle.augment_standard.specs.Beside.{hStarts, hRows, pairValues, besideStarts, besideValues};
 
 // Writes the ends of `k` columns of H over -I, which have two entries each, to `out`; there are `entries` entries before them.

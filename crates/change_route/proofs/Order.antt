@@ -6,16 +6,17 @@ use mathlib.Core.Bool.{Bool, true, false, cond, _&&_}
 use mathlib.Core.List.{List, [], _∷_}
 use lib.ListN.{length}
 use lib.Dec.{leb}
-use Rattle.layout.specs.Problem.{standard, compact, Solution}
-use Rattle.layout.specs.Blocks.{Part, blockRowCount, overlapCount}
+use Rattle.layout.specs.Problems.Problem.{standard, compact, Solution}
+use Rattle.layout.specs.Rows.Blocks.{Part, blockRowCount, overlapCount}
 use Rattle.layout.specs.Checks.{Sound, Check, check, firstFailing, conesBounded, check10}
-use Rattle.layout.specs.Answers.{orElse, roomy, joinedParts, joinChecks, solutionFits}
-use Rattle.layout.specs.ChangeRoute.{changedSizes, changeRefusal}
-use Rattle.layout.proofs.Tests.{and-iff, leb-iff, eqb-iff}
-use Rattle.layout.proofs.Order.{passed, failing-append}
-use Rattle.layout.proofs.ChangeRoute.{change-checked, change-sound}
-use Rattle.checks.specs.Order.{joinedChecks, joinedRefusal}
-use Rattle.checks.proofs.Order.{joined-then-route, first-given}
+use Rattle.layout.specs.Calls.Answers.{orElse, roomy}
+use Rattle.layout.specs.Calls.Join.{joinedParts, joinChecks, solutionFits}
+use Rattle.layout.specs.Calls.ChangeRoute.{changedSizes, changeRefusal}
+use Rattle.layout.proofs.Lists.Tests.{and-iff, leb-iff, eqb-iff}
+use Rattle.layout.proofs.Checks.Order.{passed, failing-append}
+use Rattle.layout.proofs.Theorems.ChangeRoute.{change-checked, change-sound}
+use Rattle.check_problem.specs.Order.{joinedChecks, joinedRefusal}
+use Rattle.check_problem.proofs.Order.{joined-then-route, first-given}
 use Rattle.chordal_info.specs.Routes.{Counted}
 use Rattle.change_route.specs.Counted.{countedRefusal}
 

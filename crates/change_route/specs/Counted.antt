@@ -1,11 +1,11 @@
 -- The refusals from counts and lengths: n, m, the numbers of block rows and overlaps, the lengths of x, s and z, and the length of each output.
 use Prim.Native.Nat.{ℕ, _+_}
 use mathlib.Core.List.{List, [], _∷_}
-use Rattle.layout.specs.Problem.{standard, compact}
+use Rattle.layout.specs.Problems.Problem.{standard, compact}
 use Rattle.layout.specs.Checks.{check, firstFailing}
-use Rattle.layout.specs.Answers.{roomy}
+use Rattle.layout.specs.Calls.Answers.{roomy}
 use Rattle.chordal_info.specs.Sizes.{rowsFit}
-use Rattle.decomp_reverse.specs.Fits.{lengthsFit}
+use Rattle.join_on_route.specs.Fits.{lengthsFit}
 
 -- the first failing one of check 10 of both routes, 11 and 12
 unfoldable pub countedRefusal : ℕ → ℕ → ℕ → ℕ → ℕ → ℕ → ℕ → List ℕ → ℕ

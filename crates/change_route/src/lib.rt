@@ -2,16 +2,16 @@
 ghost use mathlib.Core.Path.{_≡_};
 ghost use mathlib.Core.List.{[], _∷_};
 ghost use Prim.Native.Nat.{_≤_};
-ghost use Rattle.layout.specs.Problem.{solution};
+ghost use Rattle.layout.specs.Problems.Problem.{solution};
 ghost use Rattle.layout.specs.Calls.Join.{rejoined};
 ghost use Rattle.layout.specs.Calls.ChangeRoute.{ChangeRoute};
 ghost use Rattle.change_route.specs.Counted.{countedRefusal};
 use chordal_info::rows_right;
 use constants::refusal;
 use constants::route;
-use decomp_reverse::lengths_fit;
-use decomp_reverse::room_enough;
-use decomp_reverse::write_scalars;
+use join_on_route::lengths_fit;
+use join_on_route::room_enough;
+use join_on_route::write_scalars;
 use reverse_standard::Scalars;
 
 // Makes checks 10 to 12 in order, from counts and lengths: 10 of both routes, the output lengths, and the lengths of x, s and z. Returns the first
@@ -78,7 +78,7 @@ pub fn change_route(
         let after = rejoined (now («x_out» .exit)) (now («s_out» .exit)) (now («z_out» .exit)) (now («scalars_out» .exit)) in
         ⌜ ChangeRoute n m (now (cones .entry)) count (now (words .entry)) sol before after r ⌝ }
 {
-    let c = checks::check_joined(n, m, cones, count, words);
+    let c = check_problem::check_joined(n, m, cones, count, words);
     if c.refusal != 0 {
         return c.refusal;
     }
@@ -98,8 +98,8 @@ pub fn change_route(
     if r != 0 {
         return r;
     }
-    compact_order::change_x(n, x, c.overlaps, x_out);
-    compact_order::change_slacks(m, cones, count, words, s, z, s_out, z_out);
+    change_order::change_x(n, x, c.overlaps, x_out);
+    change_order::change_slacks(m, cones, count, words, s, z, s_out, z_out);
     let scalars = Scalars {
         tau: tau,
         kappa: kappa,

@@ -5,19 +5,19 @@ use mathlib.Core.Path.{_≡_, sym, subst}
 use mathlib.Core.List.{List, [], _∷_, map}
 use lib.ListN.{length, getD}
 use lib.Dec.{T, leb}
-use Rattle.layout.specs.Lists.{all, sum}
-use Rattle.layout.specs.Triangle.{triangle}
-use Rattle.layout.specs.Problem.{Problem, Route}
-use Rattle.layout.specs.Cones.{records, rowCount}
-use Rattle.layout.specs.Patterns.{Clique, blockSize, noClique, patterns}
-use Rattle.layout.specs.Blocks.{Part, whole, cut, parts, partRows, partOverlaps, blockRowCount, overlapCount, coneCount}
+use Rattle.layout.specs.General.Lists.{all, sum}
+use Rattle.layout.specs.General.Triangle.{triangle}
+use Rattle.layout.specs.Problems.Problem.{Problem, Route}
+use Rattle.layout.specs.Problems.Cones.{records, rowCount}
+use Rattle.layout.specs.Problems.Patterns.{Clique, blockSize, noClique, patterns}
+use Rattle.layout.specs.Rows.Blocks.{Part, whole, cut, parts, partRows, partOverlaps, blockRowCount, overlapCount, coneCount}
 use Rattle.layout.specs.Checks.{Sound, sizesBounded, layout, checks, refusal, Laid}
-use Rattle.layout.proofs.Tests.{and-iff, leb-iff}
-use Rattle.layout.proofs.Triangles.{triangle-mono}
-use Rattle.layout.proofs.Tree.{cliques-right}
-use Rattle.layout.proofs.Laid.{sound-laid, parts-count}
-use Rattle.layout.proofs.Order.{passed}
-use Rattle.layout.proofs.Accepted.{accepted-checked}
+use Rattle.layout.proofs.Lists.Tests.{and-iff, leb-iff}
+use Rattle.layout.proofs.Numbers.Triangles.{triangle-mono}
+use Rattle.layout.proofs.Patterns.Tree.{cliques-right}
+use Rattle.layout.proofs.Rows.Laid.{sound-laid, parts-count}
+use Rattle.layout.proofs.Checks.Order.{passed}
+use Rattle.layout.proofs.Checks.Accepted.{accepted-checked}
 use Rattle.chordal_info.specs.Sizes.{entriesKept, Fitting}
 use Rattle.chordal_info.proofs.Sizes.{rows-fit, entries-few}
 

@@ -4,11 +4,11 @@ use mathlib.Core.Path.{_≡_, refl, ap}
 use mathlib.Core.Bool.{Bool, true, false, cond}
 use mathlib.Core.List.{List, [], _∷_}
 use lib.Ieee.{Float}
-use Rattle.layout.specs.Problem.{Problem, Route, standard, compact}
-use Rattle.layout.specs.Blocks.{Part}
+use Rattle.layout.specs.Problems.Problem.{Problem, Route, standard, compact}
+use Rattle.layout.specs.Rows.Blocks.{Part}
 use Rattle.layout.specs.Checks.{layout, check9, check10, check, firstFailing}
-use Rattle.layout.specs.Answers.{routeOf}
-use Rattle.covered_rows.specs.Covered.{entriesRight}
+use Rattle.layout.specs.Calls.Answers.{routeOf}
+use Rattle.check_covered.specs.Covered.{entriesRight}
 use Rattle.chordal_info.specs.Sizes.{rowsFit}
 use Rattle.chordal_info.specs.Routes.{entriesCheck, Counted}
 use Rattle.chordal_info.proofs.Sizes.{rows-fit}

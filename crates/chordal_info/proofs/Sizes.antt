@@ -9,14 +9,14 @@ use mathlib.Core.List.{List, [], _∷_}
 use lib.ListN.{length}
 use lib.Dec.{T, leb}
 use borrow.Author.Tests.{lt-leb}
-use Rattle.layout.specs.Problem.{Problem, Route, standard, compact}
-use Rattle.layout.specs.Blocks.{Part, blockRowCount, overlapCount, coneCount}
+use Rattle.layout.specs.Problems.Problem.{Problem, Route, standard, compact}
+use Rattle.layout.specs.Rows.Blocks.{Part, blockRowCount, overlapCount, coneCount}
 use Rattle.layout.specs.Checks.{layout, check10, refusal}
-use Rattle.layout.specs.Answers.{sizes}
-use Rattle.layout.proofs.Tests.{and-iff, leb-iff}
-use Rattle.layout.proofs.Accepted.{accepted-checked}
-use Rattle.layout.proofs.Columns.{right-A}
-use Rattle.layout.proofs.Sizes.{compactSizes, compact-sizes, standardSizes, standard-sizes}
+use Rattle.layout.specs.Calls.Cut.{sizes}
+use Rattle.layout.proofs.Lists.Tests.{and-iff, leb-iff}
+use Rattle.layout.proofs.Checks.Accepted.{accepted-checked}
+use Rattle.layout.proofs.Columns.Columns.{right-A}
+use Rattle.layout.proofs.Columns.Sizes.{compactSizes, compact-sizes, standardSizes, standard-sizes}
 use Rattle.csc.proofs.Runs.{sums-count, count-few}
 use Rattle.chordal_info.specs.Sizes.{rowsFit, outputLengths, entriesKept, routeSizes}
 

@@ -4,10 +4,10 @@ use mathlib.Core.Path.{_≡_}
 use mathlib.Core.Bool.{Bool, true}
 use mathlib.Core.List.{List, [], _∷_}
 use lib.Ieee.{Float}
-use Rattle.layout.specs.Problem.{Route, standard, compact}
-use Rattle.layout.specs.Blocks.{Part, blockRowCount, overlapCount}
+use Rattle.layout.specs.Problems.Problem.{Route, standard, compact}
+use Rattle.layout.specs.Rows.Blocks.{Part, blockRowCount, overlapCount}
 use Rattle.layout.specs.Checks.{check10, Check, check}
-use Rattle.covered_rows.specs.Covered.{entriesRight}
+use Rattle.check_covered.specs.Covered.{entriesRight}
 
 abbrev pub entriesCheck : Route → ℕ → List ℕ → List Float → List Part → Bool
 entriesCheck standard m rows b ps = true

@@ -4,8 +4,8 @@ use mathlib.Core.Bool.{Bool, _&&_}
 use mathlib.Core.List.{List, [], _∷_}
 use lib.ListN.{length}
 use lib.Dec.{T, leb}
-use Rattle.layout.specs.Problem.{Route, standard, compact}
-use Rattle.layout.specs.Runs.{runCount}
+use Rattle.layout.specs.Problems.Problem.{Route, standard, compact}
+use Rattle.layout.specs.Cuts.Runs.{runCount}
 use Rattle.csc.specs.Matrix.{table}
 
 abbrev pub rowsFit : Route → ℕ → ℕ → ℕ → Bool

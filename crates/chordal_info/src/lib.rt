@@ -4,21 +4,21 @@ ghost use Prim.Native.Nat.{_≤_, _<_};
 ghost use mathlib.Core.Bool.{cond};
 ghost use lib.ListN.{length};
 ghost use lib.Dec.{T, ltb};
-ghost use Rattle.layout.specs.Lists.{all, written};
-ghost use Rattle.layout.specs.Cones.{records};
-ghost use Rattle.layout.specs.Patterns.{patterns};
-ghost use Rattle.layout.specs.Blocks.{parts};
+ghost use Rattle.layout.specs.General.Lists.{all, written};
+ghost use Rattle.layout.specs.Problems.Cones.{records};
+ghost use Rattle.layout.specs.Problems.Patterns.{patterns};
+ghost use Rattle.layout.specs.Rows.Blocks.{parts};
 ghost use Rattle.layout.specs.Checks.{Sound, firstFailing};
-ghost use Rattle.layout.specs.Answers.{routeOf};
+ghost use Rattle.layout.specs.Calls.Answers.{routeOf};
 ghost use Rattle.csc.specs.Matrix.{ColumnsInside};
 ghost use Rattle.chordal_info.specs.Sizes.{rowsFit, entriesKept, routeSizes, Fitting};
 ghost use Rattle.chordal_info.specs.Routes.{Counted, routeTests};
+use check_covered::entries_right;
 use constants::entry;
 use constants::limit;
 use constants::record;
 use constants::refusal;
 use constants::route;
-use covered_rows::entries_right;
 use csc::copy_numbers;
 
 // ---- check 10
@@ -91,7 +91,7 @@ const RECORD_WORDS: u32 = record::WORDS as u32;
 
 const ENTRY_WORDS: u32 = entry::WORDS as u32;
 
-// Writes the length of each of the cut's outputs to `out`, from the counts that `parts::get_decomposed_dim_and_overlaps` gives.
+// Writes the length of each of the cut's outputs to `out`, from the counts that `walk_cones::get_decomposed_dim_and_overlaps` gives.
 pub fn write_sizes(
     route: u32,
     n: u32,

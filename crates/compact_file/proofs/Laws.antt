@@ -9,19 +9,21 @@ use lib.ListN.{length, take, drop, set, replicate, length-append}
 use lib.Seq.{length-take-le}
 use lib.Dec.{leb}
 use lib.Ieee.{Float}
-use Rattle.layout.specs.Lists.{Below, written}
-use Rattle.layout.specs.Problem.{Problem, compact}
+use Rattle.layout.specs.General.Lists.{Below, written}
+use Rattle.layout.specs.General.Floats.{floats}
+use Rattle.layout.specs.Problems.Problem.{Problem, compact}
 use Rattle.layout.specs.Checks.{checks, refusal}
-use Rattle.layout.specs.Answers.{orElse, output, sizes, problemRefusal}
-use Rattle.layout.specs.File.{BitTables, floats, problemOf, widths, products, endFrom, fileOf, fileTables, shapeFailing, compactTables, compactFile, refusedText, answer, programRefusal, programOutput}
-use Rattle.layout.specs.FileWords.{pairsOf, fileWords, wordTables, wordShapeFailing, wordShapeChecks}
+use Rattle.layout.specs.Calls.Answers.{orElse, output, problemRefusal}
+use Rattle.layout.specs.Calls.Cut.{sizes}
+use Rattle.layout.specs.Files.File.{BitTables, problemOf, widths, products, endFrom, fileOf, fileTables, shapeFailing, compactTables, compactFile, refusedText, answer, programRefusal, programOutput}
+use Rattle.layout.specs.Files.FileWords.{pairsOf, fileWords, wordTables, wordShapeFailing, wordShapeChecks}
 use Rattle.layout.specs.Calls.Sizes.{Sizes}
 use Rattle.layout.specs.Calls.FileWords.{FileWords}
-use Rattle.layout.proofs.Buffers.{set-written, two-more}
-use Rattle.layout.proofs.Order.{failing-most}
-use Rattle.layout.proofs.File.{read-passed}
-use Rattle.layout.proofs.FileWords.{words-length, shape-words, words-tables}
-use Rattle.layout.proofs.Program.{compact-length, program-in-order, program-read}
+use Rattle.layout.proofs.Lists.Buffers.{set-written, two-more}
+use Rattle.layout.proofs.Checks.Order.{failing-most}
+use Rattle.layout.proofs.Theorems.File.{read-passed}
+use Rattle.layout.proofs.Files.FileWords.{words-length, shape-words, words-tables}
+use Rattle.layout.proofs.Theorems.Program.{compact-length, program-in-order, program-read}
 use Rattle.file_views.proofs.Doubles.{pairs-even, length-halved}
 use Rattle.compact_tables.specs.Writers.{Writes}
 use Rattle.compact_tables.proofs.Fronts.{front, front-floats}

@@ -5,12 +5,12 @@ use mathlib.Core.Path.{_≡_}
 use mathlib.Core.List.{List, []}
 use lib.ListN.{length}
 use lib.Dec.{leb}
-use Rattle.layout.specs.Lists.{written}
-use Rattle.layout.specs.Problem.{compact}
+use Rattle.layout.specs.General.Lists.{written}
+use Rattle.layout.specs.Problems.Problem.{compact}
 use Rattle.layout.specs.Checks.{refusal}
-use Rattle.layout.specs.Answers.{orElse, problemRefusal}
-use Rattle.layout.specs.File.{BitTables, problemOf, fileOf, compactTables, answer, programOutput}
-use Rattle.layout.specs.FileWords.{wordTables, wordShapeFailing}
+use Rattle.layout.specs.Calls.Answers.{orElse, problemRefusal}
+use Rattle.layout.specs.Files.File.{BitTables, problemOf, fileOf, compactTables, answer, programOutput}
+use Rattle.layout.specs.Files.FileWords.{wordTables, wordShapeFailing}
 
 -- ---- tables
 

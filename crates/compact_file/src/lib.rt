@@ -3,9 +3,10 @@
 ghost use mathlib.Core.Path.{_≡_};
 ghost use Prim.Native.Nat.{_≤_, _<_};
 ghost use lib.ListN.{length};
-ghost use Rattle.layout.specs.Lists.{written};
-ghost use Rattle.layout.specs.File.{floats, refusedText};
-ghost use Rattle.layout.specs.FileWords.{pairsOf, wordTables, wordShapeFailing};
+ghost use Rattle.layout.specs.General.Lists.{written};
+ghost use Rattle.layout.specs.General.Floats.{floats};
+ghost use Rattle.layout.specs.Files.File.{refusedText};
+ghost use Rattle.layout.specs.Files.FileWords.{pairsOf, wordTables, wordShapeFailing};
 ghost use Rattle.file_shape.specs.Parts.{WellShaped};
 ghost use Rattle.compact_file.specs.Program.{cutTablesOutput, Small, wordsOutput, CutFile};
 use compact_tables::OUT_BYTES;
@@ -49,7 +50,7 @@ fn cut_doubles(words: &[u32], patterns: &[u64], values: &[f64], out: &mut [u8]) 
         ⌜ (r ≡ length (cutTablesOutput t)) × (now (out .exit) ≡ written (cutTablesOutput t) (now (out .entry))) ⌝ }
 {
     let mut lengths = [0u32; file_table::COUNT];
-    let number = file_parts::size_tables(words, values, &mut lengths);
+    let number = compact_parts::size_tables(words, values, &mut lengths);
     if number != 0 {
         return refuse(number, out);
     }

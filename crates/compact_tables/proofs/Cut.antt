@@ -7,17 +7,18 @@ use mathlib.Core.List.{List, [], _∷_, _++_}
 use lib.ListN.{length, getD, take, replicate, length-map}
 use lib.Dec.{lit<}
 use lib.Ieee.{Float, binary64, ofBits, toBits}
-use Rattle.layout.specs.Problem.{Problem, compact}
-use Rattle.layout.specs.Blocks.{blockRowCount, overlapCount}
+use Rattle.layout.specs.General.Floats.{floats, bits}
+use Rattle.layout.specs.Problems.Problem.{Problem, compact}
+use Rattle.layout.specs.Rows.Blocks.{blockRowCount, overlapCount}
 use Rattle.layout.specs.Checks.{layout, refusal}
-use Rattle.layout.specs.Answers.{Augmented, augmented, sizes, problemRefusal}
-use Rattle.layout.specs.File.{bitTables, BitTables, floats, bits, problemOf, widths, products, fileOf, compactTables}
-use Rattle.layout.specs.Calls.Cut.{Constrained, constrained, constrainedOf, HoldsConstrained}
-use Rattle.layout.proofs.Sizes.{compact-sizes}
-use Rattle.layout.proofs.Offsets.{table-inside}
-use Rattle.layout.proofs.Program.{compact-length}
-use Rattle.augment.specs.Fits.{ConstrainedFits}
-use Rattle.file_parts.specs.Problem.{constraintsOf}
+use Rattle.layout.specs.Calls.Cut.{Augmented, augmented, sizes, Constrained, constrained, constrainedOf, HoldsConstrained}
+use Rattle.layout.specs.Calls.Answers.{problemRefusal}
+use Rattle.layout.specs.Files.File.{bitTables, BitTables, problemOf, widths, products, fileOf, compactTables}
+use Rattle.layout.proofs.Columns.Sizes.{compact-sizes}
+use Rattle.layout.proofs.Files.Offsets.{table-inside}
+use Rattle.layout.proofs.Theorems.Program.{compact-length}
+use Rattle.cut_standard.specs.Fits.{ConstrainedFits}
+use Rattle.compact_parts.specs.Problem.{constraintsOf}
 use Rattle.compact_tables.specs.Writers.{Writes, extendedTables, Extends}
 use Rattle.compact_tables.proofs.Fronts.{front}
 

@@ -7,13 +7,13 @@ use mathlib.Core.List.{List, _++_}
 use borrow.Author.Tests.{le-leb}
 use lib.ListN.{length, getD, take, replicate, length-append, length-replicate}
 use lib.Dec.{lit<}
-use Rattle.layout.specs.Lists.{written}
-use Rattle.layout.specs.Answers.{orElse, roomRefusal, output, problemRefusal}
-use Rattle.layout.specs.File.{bitTables, BitTables, problemOf, fileOf, writeRefusal}
-use Rattle.layout.specs.FileWords.{pairsOf, wordsAt, wordTables}
+use Rattle.layout.specs.General.Lists.{written}
+use Rattle.layout.specs.Calls.Answers.{orElse, roomRefusal, output, problemRefusal}
+use Rattle.layout.specs.Files.File.{bitTables, BitTables, problemOf, fileOf, writeRefusal}
+use Rattle.layout.specs.Files.FileWords.{pairsOf, wordsAt, wordTables}
 use Rattle.layout.specs.Calls.WriteFile.{WriteFile}
-use Rattle.layout.proofs.Buffers.{take-none}
-use Rattle.layout.proofs.FileWalks.{length-words-at, length-pairs}
+use Rattle.layout.proofs.Lists.Buffers.{take-none}
+use Rattle.layout.proofs.Files.FileWalks.{length-words-at, length-pairs}
 use Rattle.file_shape.specs.Parts.{WellShaped}
 use Rattle.file_views.specs.Views.{tableWords}
 use Rattle.file_views.proofs.Doubles.{table-words, table-pairs}

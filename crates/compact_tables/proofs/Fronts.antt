@@ -6,9 +6,9 @@ use mathlib.Core.List.{List, _++_, append-assoc}
 use lib.ListN.{length, take, drop, replicate, length-map, length-append, length-replicate, replicate-append-replicate}
 use lib.Seq.{take-append-seam, drop-append-seam}
 use lib.Ieee.{Float, binary64, ofBits, toBits}
-use Rattle.layout.specs.Lists.{written}
-use Rattle.layout.specs.File.{floats, bits}
-use Rattle.layout.proofs.Buffers.{front-read}
+use Rattle.layout.specs.General.Lists.{written}
+use Rattle.layout.specs.General.Floats.{floats, bits}
+use Rattle.layout.proofs.Lists.Buffers.{front-read}
 
 module _ {A : Type 0} where
   pub front : (xs old : List A) (k : ℕ) {out : List A} → out ≡ written xs old → k ≡ length xs → take k out ≡ xs

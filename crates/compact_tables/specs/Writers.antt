@@ -3,10 +3,11 @@ use Prim.Native.Nat.{ℕ, _-_, _≤_}
 use mathlib.Core.Path.{_≡_}
 use mathlib.Core.List.{List, [], _∷_, _++_}
 use lib.ListN.{length, take, replicate}
-use Rattle.layout.specs.Problem.{compact}
+use Rattle.layout.specs.Problems.Problem.{compact}
 use Rattle.layout.specs.Checks.{refusal}
-use Rattle.layout.specs.Answers.{sizes, problemRefusal}
-use Rattle.layout.specs.File.{BitTables, bitTables, problemOf, fileOf, compactTables}
+use Rattle.layout.specs.Calls.Cut.{sizes}
+use Rattle.layout.specs.Calls.Answers.{problemRefusal}
+use Rattle.layout.specs.Files.File.{BitTables, bitTables, problemOf, fileOf, compactTables}
 
 -- the precondition of `write_cut`: the program does not refuse the tables, and lengths are those of the tables to be written
 pub record Writes (t : BitTables) (lengths : List ℕ) : Type 0 where

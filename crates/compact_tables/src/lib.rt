@@ -4,9 +4,10 @@ ghost use mathlib.Core.Path.{_≡_};
 ghost use mathlib.Core.List.{_++_};
 ghost use Prim.Native.Nat.{_≤_, _+_};
 ghost use lib.ListN.{length, replicate};
-ghost use Rattle.layout.specs.Lists.{written};
-ghost use Rattle.layout.specs.File.{bits, floats, fileOf, compactTables};
-ghost use Rattle.layout.specs.FileWords.{pairsOf, wordTables};
+ghost use Rattle.layout.specs.General.Lists.{written};
+ghost use Rattle.layout.specs.General.Floats.{bits, floats};
+ghost use Rattle.layout.specs.Files.File.{fileOf, compactTables};
+ghost use Rattle.layout.specs.Files.FileWords.{pairsOf, wordTables};
 ghost use Rattle.file_shape.specs.Parts.{WellShaped};
 ghost use Rattle.compact_tables.specs.Writers.{Writes, extendedTables, Extends};
 use constants::file_table;
@@ -127,7 +128,7 @@ pub fn write_cut(words: &[u32], patterns: &[u64], values: &[f64], lengths: &[u32
     let mut a_values_out = [0.0; OUT_DOUBLES];
     let mut b_out = [0.0; OUT_DOUBLES];
     let mut cones_out = [0u32; OUT_WORDS];
-    file_parts::cut_constraints(
+    compact_parts::cut_constraints(
         words,
         values,
         rows,

@@ -7,13 +7,13 @@ use mathlib.Core.List.{List, _++_, map, map-map, map-append}
 use lib.ListN.{length}
 use lib.Dec.{T}
 use lib.Ieee.{Float}
-use Rattle.layout.specs.Lists.{below, sum, join, startsFrom}
-use Rattle.layout.specs.Problem.{Csc}
+use Rattle.layout.specs.General.Lists.{below, sum, join, startsFrom}
+use Rattle.layout.specs.Problems.Problem.{Csc}
 use Rattle.layout.specs.Checks.{startsRight}
-use Rattle.layout.specs.Compact.{Entry, column, csc}
-use Rattle.layout.proofs.Starts.{join-append}
-use Rattle.layout.proofs.Columns.{RightStarts, starts-right, columns-sum}
-use Rattle.layout.proofs.Compressed.{totals, starts-append, own-rows, own-values, own-starts}
+use Rattle.layout.specs.Cuts.Compact.{Entry, column, csc}
+use Rattle.layout.proofs.Lists.Starts.{join-append}
+use Rattle.layout.proofs.Columns.Columns.{RightStarts, starts-right, columns-sum}
+use Rattle.layout.proofs.Columns.Compressed.{totals, starts-append, own-rows, own-values, own-starts}
 use Rattle.csc.specs.Matrix.{ColumnsInside}
 
 -- ---- concatenated columns

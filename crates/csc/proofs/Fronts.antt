@@ -1,18 +1,19 @@
--- Tests of each element of a list against the next one, step by step from the front.
-use Prim.Native.Nat.{ℕ, zero, suc, _+_, _≤_, _<_}
+-- Tests of each element of a list against the next one, step by step from the front; tests of the columns of a matrix without rows.
+use Prim.Native.Nat.{ℕ, zero, suc, _+_, _-_, _≤_, _<_}
 use native.Mathlib.Numerals.{add-one}
 use native.Mathlib.Omega.{arith}
-use mathlib.Core.Path.{_≡_, refl, ap, _∙_}
+use mathlib.Core.Path.{_≡_, refl, ap, ap₂, _∙_}
 use mathlib.Core.Bool.{Bool, true, false, _&&_}
 use mathlib.Core.List.{List, [], _∷_}
-use lib.ListN.{length, getD, drop}
-use lib.Seq.{drop-cons}
+use lib.ListN.{length, getD, take, drop}
+use lib.Seq.{drop-cons, take-nil, drop-nil}
 use lib.Dec.{leb, ltb}
-use Rattle.layout.specs.Lists.{all, below, rises}
-use Rattle.layout.specs.Checks.{neverFalls}
-use Rattle.layout.proofs.Members.{length-below}
-use Rattle.layout.proofs.Walks.{all-done}
-use Rattle.layout.proofs.Keeps.{drop-below}
+use Rattle.layout.specs.General.Lists.{all, below, rises, neverFalls}
+use Rattle.layout.specs.Checks.{columnRows}
+use Rattle.layout.proofs.Lists.Members.{length-below}
+use Rattle.layout.proofs.Lists.Walks.{all-done}
+use Rattle.layout.proofs.Lists.Keeps.{drop-below}
+use Rattle.csc.specs.Matrix.{table}
 
 -- whether p holds of each number and the next one
 abbrev pub chained : (ℕ → ℕ → Bool) → List ℕ → Bool
@@ -61,3 +62,18 @@ module _ (p : ℕ → Bool) where
 
   pub below-done : (n k : ℕ) → n ≤ k → all p (drop k (below n)) ≡ true
   below-done n k h = all-done p (below n) k (omega (arith, length-below n))
+
+-- a matrix without rows passes check 3, whatever test p is made on the rows of each column
+pub empty-passes : (p : List ℕ → Bool) → p [] ≡ true → (m n : ℕ) (starts rows : List ℕ) → length rows ≡ 0
+    → (all (λ r. ltb r m) rows && all (λ c. p (columnRows (table starts rows) c)) (below n)) ≡ true
+empty-passes p e m n starts (r ∷ rows) h = absurd (omega arith)
+empty-passes p e m n starts [] h = go (below n)
+  where
+    none : (c : ℕ) → columnRows (table starts []) c ≡ []
+    none c =
+        let k = getD starts (suc c) 0 - getD starts c 0 in
+        ap (λ (rows : List ℕ). take k rows) (drop-nil (getD starts c 0)) ∙ take-nil k
+
+    go : (cs : List ℕ) → all (λ c. p (columnRows (table starts []) c)) cs ≡ true
+    go [] = refl
+    go (c ∷ cs) = ap₂ (λ (a b : Bool). a && b) (ap p (none c) ∙ e) (go cs)

@@ -10,18 +10,18 @@ use lib.ListN.{length, getD, drop, set, length-drop, length-map, drop-of-length-
 use lib.Seq.{drop-cons, length-take-le}
 use lib.Dec.{eqb}
 use borrow.Author.Tests.{eq-eqb, ne-eqb}
-use Rattle.layout.specs.Lists.{below, sum, startsFrom, written}
-use Rattle.layout.specs.Problem.{Csc, Problem, problem}
+use Rattle.layout.specs.General.Lists.{below, sum, startsFrom, written}
+use Rattle.layout.specs.Problems.Problem.{Csc, Problem, problem}
 use Rattle.layout.specs.Checks.{columnRows}
-use Rattle.layout.specs.Compact.{column, summed}
-use Rattle.layout.specs.Runs.{sums, runs, runFirst, runLast, alike, runCounts, runStarts, runCount}
-use Rattle.layout.proofs.Members.{length-below, getD-map, getD-below, has-below}
-use Rattle.layout.proofs.Joins.{map-same}
-use Rattle.layout.proofs.Keeps.{below-more}
-use Rattle.layout.proofs.Starts.{sum-append, sum-take, length-starts, starts-at}
-use Rattle.layout.proofs.Compressed.{starts-append}
-use Rattle.layout.proofs.Columns.{RightStarts, column-rows, entry-count}
-use Rattle.layout.proofs.Repeats.{run-more, runs-few, summed-count, summed-column}
+use Rattle.layout.specs.Cuts.Compact.{column, summed}
+use Rattle.layout.specs.Cuts.Runs.{sums, runs, runFirst, runLast, alike, runCounts, runStarts, runCount}
+use Rattle.layout.proofs.Lists.Members.{length-below, getD-map, getD-below, has-below}
+use Rattle.layout.proofs.Lists.Joins.{map-same}
+use Rattle.layout.proofs.Lists.Keeps.{below-more}
+use Rattle.layout.proofs.Lists.Starts.{sum-append, sum-take, length-starts, starts-at}
+use Rattle.layout.proofs.Columns.Compressed.{starts-append}
+use Rattle.layout.proofs.Columns.Columns.{RightStarts, column-rows, entry-count}
+use Rattle.layout.proofs.Columns.Repeats.{run-more, runs-few, summed-count, summed-column}
 use Rattle.csc.specs.Matrix.{table, ColumnsInside}
 
 -- ---- the run that contains an index

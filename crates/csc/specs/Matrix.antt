@@ -3,7 +3,7 @@ use Prim.Native.Nat.{ℕ, suc, _≤_, _<_}
 use mathlib.Core.List.{List, []}
 use lib.ListN.{length, getD}
 use lib.Ieee.{Float}
-use Rattle.layout.specs.Problem.{Csc}
+use Rattle.layout.specs.Problems.Problem.{Csc}
 
 abbrev pub matrix : List ℕ → List ℕ → List Float → Csc
 matrix starts rows values = record { starts = starts; rows = rows; values = values }

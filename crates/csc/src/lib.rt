@@ -5,25 +5,27 @@ ghost use mathlib.Core.List.{_++_};
 ghost use Prim.Native.Nat.{_+_, _≤_, _<_};
 ghost use lib.ListN.{length, replicate};
 ghost use lib.Dec.{T};
-ghost use Rattle.layout.specs.Lists.{all, below, rises, written};
-ghost use Rattle.layout.specs.Checks.{neverFalls, startsRight, rowsInOrder, rowsRight, columnRows};
-ghost use Rattle.layout.specs.Runs.{runs, runFirst, runLast, runStarts, runCount};
-ghost use Rattle.layout.specs.Compact.{extendedP};
-ghost use Rattle.layout.specs.FileWords.{unvalued};
+ghost use Rattle.layout.specs.General.Lists.{all, below, rises, written, neverFalls};
+ghost use Rattle.layout.specs.Checks.{startsRight, rowsInOrder, rowsRight, columnRows};
+ghost use Rattle.layout.specs.Cuts.Runs.{runs, runFirst, runLast, runStarts, runCount};
+ghost use Rattle.layout.specs.Cuts.Compact.{extendedP};
+ghost use Rattle.layout.specs.Files.FileWords.{unvalued};
 ghost use Rattle.csc.specs.Matrix.{matrix, table, ColumnsInside};
 
-// Checks that no number in `xs` is less than the one before it.
+// Checks that no number in `xs` is less than the one before it. The walk goes on after a fall, so that the compiler tests several numbers
+// at a time.
 fn never_falls(xs: &[u32]) -> bool
     ensures { λ r. ⌜ r ≡ neverFalls (now (xs .entry)) ⌝ }
 {
+    let mut holds = true;
     let mut i = 0;
     while i + 1 < xs.len() {
         if xs[i + 1] < xs[i] {
-            return false;
+            holds = false;
         }
         i += 1;
     }
-    true
+    holds
 }
 
 // Checks that `rows` is strictly increasing.
@@ -98,22 +100,28 @@ fn columns_never_fall(n: u32, starts: &[u32], rows: &[u32]) -> bool
 }
 
 // Makes check 3 on P: rows are below `m` and strictly increasing in each column, the rest of clarabel's check_format.
-// The matrix has passed check 2.
+// The matrix has passed check 2; without rows, its columns are not walked.
 pub fn rows_right(m: u32, n: u32, starts: &[u32], rows: &[u32]) -> bool
     requires { ⌜ ColumnsInside n (now starts) (now rows) ⌝ }
     ensures { λ r. ⌜ r ≡ rowsRight m n (table (now (starts .entry)) (now (rows .entry))) ⌝ }
 {
+    if rows.len() == 0 {
+        return true;
+    }
     if !utils::all_below(rows, m as usize) {
         return false;
     }
     columns_rise(n, starts, rows)
 }
 
-// Makes check 3 on A: rows are below `m` and never decrease in a column, where a row may repeat.
+// Makes check 3 on A: rows are below `m` and never decrease in a column, where a row may repeat. Without rows, the columns are not walked.
 pub fn rows_in_order(m: u32, n: u32, starts: &[u32], rows: &[u32]) -> bool
     requires { ⌜ ColumnsInside n (now starts) (now rows) ⌝ }
     ensures { λ r. ⌜ r ≡ rowsInOrder m n (table (now (starts .entry)) (now (rows .entry))) ⌝ }
 {
+    if rows.len() == 0 {
+        return true;
+    }
     let end = m as usize;
     if !utils::all_below(rows, end) {
         return false;

@@ -1,5 +1,5 @@
 // The cut of a problem on either route; clarabel's `decomp_augment`.
-ghost use Rattle.layout.specs.Problem.{problem};
+ghost use Rattle.layout.specs.Problems.Problem.{problem};
 ghost use Rattle.layout.specs.Calls.Cut.{outputs, Cut};
 
 // Cuts a problem on a route and writes the augmented one to the front of the outputs. Returns the refusal number, or 0.
@@ -71,8 +71,8 @@ pub fn cut(
     if refused != 0 {
         return refused;
     }
-    let d = constraints::count_added(route, m, cones, pattern_count, pattern_words);
-    augment::write_objective(
+    let d = cut_constraints::count_added(route, m, cones, pattern_count, pattern_words);
+    cut_standard::write_objective(
         n,
         p_starts,
         p_rows,
@@ -86,7 +86,7 @@ pub fn cut(
         q_out,
         alphas_out,
     );
-    constraints::write_constraints(
+    cut_constraints::write_constraints(
         route,
         n,
         m,

@@ -1,5 +1,5 @@
 // The compact cut of a problem whose b is known only within limits (Q-8).
-ghost use Rattle.layout.specs.Problem.{problem};
+ghost use Rattle.layout.specs.Problems.Problem.{problem};
 ghost use Rattle.layout.specs.Calls.Cut.{outputs};
 ghost use Rattle.layout.specs.Calls.CutBetween.{limits, CutBetween};
 use constants::route;
@@ -77,8 +77,8 @@ pub fn cut_between(
     if refused != 0 {
         return refused;
     }
-    let d = constraints::count_added(route::COMPACT, m, cones, pattern_count, pattern_words);
-    augment::write_objective(
+    let d = cut_constraints::count_added(route::COMPACT, m, cones, pattern_count, pattern_words);
+    cut_standard::write_objective(
         n,
         p_starts,
         p_rows,
@@ -92,7 +92,7 @@ pub fn cut_between(
         q_out,
         alphas_out,
     );
-    constraints::write_constraints(
+    cut_constraints::write_constraints(
         route::COMPACT,
         n,
         m,
@@ -112,7 +112,7 @@ pub fn cut_between(
         cones_out,
         map_out,
     );
-    right_sides::write_sides(
+    side_values::write_sides(
         m,
         cones,
         pattern_count,

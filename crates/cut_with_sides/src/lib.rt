@@ -1,5 +1,5 @@
 // The compact cut of one problem with several right sides (Q-1).
-ghost use Rattle.layout.specs.Problem.{problem};
+ghost use Rattle.layout.specs.Problems.Problem.{problem};
 ghost use Rattle.layout.specs.Calls.Cut.{outputs};
 ghost use Rattle.layout.specs.Calls.CutMany.{CutMany};
 use constants::route;
@@ -74,8 +74,8 @@ pub fn cut_many(
     if refused != 0 {
         return refused;
     }
-    let d = constraints::count_added(route::COMPACT, m, cones, pattern_count, pattern_words);
-    augment::write_objective(
+    let d = cut_constraints::count_added(route::COMPACT, m, cones, pattern_count, pattern_words);
+    cut_standard::write_objective(
         n,
         p_starts,
         p_rows,
@@ -89,7 +89,7 @@ pub fn cut_many(
         q_out,
         alphas_out,
     );
-    constraints::write_constraints(
+    cut_constraints::write_constraints(
         route::COMPACT,
         n,
         m,
@@ -109,7 +109,7 @@ pub fn cut_many(
         cones_out,
         map_out,
     );
-    right_sides::write_sides(
+    side_values::write_sides(
         m,
         cones,
         pattern_count,

@@ -4,13 +4,13 @@ use native.Mathlib.Omega.{arith}
 use mathlib.Core.Path.{_≡_, refl}
 use mathlib.Core.List.{[], _∷_, map}
 use lib.ListN.{length}
-use Rattle.layout.specs.Lists.{sum}
-use Rattle.layout.specs.Problem.{Problem, Route}
-use Rattle.layout.specs.Cones.{alphas, records, rowCount, alphaCount}
+use Rattle.layout.specs.General.Lists.{sum}
+use Rattle.layout.specs.Problems.Problem.{Problem, Route}
+use Rattle.layout.specs.Problems.Cones.{alphas, records, rowCount, alphaCount}
 use Rattle.layout.specs.Checks.{Checked}
-use Rattle.layout.specs.Answers.{onRoute, routeOf}
-use Rattle.layout.proofs.Tests.{and-iff, eqb-iff}
-use Rattle.layout.proofs.File.{alphas-few}
+use Rattle.layout.specs.Calls.Answers.{onRoute, routeOf}
+use Rattle.layout.proofs.Lists.Tests.{and-iff, eqb-iff}
+use Rattle.layout.proofs.Theorems.File.{alphas-few}
 
 -- ---- a route number
 

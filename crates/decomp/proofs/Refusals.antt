@@ -4,12 +4,14 @@ use mathlib.Core.Path.{_≡_, sym, ap, _∙_}
 use mathlib.Core.Bool.{Bool}
 use mathlib.Core.List.{List, [], _∷_}
 use lib.ListN.{length}
-use Rattle.layout.specs.Lists.{written}
-use Rattle.layout.specs.Problem.{Problem, Route}
-use Rattle.layout.specs.Blocks.{blockRowCount, overlapCount, coneCount}
+use Rattle.layout.specs.General.Lists.{written}
+use Rattle.layout.specs.Problems.Problem.{Problem, Route}
+use Rattle.layout.specs.Rows.Blocks.{blockRowCount, overlapCount, coneCount}
 use Rattle.layout.specs.Checks.{layout, check10, check, firstFailing, refusal}
-use Rattle.layout.specs.Answers.{orElse, roomRefusal, routeOf, onRoute, problemRefusal, sizesRefusal, sizes}
-use Rattle.checks.proofs.Order.{problem-then-route, first-given}
+use Rattle.layout.specs.Calls.Answers.{orElse, roomRefusal, routeOf, onRoute, problemRefusal}
+use Rattle.layout.specs.Calls.Sizes.{sizesRefusal}
+use Rattle.layout.specs.Calls.Cut.{sizes}
+use Rattle.check_problem.proofs.Order.{problem-then-route, first-given}
 use Rattle.chordal_info.specs.Sizes.{entriesKept, Fitting, routeSizes}
 use Rattle.chordal_info.specs.Routes.{routeTests}
 use Rattle.chordal_info.proofs.Routes.{entries-check}

@@ -5,9 +5,11 @@ use mathlib.Core.Path.{_≡_, refl, sym, ap, _∙_}
 use mathlib.Core.Bool.{Bool, cond}
 use mathlib.Core.List.{List}
 use lib.ListN.{replicate}
-use Rattle.layout.specs.Problem.{Problem, standard, compact}
+use Rattle.layout.specs.Problems.Problem.{Problem, standard, compact}
 use Rattle.layout.specs.Checks.{refusal}
-use Rattle.layout.specs.Answers.{orElse, output, onRoute, routeOf, roomy, sizes, sizesRefusal, cutRefusal}
+use Rattle.layout.specs.Calls.Answers.{orElse, output, onRoute, routeOf, roomy}
+use Rattle.layout.specs.Calls.Cut.{sizes, cutRefusal}
+use Rattle.layout.specs.Calls.Sizes.{sizesRefusal}
 
 -- a problem that `sizes` refuses is refused by the cut under the same number
 after-sizes : (a : ℕ) (t : Bool) → (orElse a 0 ≡ 0 → ⊥) → orElse a (cond t 0 11) ≡ orElse a 0

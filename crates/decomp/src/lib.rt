@@ -1,7 +1,8 @@
 // The sizes of the cut's outputs on either route, and the refusals of the cut. Route 0 is the standard one, 1 the compact one.
 ghost use mathlib.Core.Path.{_≡_};
-ghost use Rattle.layout.specs.Problem.{problem};
-ghost use Rattle.layout.specs.Answers.{onRoute, cutRefusal};
+ghost use Rattle.layout.specs.Problems.Problem.{problem};
+ghost use Rattle.layout.specs.Calls.Answers.{onRoute};
+ghost use Rattle.layout.specs.Calls.Cut.{cutRefusal};
 ghost use Rattle.layout.specs.Calls.Sizes.{Sizes};
 use constants::OUTPUTS;
 use constants::refusal;
@@ -34,7 +35,7 @@ pub fn sizes(
     if route::COMPACT < route {
         return refusal::BOUND;
     }
-    let r = checks::check_problem(
+    let r = check_problem::check_problem(
         n,
         m,
         p_starts,
@@ -53,7 +54,7 @@ pub fn sizes(
     if r != refusal::DONE {
         return r;
     }
-    let d = parts::get_decomposed_dim_and_overlaps(m, cones, count, words);
+    let d = walk_cones::get_decomposed_dim_and_overlaps(m, cones, count, words);
     let t = chordal_info::check_route(route, m, a_rows, b, cones, count, words, d.rows, d.overlaps);
     if t != refusal::DONE {
         return t;

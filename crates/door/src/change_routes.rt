@@ -1,5 +1,5 @@
 // Writes a standard solution as a compact solution of the same problem.
-ghost use Rattle.layout.specs.Problem.{solution};
+ghost use Rattle.layout.specs.Problems.Problem.{solution};
 ghost use Rattle.layout.specs.Calls.Join.{rejoined};
 ghost use Rattle.layout.specs.Calls.ChangeRoute.{ChangeRoute};
 

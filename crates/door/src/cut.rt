@@ -1,5 +1,5 @@
 // Cuts a problem on a route and writes the augmented one to the front of the outputs; clarabel's `decomp_augment`.
-ghost use Rattle.layout.specs.Problem.{problem};
+ghost use Rattle.layout.specs.Problems.Problem.{problem};
 ghost use Rattle.layout.specs.Calls.Cut.{outputs, Cut};
 
 #[no_mangle]

@@ -1,5 +1,5 @@
 // Cuts a problem on the compact route with a low and a high value for each b, and writes both to the same augmented rows.
-ghost use Rattle.layout.specs.Problem.{problem};
+ghost use Rattle.layout.specs.Problems.Problem.{problem};
 ghost use Rattle.layout.specs.Calls.Cut.{outputs};
 ghost use Rattle.layout.specs.Calls.CutBetween.{limits, CutBetween};
 

@@ -1,5 +1,5 @@
 // Cuts a problem with several right sides on the compact route: writes everything but b once, and the augmented b of each side in turn.
-ghost use Rattle.layout.specs.Problem.{problem};
+ghost use Rattle.layout.specs.Problems.Problem.{problem};
 ghost use Rattle.layout.specs.Calls.Cut.{outputs};
 ghost use Rattle.layout.specs.Calls.CutMany.{CutMany};
 

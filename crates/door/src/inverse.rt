@@ -5,5 +5,5 @@ ghost use Rattle.layout.specs.Calls.Inverse.{Inverse};
 pub extern "C" fn chordal_inverse(p: &[u32], out: &mut [u32]) -> u32
     ensures { λ r. ⌜ Inverse (now (p .entry)) (now (out .entry)) (now (out .exit)) r ⌝ }
 {
-    utils::inverse(p, out)
+    inverse_permutation::inverse(p, out)
 }

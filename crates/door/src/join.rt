@@ -1,5 +1,5 @@
 // Joins a solution of the augmented problem to one of the original problem; clarabel's `decomp_reverse`.
-ghost use Rattle.layout.specs.Problem.{solution};
+ghost use Rattle.layout.specs.Problems.Problem.{solution};
 ghost use Rattle.layout.specs.Calls.Join.{rejoined, Join};
 
 #[no_mangle]
@@ -27,7 +27,7 @@ pub extern "C" fn chordal_join(
         let after = rejoined (now («x_out» .exit)) (now («s_out» .exit)) (now («z_out» .exit)) (now («scalars_out» .exit)) in
         ⌜ Join route n m (now (cones .entry)) «pattern_count» (now («pattern_words» .entry)) sol (now (map .entry)) before after r ⌝ }
 {
-    decomp_reverse::join(
+    join_on_route::join(
         route,
         n,
         m,

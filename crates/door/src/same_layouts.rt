@@ -1,5 +1,5 @@
 // Writes whether two problems agree in everything but the values of P, q, A and b.
-ghost use Rattle.layout.specs.Problem.{problem};
+ghost use Rattle.layout.specs.Problems.Problem.{problem};
 ghost use Rattle.layout.specs.Calls.SameLayout.{SameLayout};
 
 #[no_mangle]

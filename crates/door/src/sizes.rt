@@ -1,5 +1,5 @@
 // Writes the length of each output of a problem's cut.
-ghost use Rattle.layout.specs.Problem.{problem};
+ghost use Rattle.layout.specs.Problems.Problem.{problem};
 ghost use Rattle.layout.specs.Calls.Sizes.{Sizes};
 
 #[no_mangle]

@@ -1,5 +1,5 @@
 // Writes a problem as a file.
-ghost use Rattle.layout.specs.File.{bitTables};
+ghost use Rattle.layout.specs.Files.File.{bitTables};
 ghost use Rattle.layout.specs.Calls.WriteFile.{WriteFile};
 
 #[no_mangle]

@@ -2,10 +2,10 @@
 use Prim.Native.Nat.{ℕ, suc, _*_}
 use mathlib.Core.Path.{_≡_, refl, _∙_}
 use mathlib.Core.List.{List}
-use Rattle.layout.specs.Problem.{problem}
-use Rattle.layout.specs.Answers.{problemRefusal}
-use Rattle.layout.specs.File.{countsIn}
-use Rattle.layout.specs.FileWords.{unvalued, unvaluedProblem}
+use Rattle.layout.specs.Problems.Problem.{problem}
+use Rattle.layout.specs.Calls.Answers.{problemRefusal}
+use Rattle.layout.specs.Files.File.{countsIn}
+use Rattle.layout.specs.Files.FileWords.{unvalued, unvaluedProblem}
 use Rattle.file_views.specs.Views.{tableWords}
 use Rattle.file_views.proofs.Doubles.{table-words}
 

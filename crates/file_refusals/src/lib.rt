@@ -1,7 +1,7 @@
 // The refusals of the file reader (Q-2) in order, computed from the words of the file.
 ghost use mathlib.Core.Path.{_≡_};
-ghost use Rattle.layout.specs.Answers.{problemRefusal};
-ghost use Rattle.layout.specs.FileWords.{wordsFailing, unvaluedProblem, readWordsRefusal};
+ghost use Rattle.layout.specs.Calls.Answers.{problemRefusal};
+ghost use Rattle.layout.specs.Files.FileWords.{wordsFailing, unvaluedProblem, readWordsRefusal};
 ghost use Rattle.file_shape.specs.Parts.{WellShaped};
 use constants::file_table;
 use constants::header;
@@ -12,7 +12,7 @@ pub fn check_words(words: &[u32]) -> u32
     requires { ⌜ WellShaped (now words) ⌝ }
     ensures { λ r. ⌜ r ≡ problemRefusal (unvaluedProblem (now (words .entry))) ⌝ }
 {
-    checks::check_lengths(
+    check_problem::check_lengths(
         words[header::N],
         words[header::M],
         file_views::words_of(words, file_table::P_STARTS),

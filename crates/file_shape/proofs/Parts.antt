@@ -4,13 +4,13 @@ use native.Mathlib.Omega.{arith}
 use mathlib.Core.Path.{_≡_, sym, ap, subst, _∙_}
 use mathlib.Core.List.{List}
 use lib.ListN.{length, getD, take}
-use Rattle.layout.specs.Answers.{problemRefusal}
-use Rattle.layout.specs.File.{countWords, countsIn, tableSizes}
-use Rattle.layout.specs.FileWords.{wordShapeFailing, wordsFailing, unvaluedProblem}
-use Rattle.layout.proofs.Order.{orElse-zero}
-use Rattle.layout.proofs.Starts.{part-at}
-use Rattle.layout.proofs.FileWords.{words-whole}
-use Rattle.layout.proofs.FileWalks.{shape-long, table-stands, words-unvalued}
+use Rattle.layout.specs.Calls.Answers.{problemRefusal}
+use Rattle.layout.specs.Files.File.{countWords, countsIn, tableSizes}
+use Rattle.layout.specs.Files.FileWords.{wordShapeFailing, wordsFailing, unvaluedProblem}
+use Rattle.layout.proofs.Checks.Order.{orElse-zero}
+use Rattle.layout.proofs.Lists.Starts.{part-at}
+use Rattle.layout.proofs.Files.FileWords.{words-whole}
+use Rattle.layout.proofs.Files.FileWalks.{shape-long, table-stands, words-unvalued}
 use Rattle.file_shape.specs.Parts.{WellShaped, Inside}
 
 pub stands : (ws : List ℕ) (n : ℕ) → wordShapeFailing ws n ≡ 0 → WellShaped ws

@@ -3,7 +3,7 @@ use Prim.Native.Nat.{ℕ, _+_, _*_, _/_, _≤_, _<_}
 use mathlib.Core.List.{List}
 use mathlib.Core.Path.{_≡_}
 use lib.ListN.{length, getD}
-use Rattle.layout.specs.FileWords.{wordShapeFailing}
+use Rattle.layout.specs.Files.FileWords.{wordShapeFailing}
 
 -- the words pass checks 13 and 14, as those of a file of whole words
 abbrev pub WellShaped : List ℕ → Type 0

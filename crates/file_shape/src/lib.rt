@@ -2,8 +2,8 @@
 ghost use mathlib.Core.Path.{_≡_};
 ghost use Prim.Native.Nat.{_≤_, _<_, _+_, _/_, _*_};
 ghost use lib.ListN.{length, getD};
-ghost use Rattle.layout.specs.File.{countsIn, tableSizes};
-ghost use Rattle.layout.specs.FileWords.{gapZero, wordsLengthRight, wordTablesRight, wordShapeFailing};
+ghost use Rattle.layout.specs.Files.File.{countsIn, tableSizes};
+ghost use Rattle.layout.specs.Files.FileWords.{gapZero, wordsLengthRight, wordTablesRight, wordShapeFailing};
 use constants::file_table;
 use constants::file_table::DOUBLE_BYTES;
 use constants::file_table::WORD_BYTES;

@@ -8,12 +8,12 @@ use native.Mathlib.Nat.{mul-le-mul}
 use lib.ListN.{length, getD, take, drop, replicate, drop-of-length-le}
 use lib.Seq.{drop-cons}
 use lib.Dec.{lit<}
-use Rattle.layout.specs.Lists.{written, Below}
-use Rattle.layout.specs.File.{widths, products, aligned, offsetsFrom, endFrom, laidFrom}
-use Rattle.layout.proofs.Starts.{length-written}
-use Rattle.layout.proofs.Buffers.{written-after, length-tail}
-use Rattle.layout.proofs.Bytes.{each-below}
-use Rattle.layout.proofs.Offsets.{end-from, length-laid}
+use Rattle.layout.specs.General.Lists.{written, Below}
+use Rattle.layout.specs.Files.File.{widths, products, aligned, offsetsFrom, endFrom, laidFrom}
+use Rattle.layout.proofs.Lists.Starts.{length-written}
+use Rattle.layout.proofs.Lists.Buffers.{written-after, length-tail}
+use Rattle.layout.proofs.Numbers.Bytes.{each-below}
+use Rattle.layout.proofs.Files.Offsets.{end-from, length-laid}
 
 -- ---- sizes
 

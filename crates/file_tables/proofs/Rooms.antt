@@ -1,17 +1,15 @@
 -- What the reader's number says about its outputs: if it is not 0 they are unchanged, and if it is 0 each is long enough.
-use Prim.Native.Nat.{ℕ, zero, suc, _*_, _≤_}
+use Prim.Native.Nat.{ℕ, suc, _*_, _≤_}
 use native.Mathlib.Omega.{arith}
-use mathlib.Core.Path.{_≡_, refl}
-use mathlib.Core.Bool.{Bool, true, false, cond}
+use mathlib.Core.Path.{_≡_}
 use mathlib.Core.List.{List, _∷_}
 use lib.ListN.{length}
-use lib.Dec.{T}
-use Rattle.layout.specs.Answers.{orElse, roomy}
-use Rattle.layout.specs.File.{countsIn, countedLengths}
-use Rattle.layout.specs.FileWords.{wordsFailing, readWordsRefusal}
+use Rattle.layout.specs.Calls.Answers.{roomy}
+use Rattle.layout.specs.Files.File.{countsIn, countedLengths}
+use Rattle.layout.specs.Files.FileWords.{wordsFailing, readWordsRefusal}
 use Rattle.layout.specs.Calls.ReadFile.{FileOutputs, fileRooms, HoldsFile}
-use Rattle.layout.proofs.Tests.{and-iff, leb-iff}
-use Rattle.layout.proofs.Buffers.{output-kept}
+use Rattle.layout.proofs.Lists.Tests.{and-iff, leb-iff}
+use Rattle.layout.proofs.Promises.{output-kept, none-refused}
 use Rattle.file_shape.specs.Parts.{WellShaped}
 use Rattle.file_shape.proofs.Parts.{accepted-stands}
 
@@ -33,10 +31,6 @@ file-kept r new old h = record {
 }
 
 -- if the reader returns 0, the words pass its checks and each output is long enough
-both : (a : ℕ) (t : Bool) → orElse a (cond t 0 11) ≡ 0 → (a ≡ 0) × T t
-both zero true h = (refl, tt)
-both zero false h = absurd (omega arith)
-both (suc a) t h = absurd (omega arith)
 
 pub record RoomsFit (ws : List ℕ) (o : FileOutputs) : Type 0 where
   pub counts : 8 ≤ length (o .counts)
@@ -54,7 +48,7 @@ pub record RoomsFit (ws : List ℕ) (o : FileOutputs) : Type 0 where
 
 pub read-taken : (ws : List ℕ) (n : ℕ) (o : FileOutputs) → readWordsRefusal ws n (fileRooms o) ≡ 0 → WellShaped ws × RoomsFit ws o
 read-taken ws n o e =
-    let (ok, room) = both (wordsFailing ws n) (roomy (8 ∷ countedLengths (countsIn ws)) (fileRooms o)) e in
+    let (ok, room) = none-refused (wordsFailing ws n) (roomy (8 ∷ countedLengths (countsIn ws)) (fileRooms o)) e in
     let each = simp (and-iff, leb-iff) at room in (
       accepted-stands ws n ok,
       record {

@@ -6,13 +6,14 @@ use mathlib.Core.Path.{_≡_, sym, ap, subst, _∙_}
 use mathlib.Core.List.{List, [], _∷_}
 use lib.ListN.{length, length-map, length-replicate}
 use lib.Ieee.{binary64, ofBits, nan}
-use Rattle.layout.specs.Problem.{Problem, problem}
-use Rattle.layout.specs.Answers.{problemRefusal}
-use Rattle.layout.specs.File.{widths, products, countedLengths, tableSizes, endFrom, BitTables, floats, problemOf, countsOf}
-use Rattle.layout.specs.FileWords.{unvalued}
-use Rattle.layout.proofs.Accepted.{problem-checked}
-use Rattle.layout.proofs.File.{Shaped, checked-shaped, FewCounts, checked-counts, few-end}
-use Rattle.layout.proofs.Lengths.{refusal-lengths}
+use Rattle.layout.specs.General.Floats.{floats}
+use Rattle.layout.specs.Problems.Problem.{Problem, problem}
+use Rattle.layout.specs.Calls.Answers.{problemRefusal}
+use Rattle.layout.specs.Files.File.{widths, products, countedLengths, tableSizes, endFrom, BitTables, problemOf, countsOf}
+use Rattle.layout.specs.Files.FileWords.{unvalued}
+use Rattle.layout.proofs.Checks.Accepted.{problem-checked}
+use Rattle.layout.proofs.Theorems.File.{Shaped, checked-shaped, FewCounts, checked-counts, few-end}
+use Rattle.layout.proofs.Files.Lengths.{refusal-lengths}
 
 -- the problem of the tables with all floats left out, only their number kept
 abbrev pub unvaluedOf : BitTables → Problem

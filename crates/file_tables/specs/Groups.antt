@@ -1,7 +1,7 @@
 -- Tables of the file that are written together. Definitions only.
 use Prim.Native.Nat.{ℕ}
 use mathlib.Core.List.{List, [], _∷_}
-use Rattle.layout.specs.File.{tableBytes}
+use Rattle.layout.specs.General.Bytes.{tableBytes}
 
 -- the bytes of starts, rows, values and a vector: P and q, or A and b
 abbrev pub matrixBytes : List ℕ → List ℕ → List ℕ → List ℕ → List (List ℕ)

@@ -6,15 +6,16 @@ use mathlib.Core.List.{List, [], _∷_, _++_}
 use lib.ListN.{length, getD, take, drop, List·getD-append, length-map}
 use lib.Seq.{getD-take, getD-append-add, length-take-le}
 use lib.Ieee.{Float, binary64, ofBits}
-use Rattle.layout.specs.Lists.{part, sameNumbers}
-use Rattle.layout.specs.File.{HeaderCounts, aligned, offsetsFrom, endFrom, countWords, countsIn, tableSizes, headerOf, floats}
-use Rattle.layout.specs.FileWords.{pairsOf, wordsAt, wordGapsZero, wordShapeChecks}
-use Rattle.layout.proofs.Tests.{and-iff}
-use Rattle.layout.proofs.Order.{passed}
-use Rattle.layout.proofs.Walks.{numbers-equal}
-use Rattle.layout.proofs.Joins.{take-map, drop-map}
-use Rattle.layout.proofs.FileWords.{size-fours}
-use Rattle.layout.proofs.FileWalks.{length-pairs}
+use Rattle.layout.specs.General.Lists.{part, sameNumbers}
+use Rattle.layout.specs.General.Floats.{floats}
+use Rattle.layout.specs.Files.File.{HeaderCounts, aligned, offsetsFrom, endFrom, countWords, countsIn, tableSizes, headerOf}
+use Rattle.layout.specs.Files.FileWords.{pairsOf, wordsAt, wordGapsZero, wordShapeChecks}
+use Rattle.layout.proofs.Lists.Tests.{and-iff}
+use Rattle.layout.proofs.Checks.Order.{passed}
+use Rattle.layout.proofs.Lists.Walks.{numbers-equal}
+use Rattle.layout.proofs.Lists.Joins.{take-map, drop-map}
+use Rattle.layout.proofs.Files.FileWords.{size-fours}
+use Rattle.layout.proofs.Files.FileWalks.{length-pairs}
 use Rattle.file_shape.specs.Parts.{WellShaped}
 use Rattle.file_shape.proofs.Parts.{stands-inside}
 use Rattle.file_views.specs.Views.{tableWords}

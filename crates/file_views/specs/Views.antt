@@ -2,8 +2,8 @@
 use Prim.Native.Nat.{ℕ, _/_}
 use mathlib.Core.List.{List}
 use lib.ListN.{getD}
-use Rattle.layout.specs.File.{countsIn, tableSizes}
-use Rattle.layout.specs.FileWords.{wordsAt}
+use Rattle.layout.specs.Files.File.{countsIn, tableSizes}
+use Rattle.layout.specs.Files.FileWords.{wordsAt}
 
 -- all words of table i; two of them form a double
 abbrev pub tableWords : List ℕ → ℕ → List ℕ

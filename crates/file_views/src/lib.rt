@@ -2,8 +2,8 @@
 // doubles starts at a multiple of 8 bytes.
 ghost use mathlib.Core.Path.{_≡_};
 ghost use Prim.Native.Nat.{_<_};
-ghost use Rattle.layout.specs.File.{floats};
-ghost use Rattle.layout.specs.FileWords.{pairsOf};
+ghost use Rattle.layout.specs.General.Floats.{floats};
+ghost use Rattle.layout.specs.Files.FileWords.{pairsOf};
 ghost use Rattle.file_shape.specs.Parts.{WellShaped};
 ghost use Rattle.file_views.specs.Views.{tableWords};
 use constants::file_table::DOUBLE_BYTES;

@@ -7,13 +7,14 @@ use mathlib.Core.Bool.{Bool, cond}
 use mathlib.Core.List.{List, _++_, map}
 use lib.ListN.{length, getD, take, drop}
 use borrow.Author.Tests.{lt-leb, le-leb}
-use Rattle.layout.specs.Lists.{written}
-use Rattle.layout.specs.Answers.{orElse, problemRefusal}
-use Rattle.layout.specs.File.{tableBytes, headerOf, endFrom, laidFrom, BitTables, problemOf, countsOf, tablesBytes, fileOf, writeRefusal}
-use Rattle.layout.proofs.Buffers.{written-whole, written-after, length-tail}
-use Rattle.layout.proofs.Bytes.{length-table}
-use Rattle.layout.proofs.Offsets.{end-from, length-laid}
-use Rattle.layout.proofs.File.{file-length, written-length}
+use Rattle.layout.specs.General.Lists.{written}
+use Rattle.layout.specs.General.Bytes.{tableBytes}
+use Rattle.layout.specs.Calls.Answers.{orElse, problemRefusal}
+use Rattle.layout.specs.Files.File.{headerOf, endFrom, laidFrom, BitTables, problemOf, countsOf, tablesBytes, fileOf, writeRefusal}
+use Rattle.layout.proofs.Lists.Buffers.{written-whole, written-after, length-tail}
+use Rattle.layout.proofs.Numbers.Bytes.{length-table}
+use Rattle.layout.proofs.Files.Offsets.{end-from, length-laid}
+use Rattle.layout.proofs.Theorems.File.{file-length, written-length}
 
 -- the header that is made, and the file's end in it
 pub header-made : (t : BitTables) (old : List ℕ) {header : List ℕ} → length old ≡ 20 → header ≡ written (headerOf (countsOf t)) old

@@ -1,5 +1,5 @@
 // Writes a problem as a file (Q-2). Tables of floats are passed as 64-bit patterns, so that a NaN keeps its bits.
-ghost use Rattle.layout.specs.File.{bitTables as tablesOf};
+ghost use Rattle.layout.specs.Files.File.{bitTables as tablesOf};
 ghost use Rattle.layout.specs.Calls.WriteFile.{WriteFile};
 use constants::header;
 use constants::refusal;
@@ -26,7 +26,7 @@ pub fn write_file(
         let t = tablesOf n m (now («p_starts» .entry)) (now («p_rows» .entry)) (now («p_values» .entry)) (now (q .entry)) (now («a_starts» .entry)) (now («a_rows» .entry)) (now («a_values» .entry)) (now (b .entry)) (now (cones .entry)) (now (alphas .entry)) «pattern_count» (now («pattern_words» .entry)) in
         ⌜ WriteFile t (now (out .entry)) (now (out .exit)) r ⌝ }
 {
-    let refused = checks::check_lengths(
+    let refused = check_problem::check_lengths(
         n,
         m,
         p_starts,

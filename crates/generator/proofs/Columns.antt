@@ -1,17 +1,18 @@
 -- Drawn columns written one by one, and a right side written to the front of an output.
-use Prim.Native.Nat.{ℕ, zero, suc, _+_, _-_, _≤_, _<_}
+use Prim.Native.Nat.{ℕ, zero, suc, _+_, _-_, _*_, _≤_, _<_}
 use native.Mathlib.Nat.{zero-add, add-zero, le-of-suc-le-suc, not-suc-le-zero}
 use native.Mathlib.Omega.{arith}
 use mathlib.Core.Path.{_≡_, refl, sym, ap, _∙_}
 use mathlib.Core.List.{List, [], _∷_, _++_, map, append-nil, map-append}
-use lib.ListN.{length, set, drop, length-set, length-map}
+use lib.ListN.{length, set, take, drop, length-append, length-set, length-map, length-drop}
+use lib.Seq.{length-take-le, take-append-add, take-append-le}
 use lib.Ieee.{Float}
-use Rattle.layout.specs.Lists.{sum, join, startsFrom, written, Below}
-use Rattle.layout.specs.Compact.{Entry, rowsOf, csc}
-use Rattle.layout.specs.Generator.{draw, drawnValue, drawnColumn, drawnColumns, afterColumns, drawnSide}
-use Rattle.layout.proofs.Starts.{join-append, sum-append, length-starts}
-use Rattle.layout.proofs.Compressed.{valuesOf, starts-append}
-use Rattle.layout.proofs.Drawn.{columns-more, columns-count, side-length}
+use Rattle.layout.specs.General.Lists.{sum, join, startsFrom, written, Below}
+use Rattle.layout.specs.Cuts.Compact.{Entry, rowsOf, csc}
+use Rattle.layout.specs.Calls.Generate.{draw, drawnValue, drawnColumn, drawnColumns, afterColumn, afterColumns, drawnSide}
+use Rattle.layout.proofs.Lists.Starts.{join-append, sum-append, length-starts}
+use Rattle.layout.proofs.Columns.Compressed.{valuesOf, starts-append}
+use Rattle.layout.proofs.Generators.Drawn.{column-length, columns-more, columns-count, side-length}
 
 -- ---- one more column
 
@@ -65,6 +66,11 @@ side-front s rs xs old h =
 
 -- ---- the number of entries
 
+-- at most one for each row of each column
+pub entries-few : (s : ℕ) (rs : List ℕ) (c : ℕ) → sum (map length (drawnColumns s rs c)) ≤ c * length rs
+entries-few s rs zero = omega arith
+entries-few s rs (suc c) = omega (arith, column-length s rs, entries-few (afterColumn s rs) rs c)
+
 module _ (s : ℕ) (rs : List ℕ) where
   pub entries-up : (c d : ℕ) → sum (map length (drawnColumns s rs c)) ≤ sum (map length (drawnColumns s rs (c + d)))
   entries-up c zero = rw (add-zero c) (omega arith)
@@ -99,3 +105,28 @@ covers-first (x ∷ xs) (y ∷ old) l = refl
 pub starts-cover : (s : ℕ) (rs : List ℕ) (c : ℕ) (old : List ℕ)
     → written (csc (drawnColumns s rs c) .starts) (set old 0 0) ≡ written (csc (drawnColumns s rs c) .starts) old
 starts-cover s rs c old = covers-first (csc (drawnColumns s rs c) .starts) old (omega (arith, starts-many s rs c))
+
+-- ---- a table ws that a call is given from index a on, and whose rest is vs afterwards
+
+module _ {A : Type 0} (ws vs : List A) (a : ℕ) where
+  -- what was kept before a is kept, followed by the first k of vs
+  pub kept-after : (k : ℕ) → a ≤ length ws → k ≤ length vs
+      → take (a + k) (take a ws ++ (vs ++ drop (length ws - a) (drop a ws))) ≡ take a ws ++ take k vs
+  kept-after k h l =
+      let rest = drop (length ws - a) (drop a ws) in
+      ap (λ (i : ℕ). take (i + k) (take a ws ++ (vs ++ rest))) (sym (length-take-le a ws h))
+      ∙ take-append-add (take a ws) (vs ++ rest) k
+      ∙ ap (λ (xs : List A). take a ws ++ xs) (take-append-le k vs rest l)
+
+  pub kept-length : a ≤ length ws → length vs ≡ length ws - a
+      → length (take a ws ++ (vs ++ drop (length ws - a) (drop a ws))) ≡ length ws
+  kept-length h e =
+      let rest = drop (length ws - a) (drop a ws) in
+      omega (
+        arith,
+        length-append (take a ws) (vs ++ rest),
+        length-append vs rest,
+        length-take-le a ws h,
+        length-drop (length ws - a) (drop a ws),
+        length-drop a ws,
+      )

@@ -5,17 +5,17 @@ use mathlib.Core.Path.{_≡_, sym, ap, subst, _∙_}
 use mathlib.Core.List.{List}
 use lib.ListN.{length, getD, take}
 use lib.Dec.{T}
-use Rattle.layout.specs.Lists.{has, keep, below, written, Below}
-use Rattle.layout.specs.Triangle.{triangle}
-use Rattle.layout.specs.Checks.{isPermutation, coveredRows}
-use Rattle.layout.specs.Answers.{inverse}
-use Rattle.layout.specs.Generator.{drawnOrdering, bandParts, bandRows}
-use Rattle.layout.proofs.Members.{place-found, has-keep, has-below, has-getD, length-below}
-use Rattle.layout.proofs.Distinct.{permutation-has, length-keep}
-use Rattle.layout.proofs.Buffers.{written-whole, take-written}
-use Rattle.layout.proofs.Triangles.{triangle-mono}
-use Rattle.layout.proofs.Orderings.{ordering-permutes}
-use Rattle.layout.proofs.BandRows.{inBandAt, band-rows-by}
+use Rattle.layout.specs.General.Lists.{has, keep, below, written, Below, isPermutation}
+use Rattle.layout.specs.General.Triangle.{triangle}
+use Rattle.layout.specs.Checks.{coveredRows}
+use Rattle.layout.specs.Calls.Inverse.{inverse}
+use Rattle.layout.specs.Calls.Generate.{drawnOrdering, bandParts, bandRows}
+use Rattle.layout.proofs.Lists.Members.{place-found, has-keep, has-below, has-getD, length-below}
+use Rattle.layout.proofs.Lists.Distinct.{permutation-has, length-keep}
+use Rattle.layout.proofs.Lists.Buffers.{written-whole, take-written}
+use Rattle.layout.proofs.Numbers.Triangles.{triangle-mono}
+use Rattle.layout.proofs.Generators.Orderings.{ordering-permutes}
+use Rattle.layout.proofs.Generators.BandRows.{inBandAt, band-rows-by}
 use Rattle.utils.specs.Scattered.{scattered}
 use Rattle.utils.proofs.Scattered.{length-inverse, inverse-at, scattered-inverse, permutation-below}
 

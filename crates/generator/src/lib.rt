@@ -1,21 +1,31 @@
 // The generator (Q-5): from a seed, a vertex count `v`, a band `w` and a column count `n`, a test problem that any site can reproduce.
 ghost use mathlib.Core.Path.{_≡_};
+ghost use mathlib.Core.Bool.{true, cond};
 ghost use mathlib.Core.List.{map};
 ghost use Prim.Native.Nat.{suc, _+_, _-_, _*_, _≤_, _<_};
-ghost use lib.ListN.{length, replicate};
+ghost use lib.ListN.{length, take, replicate};
 ghost use lib.Dec.{T};
-ghost use Rattle.layout.specs.Lists.{sum, written, Below};
-ghost use Rattle.layout.specs.Problem.{zero64};
-ghost use Rattle.layout.specs.Patterns.{patternWordsOf};
-ghost use Rattle.layout.specs.Compact.{csc as cscOf, psdWords};
-ghost use Rattle.layout.specs.Generator.{draws as drawsOf, drawnOrdering, band as bandOf, bandRows, drawnColumns, afterColumns, drawnSide, generated, inRanges, generateRefusal};
-ghost use Rattle.generator.specs.Lengths.{lengthsOf};
+ghost use Rattle.layout.specs.General.Lists.{sum, written, Below};
+ghost use Rattle.layout.specs.General.Floats.{zero64};
+ghost use Rattle.layout.specs.General.Triangle.{triangle};
+ghost use Rattle.layout.specs.Problems.Problem.{tableLengths};
+ghost use Rattle.layout.specs.Problems.Patterns.{patternWordsOf};
+ghost use Rattle.layout.specs.Cuts.Compact.{csc as cscOf, psdWords};
+ghost use Rattle.layout.specs.Calls.Answers.{output, roomy};
+ghost use Rattle.layout.specs.Calls.Generate.{draws as drawsOf, drawnValue, drawnOrdering, band as bandOf, bandRows, drawnColumns, afterColumns, drawnSide, generated, inRanges, generateRefusal, Generate};
+ghost use Rattle.generator.specs.Lengths.{lengthsOf, RoomsOf};
 ghost use Rattle.layout.specs.Calls.Tables.{tables};
 ghost use Rattle.layout.specs.Calls.GenerateSizes.{GenerateSizes};
-ghost use Rattle.layout.specs.Calls.Generate.{Generate};
 use constants::refusal;
+use generator_columns::ColumnDraw;
 
 const PSD_TRIANGLE: u32 = 6;
+
+// The length of the tables in which the entries are kept until they are written.
+const KEPT: usize = 8192;
+
+// The number of entries from which on clearing these tables takes less time than a second walk over the draws.
+const WORTH_KEEPING: usize = 1024;
 
 // ---- the covered rows
 
@@ -38,9 +48,9 @@ fn draw_band(
     ensures { λ r. ⌜ (r .state ≡ drawsOf (length (now (ordering .entry)) - 1) seed) × (r .count ≡ length (bandRows (drawnOrdering seed (length (now (ordering .entry)))) (length (now (ordering .entry))) w)) ⌝ }
     ensures { λ _. ⌜ now (rows .exit) ≡ written (bandRows (drawnOrdering seed (length (now (ordering .entry)))) (length (now (ordering .entry))) w) (now (rows .entry)) ⌝ }
 {
-    let state = draws::draw_ordering(seed, &mut *ordering);
+    let state = generator_draws::draw_ordering(seed, &mut *ordering);
     utils::scatter(&*ordering, &mut *places);
-    let count = band::cover_rows(&*places, w, rows);
+    let count = generator_band::cover_rows(&*places, w, rows);
     RowsDraw { count, state }
 }
 
@@ -67,7 +77,7 @@ fn count_columns(s: u64, rows: &[u32], n: u32) -> u32
     let mut entries = 0;
     let mut c = 0;
     while c < n {
-        let d = drawn_columns::count_column(state, rows);
+        let d = generator_columns::count_column(state, rows);
         state = d.state;
         entries += d.count as u32;
         c += 1;
@@ -96,7 +106,7 @@ fn write_columns(
     let mut at = 0;
     let mut c = 0;
     while c < n {
-        let d = drawn_columns::write_column(
+        let d = generator_columns::write_column(
             state,
             rows,
             &mut rows_out[at..],
@@ -110,13 +120,43 @@ fn write_columns(
     state
 }
 
+// Draws `n` columns over `rows`, starting from state `s`, and writes their starts. It keeps the row of each entry in `kept_rows` and the draw of its
+// value in `kept`. Returns the number of entries and the state after them.
+fn keep_columns(
+    s: u64,
+    rows: &[u32],
+    n: u32,
+    starts: &mut [u32],
+    kept_rows: &mut [u32],
+    kept: &mut [u64],
+) -> ColumnDraw
+    requires { ⌜ (n ≤ 64) × (n * length (now rows) < 8192) × (n + 1 ≤ length (now starts)) × (8192 ≤ length (now «kept_rows»)) × (8192 ≤ length (now kept)) ⌝ }
+    ensures { λ r. ⌜ (r .count ≡ sum (map length (drawnColumns s (now (rows .entry)) n))) × (r .state ≡ afterColumns s (now (rows .entry)) n) ⌝ }
+    ensures { λ _. ⌜ now (starts .exit) ≡ written (cscOf (drawnColumns s (now (rows .entry)) n) .starts) (now (starts .entry)) ⌝ }
+    ensures { λ r. ⌜ take (r .count) (now («kept_rows» .exit)) ≡ cscOf (drawnColumns s (now (rows .entry)) n) .rows ⌝ }
+    ensures { λ r. ⌜ map drawnValue (take (r .count) (now (kept .exit))) ≡ cscOf (drawnColumns s (now (rows .entry)) n) .values ⌝ }
+{
+    starts[0] = 0;
+    let mut state = s;
+    let mut at = 0;
+    let mut c = 0;
+    while c < n {
+        let d = generator_columns::keep_column(state, rows, &mut kept_rows[at..], &mut kept[at..]);
+        state = d.state;
+        at += d.count;
+        c += 1;
+        starts[c as usize] = at as u32;
+    }
+    ColumnDraw { count: at, state }
+}
+
 // Writes a right side of `m` values: values drawn from state `s` at the `rows`, and +0.0 elsewhere.
 fn write_side(s: u64, rows: &[u32], m: usize, out: &mut [f64])
     requires { ⌜ (m ≤ length (now out)) × Below m (now rows) ⌝ }
     ensures { λ _. ⌜ now (out .exit) ≡ written (drawnSide s (now (rows .entry)) (replicate m zero64)) (now (out .entry)) ⌝ }
 {
     csc::fill_values(&mut *out, m, 0.0);
-    draws::draw_side(s, rows, out);
+    generator_draws::draw_side(s, rows, out);
 }
 
 // ---- the sizes
@@ -147,7 +187,7 @@ fn write_lengths(v: u32, w: u32, n: u32, entries: u32, out: &mut [u32])
 pub fn generate_sizes(seed: u64, v: u32, w: u32, n: u32, out: &mut [u32]) -> u32
     ensures { λ r. ⌜ GenerateSizes seed v w n (now (out .entry)) (now (out .exit)) r ⌝ }
 {
-    if !draws::in_ranges(seed, v, w, n) {
+    if !generator_draws::in_ranges(seed, v, w, n) {
         return refusal::RANGES;
     }
     if out.len() < 11 {
@@ -161,48 +201,154 @@ pub fn generate_sizes(seed: u64, v: u32, w: u32, n: u32, out: &mut [u32]) -> u32
 
 // ---- the problem
 
-// Returns the refusal number of `generate`: 15, 11 or 0, for outputs of the lengths in `rooms`.
-fn refuse(seed: u64, v: u32, w: u32, n: u32, rooms: &[usize]) -> u32
-    ensures { λ r. ⌜ r ≡ generateRefusal seed v w n (now (rooms .entry)) ⌝ }
+// Makes check 11 on outputs of the lengths in `rooms`, for a problem whose A has `entries` entries. Returns 11 or 0.
+fn check_outputs(v: u32, w: u32, n: u32, entries: u32, rooms: &[usize]) -> u32
+    requires { ⌜ (w < v) × (v ≤ 64) × (n ≤ 64) ⌝ }
+    ensures { λ r. ⌜ r ≡ cond (roomy (lengthsOf v w n entries) (now (rooms .entry))) 0 11 ⌝ }
 {
     let mut needs = [0u32; 11];
-    let r = generate_sizes(seed, v, w, n, &mut needs);
-    if r != 0 {
-        return r;
-    }
+    write_lengths(v, w, n, entries, &mut needs);
     utils::check_rooms(&needs, rooms)
 }
 
-// Writes A and b, drawn over the rows that the band covers. `rows` is a scratch buffer for these rows.
+// Draws A and b over `rows`, starting from state `s`, and writes them: first a walk over the draws that counts the entries, then one that writes
+// them. `m` is the length of b, and `rooms` has the length of every output. Returns 11, with nothing written, if one is too short, and 0 otherwise.
+fn write_twice(
+    s: u64,
+    rows: &[u32],
+    v: u32,
+    w: u32,
+    n: u32,
+    m: usize,
+    rooms: &[usize],
+    starts_out: &mut [u32],
+    rows_out: &mut [u32],
+    values_out: &mut [f64],
+    b_out: &mut [f64],
+) -> u32
+    requires { ⌜ (w < v) × (v ≤ 64) × (n ≤ 64) × (length (now rows) ≤ 2080) × (m ≡ triangle v) × Below m (now rows) ⌝ }
+    requires { ⌜ RoomsOf (now rooms) (length (now «starts_out»)) (length (now «rows_out»)) (length (now «values_out»)) (length (now «b_out»)) ⌝ }
+    ensures { λ r. ⌜ r ≡ cond (roomy (lengthsOf v w n (sum (map length (drawnColumns s (now (rows .entry)) n)))) (now (rooms .entry))) 0 11 ⌝ }
+    ensures { λ r. ⌜ now («starts_out» .exit) ≡ output r (cscOf (drawnColumns s (now (rows .entry)) n) .starts) (now («starts_out» .entry)) ⌝ }
+    ensures { λ r. ⌜ now («rows_out» .exit) ≡ output r (cscOf (drawnColumns s (now (rows .entry)) n) .rows) (now («rows_out» .entry)) ⌝ }
+    ensures { λ r. ⌜ now («values_out» .exit) ≡ output r (cscOf (drawnColumns s (now (rows .entry)) n) .values) (now («values_out» .entry)) ⌝ }
+    ensures { λ r. ⌜ now («b_out» .exit) ≡ output r (drawnSide (afterColumns s (now (rows .entry)) n) (now (rows .entry)) (replicate m zero64)) (now («b_out» .entry)) ⌝ }
+{
+    let entries = count_columns(s, rows, n);
+    let refused = check_outputs(v, w, n, entries, rooms);
+    if refused != 0 {
+        return refused;
+    }
+    let after = write_columns(s, rows, n, starts_out, rows_out, values_out);
+    write_side(after, rows, m, b_out);
+    0
+}
+
+// Does what `write_twice` does, for few entries and with one walk: the entries are kept until the outputs are found to be long enough.
+fn write_once(
+    s: u64,
+    rows: &[u32],
+    v: u32,
+    w: u32,
+    n: u32,
+    m: usize,
+    rooms: &[usize],
+    starts_out: &mut [u32],
+    rows_out: &mut [u32],
+    values_out: &mut [f64],
+    b_out: &mut [f64],
+) -> u32
+    requires { ⌜ (w < v) × (v ≤ 64) × (n ≤ 64) × (n * length (now rows) < 8192) × (m ≡ triangle v) × Below m (now rows) ⌝ }
+    requires { ⌜ RoomsOf (now rooms) (length (now «starts_out»)) (length (now «rows_out»)) (length (now «values_out»)) (length (now «b_out»)) ⌝ }
+    ensures { λ r. ⌜ r ≡ cond (roomy (lengthsOf v w n (sum (map length (drawnColumns s (now (rows .entry)) n)))) (now (rooms .entry))) 0 11 ⌝ }
+    ensures { λ r. ⌜ now («starts_out» .exit) ≡ output r (cscOf (drawnColumns s (now (rows .entry)) n) .starts) (now («starts_out» .entry)) ⌝ }
+    ensures { λ r. ⌜ now («rows_out» .exit) ≡ output r (cscOf (drawnColumns s (now (rows .entry)) n) .rows) (now («rows_out» .entry)) ⌝ }
+    ensures { λ r. ⌜ now («values_out» .exit) ≡ output r (cscOf (drawnColumns s (now (rows .entry)) n) .values) (now («values_out» .entry)) ⌝ }
+    ensures { λ r. ⌜ now («b_out» .exit) ≡ output r (drawnSide (afterColumns s (now (rows .entry)) n) (now (rows .entry)) (replicate m zero64)) (now («b_out» .entry)) ⌝ }
+{
+    let mut starts = [0u32; 65];
+    let mut kept_rows = [0u32; KEPT];
+    let mut kept = [0u64; KEPT];
+    let d = keep_columns(s, rows, n, &mut starts, &mut kept_rows, &mut kept);
+    let refused = check_outputs(v, w, n, d.count as u32, rooms);
+    if refused != 0 {
+        return refused;
+    }
+    csc::copy_numbers(starts_out, &starts[..n as usize + 1]);
+    generator_columns::write_kept(
+        &kept_rows[..d.count],
+        &kept[..d.count],
+        rows_out,
+        values_out,
+    );
+    write_side(d.state, rows, m, b_out);
+    0
+}
+
+// Returns whether the entries of `n` columns over `rows` rows are kept: they fit, and are enough to make it worthwhile.
+fn are_kept(rows: usize, n: u32) -> bool
+    requires { ⌜ (rows ≤ 2080) × (n ≤ 64) ⌝ }
+    ensures { λ r. ⌜ (r ≡ true → n * rows < 8192) ⌝ }
+{
+    let most = n as usize * rows;
+    if KEPT <= most {
+        return false;
+    }
+    WORTH_KEEPING <= most
+}
+
+// Writes A and b, drawn over the rows that the band covers. `rooms` has the length of every output, and `rows` is a scratch buffer for these rows.
+// Returns 11, with nothing written, if an output is too short, and 0 otherwise.
 fn write_drawn(
     seed: u64,
     v: u32,
     w: u32,
     n: u32,
+    rooms: &[usize],
     rows: &mut [u32],
     a_starts_out: &mut [u32],
     a_rows_out: &mut [u32],
     a_values_out: &mut [f64],
     b_out: &mut [f64],
-)
+) -> u32
     requires { ⌜ T (inRanges seed v w n) × (2080 ≤ length (now rows)) ⌝ }
-    requires { let p = generated seed v w n in ⌜ (length (p .A .starts) ≤ length (now «a_starts_out»)) × (length (p .A .rows) ≤ length (now «a_rows_out»)) × (length (p .A .values) ≤ length (now «a_values_out»)) × (length (p .b) ≤ length (now «b_out»)) ⌝ }
-    ensures { λ _. ⌜ now («a_starts_out» .exit) ≡ written (generated seed v w n .A .starts) (now («a_starts_out» .entry)) ⌝ }
-    ensures { λ _. ⌜ now («a_rows_out» .exit) ≡ written (generated seed v w n .A .rows) (now («a_rows_out» .entry)) ⌝ }
-    ensures { λ _. ⌜ now («a_values_out» .exit) ≡ written (generated seed v w n .A .values) (now («a_values_out» .entry)) ⌝ }
-    ensures { λ _. ⌜ now («b_out» .exit) ≡ written (generated seed v w n .b) (now («b_out» .entry)) ⌝ }
+    requires { ⌜ RoomsOf (now rooms) (length (now «a_starts_out»)) (length (now «a_rows_out»)) (length (now «a_values_out»)) (length (now «b_out»)) ⌝ }
+    ensures { λ r. ⌜ r ≡ cond (roomy (tableLengths (generated seed v w n)) (now (rooms .entry))) 0 11 ⌝ }
+    ensures { λ r. ⌜ now («a_starts_out» .exit) ≡ output r (generated seed v w n .A .starts) (now («a_starts_out» .entry)) ⌝ }
+    ensures { λ r. ⌜ now («a_rows_out» .exit) ≡ output r (generated seed v w n .A .rows) (now («a_rows_out» .entry)) ⌝ }
+    ensures { λ r. ⌜ now («a_values_out» .exit) ≡ output r (generated seed v w n .A .values) (now («a_values_out» .entry)) ⌝ }
+    ensures { λ r. ⌜ now («b_out» .exit) ≡ output r (generated seed v w n .b) (now («b_out» .entry)) ⌝ }
 {
     let d = draw_rows(seed, v, w, &mut *rows);
     let m = v * (v + 1) / 2;
-    let after = write_columns(
+    if are_kept(d.count, n) {
+        return write_once(
+            d.state,
+            &rows[..d.count],
+            v,
+            w,
+            n,
+            m as usize,
+            rooms,
+            a_starts_out,
+            a_rows_out,
+            a_values_out,
+            b_out,
+        );
+    }
+    write_twice(
         d.state,
         &rows[..d.count],
+        v,
+        w,
         n,
+        m as usize,
+        rooms,
         a_starts_out,
         a_rows_out,
         a_values_out,
-    );
-    write_side(after, &rows[..d.count], m as usize, b_out);
+        b_out,
+    )
 }
 
 // Writes the record of the single cone, PSD of size `v`.
@@ -219,8 +365,8 @@ fn write_pattern(seed: u64, w: u32, ordering: &mut [u32], out: &mut [u32])
     requires { ⌜ (w < length (now ordering)) × (length (now ordering) ≤ 64) × (3 + length (now ordering) + (length (now ordering) - w) * (w + 4) ≤ length (now out)) ⌝ }
     ensures { λ _. ⌜ now (out .exit) ≡ written (patternWordsOf (bandOf (drawnOrdering seed (length (now (ordering .entry)))) (length (now (ordering .entry))) w)) (now (out .entry)) ⌝ }
 {
-    draws::draw_ordering(seed, &mut *ordering);
-    band::write_words(&*ordering, w, out);
+    generator_draws::draw_ordering(seed, &mut *ordering);
+    generator_band::write_words(&*ordering, w, out);
 }
 
 // Writes P, which has no entries, and q, which is zero.
@@ -234,36 +380,41 @@ fn write_objective(n: u32, p_starts_out: &mut [u32], q_out: &mut [f64])
     csc::fill_values(q_out, count, 0.0);
 }
 
-// Writes A and b.
+// Writes A and b. `rooms` has the length of every output of `generate`. Returns the refusal number of `generate`, or 0; a refused call writes nothing.
 fn write_constraints(
     seed: u64,
     v: u32,
     w: u32,
     n: u32,
+    rooms: &[usize],
     a_starts_out: &mut [u32],
     a_rows_out: &mut [u32],
     a_values_out: &mut [f64],
     b_out: &mut [f64],
-)
-    requires { ⌜ T (inRanges seed v w n) ⌝ }
-    requires { let p = generated seed v w n in ⌜ (length (p .A .starts) ≤ length (now «a_starts_out»)) × (length (p .A .rows) ≤ length (now «a_rows_out»)) × (length (p .A .values) ≤ length (now «a_values_out»)) × (length (p .b) ≤ length (now «b_out»)) ⌝ }
-    ensures { λ _. ⌜ now («a_starts_out» .exit) ≡ written (generated seed v w n .A .starts) (now («a_starts_out» .entry)) ⌝ }
-    ensures { λ _. ⌜ now («a_rows_out» .exit) ≡ written (generated seed v w n .A .rows) (now («a_rows_out» .entry)) ⌝ }
-    ensures { λ _. ⌜ now («a_values_out» .exit) ≡ written (generated seed v w n .A .values) (now («a_values_out» .entry)) ⌝ }
-    ensures { λ _. ⌜ now («b_out» .exit) ≡ written (generated seed v w n .b) (now («b_out» .entry)) ⌝ }
+) -> u32
+    requires { ⌜ RoomsOf (now rooms) (length (now «a_starts_out»)) (length (now «a_rows_out»)) (length (now «a_values_out»)) (length (now «b_out»)) ⌝ }
+    ensures { λ r. ⌜ r ≡ generateRefusal seed v w n (now (rooms .entry)) ⌝ }
+    ensures { λ r. ⌜ now («a_starts_out» .exit) ≡ output r (generated seed v w n .A .starts) (now («a_starts_out» .entry)) ⌝ }
+    ensures { λ r. ⌜ now («a_rows_out» .exit) ≡ output r (generated seed v w n .A .rows) (now («a_rows_out» .entry)) ⌝ }
+    ensures { λ r. ⌜ now («a_values_out» .exit) ≡ output r (generated seed v w n .A .values) (now («a_values_out» .entry)) ⌝ }
+    ensures { λ r. ⌜ now («b_out» .exit) ≡ output r (generated seed v w n .b) (now («b_out» .entry)) ⌝ }
 {
+    if !generator_draws::in_ranges(seed, v, w, n) {
+        return refusal::RANGES;
+    }
     let mut rows = [0u32; 2080];
     write_drawn(
         seed,
         v,
         w,
         n,
+        rooms,
         &mut rows,
         a_starts_out,
         a_rows_out,
         a_values_out,
         b_out,
-    );
+    )
 }
 
 // Writes the cone's record and the words of its pattern.
@@ -314,12 +465,21 @@ pub fn generate(
         alphas_out.len(),
         pattern_words_out.len(),
     ];
-    let refused = refuse(seed, v, w, n, &rooms);
+    let refused = write_constraints(
+        seed,
+        v,
+        w,
+        n,
+        &rooms,
+        a_starts_out,
+        a_rows_out,
+        a_values_out,
+        b_out,
+    );
     if refused != 0 {
         return refused;
     }
     write_objective(n, p_starts_out, q_out);
-    write_constraints(seed, v, w, n, a_starts_out, a_rows_out, a_values_out, b_out);
     write_layout(seed, v, w, cones_out, pattern_words_out);
     0
 }

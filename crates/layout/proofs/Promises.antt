@@ -7,14 +7,19 @@ use mathlib.Core.Bool.{Bool, true, false, cond}
 use mathlib.Core.List.{List, _∷_}
 use lib.ListN.{length, take}
 use lib.Dec.{T}
-use Rattle.layout.specs.Problem.{Problem, tableLengths, Route, standard, compact}
+use Rattle.layout.specs.Problems.Problem.{Problem, tableLengths, Route, standard, compact}
 use Rattle.layout.specs.Checks.{refusal}
-use Rattle.layout.specs.Answers.{Augmented, lengths, output, orElse, onRoute, routeOf, roomy, sizes, cutRefusal}
-use Rattle.layout.specs.Calls.Cut.{Objective, HoldsObjective, Constrained, HoldsConstrained, Cut}
+use Rattle.layout.specs.Calls.Cut.{Augmented, lengths, sizes, cutRefusal, Objective, HoldsObjective, Constrained, HoldsConstrained, Cut}
+use Rattle.layout.specs.Calls.Answers.{output, orElse, onRoute, routeOf, roomy}
 use Rattle.layout.specs.Calls.Join.{Rejoined, HoldsRejoined}
 use Rattle.layout.specs.Calls.Tables.{Tables, tablesOf, tableRooms, problemAt, HoldsTables}
-use Rattle.layout.proofs.Tests.{and-iff, leb-iff}
-use Rattle.layout.proofs.Buffers.{output-kept, front-read}
+use Rattle.layout.proofs.Lists.Tests.{and-iff, leb-iff}
+use Rattle.layout.proofs.Lists.Buffers.{front-read}
+
+-- a refused call leaves its output unchanged
+pub output-kept : {A : Type 0} (r : ℕ) (new old : List A) → (r ≡ 0 → ⊥) → old ≡ output r new old
+output-kept zero new old h = absurd (h refl)
+output-kept (suc r) new old h = refl
 
 module _ (r : ℕ) (refused : r ≡ 0 → ⊥) where
   pub objective-kept : (new old : Objective) → HoldsObjective r new old old
@@ -57,15 +62,16 @@ module _ (r : ℕ) (refused : r ≡ 0 → ⊥) where
 abbrev pub Taken : Route → Problem → List ℕ → Type 0
 Taken route p rooms = (refusal route p ≡ 0) × T (roomy (sizes route p) rooms)
 
-both : (a : ℕ) (t : Bool) → orElse a (cond t 0 11) ≡ 0 → (a ≡ 0) × T t
-both zero true h = (refl, tt)
-both zero false h = absurd (omega arith)
-both (suc a) t h = absurd (omega arith)
+-- a call that returns 0 passes its checks, and its outputs are long enough
+pub none-refused : (a : ℕ) (t : Bool) → orElse a (cond t 0 11) ≡ 0 → (a ≡ 0) × T t
+none-refused zero true h = (refl, tt)
+none-refused zero false h = absurd (omega arith)
+none-refused (suc a) t h = absurd (omega arith)
 
 pub taken : (k : ℕ) (p : Problem) (rooms : List ℕ) → onRoute k (λ rt. cutRefusal rt p rooms) ≡ 0
     → (k ≤ 1) × Taken (routeOf k) p rooms
-taken zero p rooms h = (omega arith, both (refusal standard p) (roomy (sizes standard p) rooms) h)
-taken (suc zero) p rooms h = (omega arith, both (refusal compact p) (roomy (sizes compact p) rooms) h)
+taken zero p rooms h = (omega arith, none-refused (refusal standard p) (roomy (sizes standard p) rooms) h)
+taken (suc zero) p rooms h = (omega arith, none-refused (refusal compact p) (roomy (sizes compact p) rooms) h)
 taken (suc (suc k)) p rooms h = absurd (omega arith)
 
 -- ---- a problem's tables

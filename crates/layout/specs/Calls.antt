@@ -1,3 +1,4 @@
+pub mod Answers
 pub mod PairIndex
 pub mod PairBack
 pub mod Inverse

@@ -6,21 +6,21 @@ use mathlib.Core.Bool.{true}
 use mathlib.Core.List.{List, [], _∷_, _++_, map}
 use lib.ListN.{length, getD}
 use lib.Dec.{T, ltb, lt→ltb}
-use Rattle.layout.specs.Lists.{all, below}
-use Rattle.layout.specs.Problem.{Problem, Csc}
-use Rattle.layout.specs.Cones.{records}
-use Rattle.layout.specs.Patterns.{readPatterns, endsRight, patterns}
+use Rattle.layout.specs.General.Lists.{all, below}
+use Rattle.layout.specs.Problems.Problem.{Problem, Csc}
+use Rattle.layout.specs.Problems.Cones.{records}
+use Rattle.layout.specs.Problems.Patterns.{readPatterns, endsRight, patterns}
 use Rattle.layout.specs.Checks.{columnRows, namesItsCone}
-use Rattle.layout.specs.Answers.{roomy}
-use Rattle.layout.specs.Pool.{pool}
+use Rattle.layout.specs.Calls.Answers.{roomy}
+use Rattle.layout.specs.Calls.Pool.{pool}
 use Rattle.layout.specs.Calls.Tables.{Tables, tableRooms}
-use Rattle.layout.proofs.Tests.{and-iff, leb-iff, ltb-iff, passed}
-use Rattle.layout.proofs.Members.{has-getD, all-has, all-so}
-use Rattle.layout.proofs.Joins.{join-same}
-use Rattle.layout.proofs.Accepted.{sound-cone-count, sound-ends, sound-names}
-use Rattle.layout.proofs.Columns.{RightStarts}
-use Rattle.layout.proofs.PoolChecks.{right-first, right-second}
-use Rattle.layout.proofs.PoolTables.{Pooled, pool-A-starts, pool-A-rows, pool-A-values}
+use Rattle.layout.proofs.Lists.Tests.{and-iff, leb-iff, ltb-iff, passed}
+use Rattle.layout.proofs.Lists.Members.{has-getD, all-has, all-so}
+use Rattle.layout.proofs.Lists.Joins.{join-same}
+use Rattle.layout.proofs.Checks.Accepted.{sound-cone-count, sound-ends, sound-names}
+use Rattle.layout.proofs.Columns.Columns.{RightStarts}
+use Rattle.layout.proofs.Pools.PoolChecks.{right-first, right-second}
+use Rattle.layout.proofs.Pools.PoolTables.{Pooled, pool-A-starts, pool-A-rows, pool-A-values}
 use Rattle.pool_tables.specs.Stacked.{StartsIn, raised, Raisable, originRaisable, OriginsRaisable, startSums, SumsFit, stacked}
 use Rattle.pool_tables.proofs.Columns.{part-raised}
 use Rattle.pool_refusals.proofs.Refusals.{lengths-given}

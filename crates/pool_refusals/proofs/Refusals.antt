@@ -7,15 +7,15 @@ use mathlib.Core.List.{List, [], _∷_}
 use borrow.Author.Tests.{le-leb, lt-leb}
 use lib.ListN.{length}
 use lib.Dec.{T, eqb, eqb→eq, leb}
-use Rattle.layout.specs.Problem.{Problem, tableLengths}
+use Rattle.layout.specs.Problems.Problem.{Problem, tableLengths}
 use Rattle.layout.specs.Checks.{Checked}
-use Rattle.layout.specs.Answers.{orElse, problemRefusal, roomy}
-use Rattle.layout.specs.Pool.{pool, poolRefusal}
-use Rattle.layout.proofs.Order.{orElse-zero, orElse-assoc}
-use Rattle.layout.proofs.Accepted.{problem-checked}
-use Rattle.layout.proofs.PoolChecks.{poolBounded, right-first}
-use Rattle.layout.proofs.PoolTables.{pool-refusals, pool-lengths}
-use Rattle.checks.proofs.Order.{first-refused}
+use Rattle.layout.specs.Calls.Answers.{orElse, problemRefusal, roomy}
+use Rattle.layout.specs.Calls.Pool.{pool, poolRefusal}
+use Rattle.layout.proofs.Checks.Order.{orElse-zero, orElse-assoc}
+use Rattle.layout.proofs.Checks.Accepted.{problem-checked}
+use Rattle.layout.proofs.Pools.PoolChecks.{poolBounded, right-first}
+use Rattle.layout.proofs.Pools.PoolTables.{pool-refusals, pool-lengths}
+use Rattle.check_problem.proofs.Order.{first-refused}
 use Rattle.pool_refusals.specs.Refusals.{secondRefusal, bothRefusal}
 
 -- ---- two numbers in order

@@ -2,8 +2,8 @@
 use Prim.Native.Nat.{ℕ}
 use mathlib.Core.Bool.{cond}
 use lib.Dec.{eqb}
-use Rattle.layout.specs.Problem.{Problem}
-use Rattle.layout.specs.Answers.{orElse, problemRefusal}
+use Rattle.layout.specs.Problems.Problem.{Problem}
+use Rattle.layout.specs.Calls.Answers.{orElse, problemRefusal}
 
 -- checks 1 to 7 of the second problem, then 17
 abbrev pub secondRefusal : ℕ → Problem → ℕ

@@ -4,10 +4,10 @@ ghost use mathlib.Core.Bool.{_&&_, cond};
 ghost use Prim.Native.Nat.{_+_, _≤_};
 ghost use lib.ListN.{length};
 ghost use lib.Dec.{eqb, leb};
-ghost use Rattle.layout.specs.Problem.{problem};
-ghost use Rattle.layout.specs.Cones.{records};
-ghost use Rattle.layout.specs.Answers.{roomy};
-ghost use Rattle.layout.specs.Pool.{poolRefusal};
+ghost use Rattle.layout.specs.Problems.Problem.{problem};
+ghost use Rattle.layout.specs.Problems.Cones.{records};
+ghost use Rattle.layout.specs.Calls.Answers.{roomy};
+ghost use Rattle.layout.specs.Calls.Pool.{poolRefusal};
 ghost use Rattle.pool_refusals.specs.Refusals.{secondRefusal, bothRefusal};
 use constants::limit;
 use constants::refusal;
@@ -45,7 +45,7 @@ fn check_second(
         let other = problem n2 m2 (now («p_starts2» .entry)) (now («p_rows2» .entry)) (now («p_values2» .entry)) (now (q2 .entry)) (now («a_starts2» .entry)) (now («a_rows2» .entry)) (now («a_values2» .entry)) (now (b2 .entry)) (now (cones2 .entry)) (now (alphas2 .entry)) count2 (now (words2 .entry)) in
         ⌜ r ≡ secondRefusal n other ⌝ }
 {
-    let checked = checks::check_problem(
+    let checked = check_problem::check_problem(
         n2,
         m2,
         p_starts2,
@@ -105,7 +105,7 @@ fn check_both(
         let other = problem n2 m2 (now («p_starts2» .entry)) (now («p_rows2» .entry)) (now («p_values2» .entry)) (now (q2 .entry)) (now («a_starts2» .entry)) (now («a_rows2» .entry)) (now («a_values2» .entry)) (now (b2 .entry)) (now (cones2 .entry)) (now (alphas2 .entry)) count2 (now (words2 .entry)) in
         ⌜ r ≡ bothRefusal p other ⌝ }
 {
-    let first = checks::check_problem(
+    let first = check_problem::check_problem(
         n,
         m,
         p_starts,
@@ -124,7 +124,7 @@ fn check_both(
     if first != refusal::DONE {
         return first;
     }
-    let same = agreement::layouts_agree(
+    let same = same_tables::layouts_agree(
         n,
         m,
         p_starts,
@@ -144,7 +144,7 @@ fn check_both(
         alphas2,
         words2,
     );
-    if agreement::checked_alike(
+    if same_tables::checked_alike(
         same,
         count,
         p_values.len(),

@@ -6,14 +6,14 @@ use mathlib.Core.Path.{_≡_, refl, sym, ap, ap₂, subst, _∙_}
 use mathlib.Core.Bool.{Bool, true, false}
 use mathlib.Core.List.{List, [], _∷_, _++_, append-nil, append-assoc}
 use lib.ListN.{length, getD, take, drop, length-append, length-drop, take-append-drop}
-use lib.Seq.{length-take-le, getD-take, getD-drop, drop-drop, take-append-seam, take-append-add, drop-append-add}
+use lib.Seq.{length-take-le, drop-drop, take-append-add}
 use lib.Dec.{ltb}
 use borrow.Author.Tests.{ltb-true, ltb-false}
-use Rattle.layout.specs.Lists.{below, part, join, written}
-use Rattle.layout.proofs.Starts.{join-append, length-written}
-use Rattle.layout.proofs.Joins.{take-map, drop-map}
-use Rattle.layout.proofs.Keeps.{below-more}
-use Rattle.layout.proofs.Buffers.{written-after, take-none}
+use Rattle.layout.specs.General.Lists.{below, part, join, written}
+use Rattle.layout.proofs.Lists.Starts.{part-getD, part-none, join-append, length-written}
+use Rattle.layout.proofs.Lists.Joins.{take-map, drop-map}
+use Rattle.layout.proofs.Lists.Keeps.{below-more}
+use Rattle.layout.proofs.Lists.Buffers.{written-on, written-after}
 use Rattle.pool_tables.specs.Stacked.{StartsOf, raised, Raisable, stackedColumn, stacked}
 
 -- ---- slices
@@ -24,18 +24,10 @@ part-length xs a b h = length-take-le (b - a) (drop a xs) (omega (arith, length-
 pub part-raised : (k : ℕ) (xs : List ℕ) (a b : ℕ) → raised k (part a b xs) ≡ part a b (raised k xs)
 part-raised k xs a b = sym (ap (take (b - a)) (drop-map (λ x. k + x) a xs) ∙ take-map (λ x. k + x) (b - a) (drop a xs))
 
-part-getD : {A : Type 0} (d : A) (a b t : ℕ) (xs : List A) → t < b - a → getD (part a b xs) t d ≡ getD xs (a + t) d
-part-getD d a b t xs h = getD-take (b - a) (drop a xs) t d h ∙ getD-drop a xs t d
-
 pub part-raisable : (k : ℕ) (xs : List ℕ) (a b : ℕ) → b ≤ length xs → Raisable k xs → Raisable k (part a b xs)
 part-raisable k xs a b h r i l =
     let inside : i < b - a = omega (arith, part-length xs a b h) in
     subst (λ (x : ℕ). k + x < 4294967296) (sym (part-getD 0 a b i xs inside)) (r (a + i) (omega arith))
-
-part-none : {A : Type 0} (a b : ℕ) (xs : List A) → b ≤ a → part a b xs ≡ []
-part-none a b xs h =
-    let none : b - a ≡ 0 = omega arith in
-    ap (λ (k : ℕ). take k (drop a xs)) none ∙ take-none (drop a xs)
 
 -- two parts, the second from the end of the first on
 part-joined : {A : Type 0} (a b e : ℕ) (xs : List A) → a ≤ b → b ≤ e → b ≤ length xs → part a b xs ++ part b e xs ≡ part a e xs
@@ -54,17 +46,6 @@ put-after {A} xs out a room e =
     let size : length (take a out) ≡ a = length-take-le a out (omega arith) in
     written-after (take a out) xs out a (sym size) (omega (arith, size))
     (sym (take-append-drop a out) ∙ ap (λ (k : ℕ). take a out ++ drop k out) (sym size)) e
-
--- xs is written, then ys after its elements
-written-on : {A : Type 0} (xs ys old : List A) {ws : List A} (a : ℕ) → a ≡ length xs → ws ≡ written xs old
-    → written (take a ws ++ ys) ws ≡ written (xs ++ ys) old
-written-on {A} xs ys old a e h =
-    let front = ap₂ (λ (i : ℕ) (rs : List A). take i rs) e h ∙ take-append-seam xs (drop (length xs) old) in
-    let both = length-append xs ys in
-    ap₂ (λ (rs ts : List A). written (rs ++ ys) ts) front h
-    ∙ ap (λ (rs : List A). (xs ++ ys) ++ rs)
-    (ap (λ (k : ℕ). drop k (written xs old)) both ∙ drop-append-add xs (drop (length xs) old) (length ys)
-    ∙ drop-drop (length ys) (length xs) old ∙ ap (λ (k : ℕ). drop k old) (sym both))
 
 -- ---- the loop
 

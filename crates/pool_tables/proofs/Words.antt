@@ -1,18 +1,20 @@
 -- Pattern words with each orig_index raised, written over a copy of the words one pattern at a time.
 use Prim.Native.Nat.{ℕ, suc, _+_, _-_, _≤_, _<_}
+use native.Mathlib.Nat.{le-refl, le-of-eq}
 use native.Mathlib.Omega.{arith}
 use mathlib.Core.Path.{_≡_, refl, sym, ap, ap₂, subst, _∙_}
 use mathlib.Core.Bool.{true}
 use mathlib.Core.List.{List, [], _∷_, _++_, append-assoc}
 use lib.ListN.{length, getD, set, drop, length-append, length-drop}
-use lib.Seq.{drop-cons, drop-append-seam}
+use lib.Seq.{drop-cons}
 use lib.Dec.{T, ltb, ltb→lt}
-use Rattle.layout.specs.Lists.{all, join, written}
-use Rattle.layout.specs.Patterns.{Pattern, read, noPattern, readPattern, readPatterns, endsRight, patterns, patternWordsOf}
-use Rattle.layout.specs.Pool.{raisedPattern, raisedWords}
-use Rattle.layout.proofs.Tests.{and-iff, passes}
-use Rattle.layout.proofs.PatternWords.{words-of-patterns}
-use Rattle.layout.proofs.PoolTables.{raised-words-step}
+use Rattle.layout.specs.General.Lists.{all, join, written}
+use Rattle.layout.specs.Problems.Patterns.{Pattern, read, noPattern, readPattern, readPatterns, endsRight, patterns, patternWordsOf}
+use Rattle.layout.specs.Calls.Pool.{raisedPattern, raisedWords}
+use Rattle.layout.proofs.Lists.Tests.{and-iff, passes}
+use Rattle.layout.proofs.Lists.Buffers.{written-over}
+use Rattle.layout.proofs.Patterns.PatternWords.{words-of-patterns}
+use Rattle.layout.proofs.Pools.PoolTables.{raised-words-step}
 use Rattle.supernode_tree.specs.Reads.{isWhole, rest, ended, patternAt}
 use Rattle.supernode_tree.proofs.Many.{whole-read, ends-whole, ends-value, ended-ends, ended-next, first-whole}
 use Rattle.supernode_tree.proofs.Patterns.{patterns-first}
@@ -47,17 +49,12 @@ raised-length k count words ends =
 
 -- ---- words copied and then overwritten
 
-written-over : (xs ys old : List ℕ) → length xs ≡ length ys → written xs (written ys old) ≡ written xs old
-written-over xs ys old e =
-    ap (λ (k : ℕ). xs ++ drop k (written ys old)) e ∙ ap (λ (r : List ℕ). xs ++ r) (drop-append-seam ys (drop (length ys) old))
-    ∙ ap (λ (k : ℕ). xs ++ drop k old) (sym e)
-
 -- copying again changes nothing
 pub copy-stands : (xs old : List ℕ) {out : List ℕ} → out ≡ written xs old → out ≡ written xs out
-copy-stands xs old e = e ∙ sym (ap (written xs) e ∙ written-over xs xs old refl)
+copy-stands xs old e = e ∙ sym (ap (written xs) e ∙ written-over xs xs old (le-refl (length xs)))
 
 pub over-copy : (xs ys old : List ℕ) {mid out : List ℕ} → mid ≡ written ys old → length xs ≡ length ys → out ≡ written xs mid → out ≡ written xs old
-over-copy xs ys old e l f = f ∙ ap (written xs) e ∙ written-over xs ys old l
+over-copy xs ys old e l f = f ∙ ap (written xs) e ∙ written-over ys xs old (le-of-eq (sym l))
 
 -- ---- the loop
 

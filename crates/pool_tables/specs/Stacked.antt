@@ -5,9 +5,9 @@ use mathlib.Core.Bool.{Bool}
 use mathlib.Core.List.{List, _++_, map}
 use lib.ListN.{length, getD}
 use lib.Dec.{T, ltb}
-use Rattle.layout.specs.Lists.{all, below, part, join, written}
-use Rattle.layout.specs.Problem.{Csc, System}
-use Rattle.layout.specs.Patterns.{Pattern}
+use Rattle.layout.specs.General.Lists.{all, below, part, join, written}
+use Rattle.layout.specs.Problems.Problem.{Csc, System}
+use Rattle.layout.specs.Problems.Patterns.{Pattern}
 
 -- whether starts are valid for n columns over k entries: n + 1 numbers from 0, never decreasing, at most k
 abbrev pub StartsOf : ℕ → ℕ → List ℕ → Type 0

@@ -4,12 +4,12 @@ ghost use mathlib.Core.Bool.{true};
 ghost use mathlib.Core.List.{_++_};
 ghost use Prim.Native.Nat.{suc, _+_, _≤_, _<_};
 ghost use lib.ListN.{length, take};
-ghost use Rattle.layout.specs.Lists.{part, written};
-ghost use Rattle.layout.specs.Cones.{records};
-ghost use Rattle.layout.specs.Patterns.{readPatterns, endsRight, patterns};
-ghost use Rattle.layout.specs.Pool.{raisedWords};
+ghost use Rattle.layout.specs.General.Lists.{part, written};
+ghost use Rattle.layout.specs.Problems.Cones.{records};
+ghost use Rattle.layout.specs.Problems.Patterns.{readPatterns, endsRight, patterns};
+ghost use Rattle.layout.specs.Calls.Pool.{raisedWords};
 ghost use Rattle.pool_tables.specs.Stacked.{StartsOf, raised, Raisable, OriginsRaisable, startSums, SumsFit, stacked, StackFits, HoldsStack};
-ghost use Rattle.layout.specs.Problem.{system};
+ghost use Rattle.layout.specs.Problems.Problem.{system};
 
 // ---- one list followed by another
 

@@ -2,9 +2,9 @@
 ghost use mathlib.Core.Path.{_≡_};
 ghost use Prim.Native.Nat.{suc, _≤_};
 ghost use lib.ListN.{length};
-ghost use Rattle.layout.specs.Lists.{written};
-ghost use Rattle.layout.specs.File.{countWords, countsIn};
-ghost use Rattle.layout.specs.FileWords.{wordTables};
+ghost use Rattle.layout.specs.General.Lists.{written};
+ghost use Rattle.layout.specs.Files.File.{countWords, countsIn};
+ghost use Rattle.layout.specs.Files.FileWords.{wordTables};
 ghost use Rattle.layout.specs.Calls.ReadFile.{fileOutputs, ReadFile};
 ghost use Rattle.file_shape.specs.Parts.{WellShaped};
 use constants::file_table;

@@ -383,7 +383,7 @@ fn tell_joined<'a>(
     let mut s_out = [0f64; 32];
     let mut z_out = [0f64; 32];
     let mut scalars_out = [0f64; 32];
-    let answer = decomp_reverse::join(
+    let answer = join_on_route::join(
         route,
         N,
         M,

@@ -38,7 +38,7 @@ fn call_on_pattern<'a>(family: u8, given: &'a [u32], list: &'a [u32], room: &mut
     match family {
         PAIR_INDEX => scalarmath::pair_index(item(given, 0), item(given, 1), room),
         PAIR_BACK => scalarmath::pair_back(item(given, 0), room),
-        INVERSE => utils::inverse(list, room),
+        INVERSE => inverse_permutation::inverse(list, room),
         _ => reorder::reorder_snode_consecutively(list, room),
     }
 }
@@ -395,7 +395,7 @@ fn call_on_problem<'a>(
     values: &'a [f64],
 ) -> u32 {
     match family {
-        CHECK_PROBLEM => checks::check_problem(
+        CHECK_PROBLEM => check_problem::check_problem(
             item(given, 0),
             item(given, 1),
             p_starts,
@@ -537,7 +537,7 @@ fn call_on_solution<'a>(
     scalars_out: &mut [f64],
 ) -> u32 {
     match family {
-        JOIN => decomp_reverse::join(
+        JOIN => join_on_route::join(
             item(given, 0),
             item(given, 1),
             item(given, 2),

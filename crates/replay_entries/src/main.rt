@@ -2,9 +2,9 @@
 // a line for each file. A map has at most 64 entries. Crate replay describes the form of a case; pick.py chooses which of its cases are here.
 ghost use Prim.Native.Nat.{_*_, _≤_};
 ghost use lib.ListN.{length};
-use cone_map::ConeMapEntry;
-use decomp_augment_entries::cut_compact_entries;
-use decomp_reverse_entries::join_compact_entries;
+use entries_cut::cut_compact_entries;
+use entries_join::join_compact_entries;
+use entries_map::ConeMapEntry;
 use stored::cut_answer;
 use stored::item;
 use stored::load_values;
@@ -57,7 +57,7 @@ fn cut_by_entries(
     requires { ⌜ (320 ≤ length (now before)) × (entries ≤ 64) × (kept ≤ entries * 5) × (kept ≤ length (now after)) ⌝ }
 {
     let mut list = [ConeMapEntry::read(before, 0); MOST_ENTRIES];
-    cone_maps::write_entries(before, entries, &mut list[..entries]);
+    entries_maps::write_entries(before, entries, &mut list[..entries]);
     let r = cut_compact_entries(
         n,
         m,
@@ -85,7 +85,7 @@ fn cut_by_entries(
         alphas_out,
         &mut list[..entries],
     );
-    cone_maps::write_words(&list[..entries], kept, after);
+    entries_maps::write_words(&list[..entries], kept, after);
     r
 }
 
@@ -111,7 +111,7 @@ fn join_by_entries(
     requires { ⌜ (320 ≤ length (now map)) × (entries ≤ 64) ⌝ }
 {
     let mut list = [ConeMapEntry::read(map, 0); MOST_ENTRIES];
-    cone_maps::write_entries(map, entries, &mut list[..entries]);
+    entries_maps::write_entries(map, entries, &mut list[..entries]);
     join_compact_entries(
         n,
         m,

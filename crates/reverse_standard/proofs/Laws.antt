@@ -7,11 +7,11 @@ use mathlib.Core.List.{List, map}
 use lib.ListN.{length, getD, drop, set}
 use lib.Seq.{getD-append-add, getD-drop, getD-set-same, getD-set-other}
 use lib.Ieee.{Float, nan}
-use Rattle.layout.specs.Lists.{below, written}
-use Rattle.layout.specs.Reverse.{columnCount, averaged}
-use Rattle.layout.proofs.Members.{has-below}
-use Rattle.layout.proofs.Joins.{map-same}
-use Rattle.layout.proofs.Buffers.{length-mapped}
+use Rattle.layout.specs.General.Lists.{below, written}
+use Rattle.layout.specs.Joinings.Reverse.{columnCount, averaged}
+use Rattle.layout.proofs.Lists.Members.{has-below}
+use Rattle.layout.proofs.Lists.Joins.{map-same}
+use Rattle.layout.proofs.Lists.Buffers.{length-mapped}
 use Rattle.reverse_standard.specs.Averages.{averagedBy, shared, Clears}
 
 -- a list whose elements are replaced in order, element i by f i

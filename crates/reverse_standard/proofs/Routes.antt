@@ -6,7 +6,7 @@ use mathlib.Core.Logic.{inl, inr}
 use mathlib.Core.List.{List, [], _∷_, _++_, reverse, reverse-cons}
 use lib.ListN.{length, getD, length-reverse, List·getD-append}
 use lib.Seq.{getD-append-seam}
-use Rattle.layout.proofs.Tests.{lt-or-le}
+use Rattle.layout.proofs.Lists.Tests.{lt-or-le}
 
 pub reverse-at : (xs : List ℕ) (i : ℕ) → i < length xs → getD (reverse xs) i 0 ≡ getD xs (length xs - 1 - i) 0
 reverse-at [] i h = absurd (omega arith)

@@ -8,10 +8,10 @@ use mathlib.Core.Bool.{Bool, true, false}
 use mathlib.Core.List.{List, [], _∷_, _++_, map}
 use lib.ListN.{length, getD, take, drop, length-drop}
 use lib.Seq.{drop-drop, getD-drop}
-use Rattle.layout.specs.Lists.{sum}
-use Rattle.layout.specs.Compact.{MapEntry, wholeCone, mapWords}
-use Rattle.layout.proofs.ConeMap.{entryFirst, entryRows, Follow, first-word}
-use Rattle.layout.proofs.Sizes.{entries-length}
+use Rattle.layout.specs.General.Lists.{sum}
+use Rattle.layout.specs.Cuts.Compact.{MapEntry, wholeCone, mapWords}
+use Rattle.layout.proofs.Rows.ConeMap.{entryFirst, entryRows, Follow, first-word}
+use Rattle.layout.proofs.Columns.Sizes.{entries-length}
 use Rattle.reverse_standard.specs.Routes.{startOf, HasEntry, Starts}
 
 -- the first block has an entry that gives its start, and the remaining blocks start after it

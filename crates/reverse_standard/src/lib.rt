@@ -9,8 +9,8 @@ ghost use mathlib.Core.Bool.{cond};
 ghost use lib.Dec.{ltb};
 ghost use lib.IntN.{pos};
 ghost use lib.Ieee.{add, div, ofInt, binary64};
-ghost use Rattle.layout.specs.Lists.{below};
-ghost use Rattle.layout.specs.Problem.{zero64, one64};
+ghost use Rattle.layout.specs.General.Lists.{below};
+ghost use Rattle.layout.specs.General.Floats.{zero64, one64};
 ghost use Rattle.reverse_standard.specs.Averages.{averagedBy, shared, Clears};
 ghost use Rattle.reverse_standard.specs.Routes.{zValue, inRouteOrder, startOf, HasEntry};
 

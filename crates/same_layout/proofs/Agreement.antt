@@ -5,11 +5,12 @@ use mathlib.Core.Bool.{cond}
 use mathlib.Core.List.{List, []}
 use lib.ListN.{length, set}
 use borrow.Author.Tests.{le-leb, lt-leb}
-use Rattle.layout.specs.Problem.{Problem}
-use Rattle.layout.specs.Answers.{output, orElse, roomRefusal, problemRefusal, sameLayout, sameLayoutWords}
-use Rattle.layout.specs.Calls.SameLayout.{SameLayout}
-use Rattle.layout.proofs.Buffers.{output-kept, set-written}
-use Rattle.checks.proofs.Order.{first-given}
+use Rattle.layout.specs.Problems.Problem.{Problem}
+use Rattle.layout.specs.Calls.Answers.{output, orElse, roomRefusal, problemRefusal}
+use Rattle.layout.specs.Calls.SameLayout.{sameLayout, sameLayoutWords, SameLayout}
+use Rattle.layout.proofs.Lists.Buffers.{set-written}
+use Rattle.layout.proofs.Promises.{output-kept}
+use Rattle.check_problem.proofs.Order.{first-given}
 
 -- ---- the order of refusals: r is the result of the first problem's checks, and k that of the second's
 

@@ -1,5 +1,5 @@
 // Same layout: whether two problems agree in n, m, cone records, pattern words, exponents, and the starts and rows of A and P.
-ghost use Rattle.layout.specs.Problem.{problem};
+ghost use Rattle.layout.specs.Problems.Problem.{problem};
 ghost use Rattle.layout.specs.Calls.SameLayout.{SameLayout};
 use constants::refusal;
 
@@ -41,7 +41,7 @@ pub fn same_layout(
         let other = problem n2 m2 (now («p_starts2» .entry)) (now («p_rows2» .entry)) (now («p_values2» .entry)) (now (q2 .entry)) (now («a_starts2» .entry)) (now («a_rows2» .entry)) (now («a_values2» .entry)) (now (b2 .entry)) (now (cones2 .entry)) (now (alphas2 .entry)) count2 (now (words2 .entry)) in
         ⌜ SameLayout p other (now (out .entry)) (now (out .exit)) r ⌝ }
 {
-    let first = checks::check_problem(
+    let first = check_problem::check_problem(
         n,
         m,
         p_starts,
@@ -60,7 +60,7 @@ pub fn same_layout(
     if first != 0 {
         return first;
     }
-    let same = agreement::layouts_agree(
+    let same = same_tables::layouts_agree(
         n,
         m,
         p_starts,
@@ -81,7 +81,7 @@ pub fn same_layout(
         words2,
     );
     let mut refusal = 0;
-    if !agreement::checked_alike(
+    if !same_tables::checked_alike(
         same,
         count,
         p_values.len(),
@@ -94,7 +94,7 @@ pub fn same_layout(
         a_values2.len(),
         b2.len(),
     ) {
-        refusal = checks::check_problem(
+        refusal = check_problem::check_problem(
             n2,
             m2,
             p_starts2,
@@ -117,6 +117,6 @@ pub fn same_layout(
     if out.len() < 1 {
         return refusal::SHORT;
     }
-    out[0] = agreement::word_of(same);
+    out[0] = same_tables::word_of(same);
     0
 }

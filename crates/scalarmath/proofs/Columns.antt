@@ -4,9 +4,9 @@ use native.Mathlib.Nat.{mul-le-mul}
 use native.Mathlib.Omega.{arith}
 use mathlib.Core.Path.{_≡_, refl, sym, ap, _∙_}
 use mathlib.Core.Logic.{inl, inr}
-use Rattle.layout.specs.Triangle.{triangle, indexRow, indexColumn}
-use Rattle.layout.proofs.Tests.{lt-or-le}
-use Rattle.layout.proofs.Triangles.{triangle-suc, triangle-mono, index-row, index-column}
+use Rattle.layout.specs.General.Triangle.{triangle, indexRow, indexColumn}
+use Rattle.layout.proofs.Lists.Tests.{lt-or-le}
+use Rattle.layout.proofs.Numbers.Triangles.{triangle-suc, triangle-mono, index-row, index-column}
 
 twice-triangle : (k : ℕ) → 2 * triangle k ≡ k * suc k
 twice-triangle zero = refl

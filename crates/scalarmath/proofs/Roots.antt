@@ -6,7 +6,7 @@ use mathlib.Core.Path.{_≡_, sym, ap, subst, _∙_}
 use mathlib.Core.Logic.{inl, inr}
 use lib.Pow.{pow-pos, pow-mono, pow-add}
 use lib.Count.{leadingZeros, leading-length}
-use Rattle.layout.proofs.Tests.{lt-or-le}
+use Rattle.layout.proofs.Lists.Tests.{lt-or-le}
 
 -- v is below the square of r + 1, so r is at least the root
 abbrev pub Reaches : ℕ → ℕ → Type 0

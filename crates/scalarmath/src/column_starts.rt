@@ -1,7 +1,7 @@
 // The start of each column in the packed upper triangle, as the standard layout prints it: one number per line, column 0 first.
 ghost use mathlib.Core.Path.{_≡_};
 ghost use Prim.Native.Nat.{_≤_};
-ghost use Rattle.layout.specs.Triangle.{triangle};
+ghost use Rattle.layout.specs.General.Triangle.{triangle};
 
 const COLUMN_STARTS: [u32; 256] = [
     0,

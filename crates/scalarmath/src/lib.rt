@@ -5,7 +5,7 @@ mod column_starts;
 
 ghost use mathlib.Core.Path.{_≡_};
 ghost use Prim.Native.Nat.{_+_, _*_, _≤_, _<_};
-ghost use Rattle.layout.specs.Triangle.{triangle, pairIndex, indexRow, indexColumn};
+ghost use Rattle.layout.specs.General.Triangle.{triangle, pairIndex, indexRow, indexColumn};
 ghost use Rattle.layout.specs.Calls.PairIndex.{PairIndex};
 ghost use Rattle.layout.specs.Calls.PairBack.{PairBack};
 use constants::limit;

@@ -10,11 +10,11 @@ use lib.Seq.{take-all}
 use lib.Dec.{T, leb, eqb}
 use lib.Ieee.{Float}
 use borrow.Author.Tests.{eq-eqb, ne-eqb}
-use Rattle.layout.specs.Lists.{part}
-use Rattle.layout.specs.Answers.{orElse, roomy}
-use Rattle.layout.specs.Between.{atMost}
-use Rattle.layout.proofs.Tests.{eqb-iff}
-use Rattle.checks.proofs.Order.{both-zero}
+use Rattle.layout.specs.General.Lists.{part}
+use Rattle.layout.specs.Calls.Answers.{orElse, roomy}
+use Rattle.layout.specs.Calls.CutBetween.{atMost}
+use Rattle.layout.proofs.Lists.Tests.{eqb-iff}
+use Rattle.check_problem.proofs.Order.{both-zero}
 use Rattle.side_numbers.specs.Order.{withAnother, limitsOrder, sidesOrder}
 
 pub told : (t : Bool) (k : ℕ) → cond t 0 (suc k) ≡ 0 → T t

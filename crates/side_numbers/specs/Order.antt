@@ -5,8 +5,8 @@ use mathlib.Core.List.{List, _∷_, _++_}
 use lib.ListN.{length, take, drop}
 use lib.Dec.{leb, eqb}
 use lib.Ieee.{Float}
-use Rattle.layout.specs.Answers.{orElse}
-use Rattle.layout.specs.Between.{atMost}
+use Rattle.layout.specs.Calls.Answers.{orElse}
+use Rattle.layout.specs.Calls.CutBetween.{atMost}
 
 -- the needed or given lengths of a cut's outputs, with the length of a second b after that of b
 abbrev pub withAnother : ℕ → List ℕ → List ℕ

@@ -3,11 +3,11 @@ ghost use mathlib.Core.Path.{_≡_};
 ghost use mathlib.Core.Bool.{cond, _&&_};
 ghost use Prim.Native.Nat.{_≤_};
 ghost use lib.Dec.{leb};
-ghost use Rattle.layout.specs.Answers.{orElse};
-ghost use Rattle.layout.specs.Between.{atMost};
+ghost use Rattle.layout.specs.Calls.Answers.{orElse};
+ghost use Rattle.layout.specs.Calls.CutBetween.{atMost};
 ghost use Rattle.side_numbers.specs.Order.{limitsOrder, sidesOrder};
+use check_covered::Covered;
 use constants::refusal;
-use covered_rows::Covered;
 
 // The largest number of right sides in one call.
 const MOST_SIDES: u32 = 64;

@@ -5,11 +5,11 @@ use native.Mathlib.Omega.{arith}
 use mathlib.Core.Path.{sym}
 use lib.ListN.{length}
 use lib.Dec.{T, ltb}
-use Rattle.layout.specs.Lists.{all, below}
-use Rattle.layout.specs.Problem.{Problem}
-use Rattle.layout.specs.Checks.{Checked, neverFalls, columnRows}
-use Rattle.layout.proofs.Tests.{and-iff}
-use Rattle.layout.proofs.Columns.{starts-right}
+use Rattle.layout.specs.General.Lists.{all, below, neverFalls}
+use Rattle.layout.specs.Problems.Problem.{Problem}
+use Rattle.layout.specs.Checks.{Checked, columnRows}
+use Rattle.layout.proofs.Lists.Tests.{and-iff}
+use Rattle.layout.proofs.Columns.Columns.{starts-right}
 use Rattle.decomp.proofs.Answers.{few-alphas}
 use Rattle.side_refusals.specs.Tables.{TablesFew}
 

@@ -6,14 +6,15 @@ use mathlib.Core.List.{List, [], _∷_}
 use lib.ListN.{length, getD}
 use lib.Dec.{leb, eqb}
 use lib.Ieee.{Float}
-use Rattle.layout.specs.Lists.{part}
-use Rattle.layout.specs.Problem.{Problem, withB, compact}
+use Rattle.layout.specs.General.Lists.{part}
+use Rattle.layout.specs.Problems.Problem.{Problem, withB, compact}
 use Rattle.layout.specs.Checks.{layout, coveredRows, valuesOn, check9, check10, check, firstFailing}
-use Rattle.layout.specs.Answers.{orElse, roomy, problemRefusal, sizes}
-use Rattle.layout.specs.Between.{atMost, limitsFailing, limitsSizes, limitsRefusal}
-use Rattle.layout.proofs.OtherSide.{covers}
-use Rattle.layout.proofs.Between.{limits-in-order, limits-sizes}
-use Rattle.covered_rows.specs.Covered.{sidesOn}
+use Rattle.layout.specs.Calls.Answers.{orElse, roomy, problemRefusal}
+use Rattle.layout.specs.Calls.Cut.{sizes}
+use Rattle.layout.specs.Calls.CutBetween.{atMost, limitsFailing, limitsSizes, limitsRefusal}
+use Rattle.layout.proofs.Columns.OtherSide.{covers}
+use Rattle.layout.proofs.Theorems.Between.{limits-in-order, limits-sizes}
+use Rattle.check_covered.specs.Covered.{sidesOn}
 use Rattle.side_numbers.specs.Order.{withAnother, limitsOrder}
 use Rattle.side_numbers.proofs.Laws.{only-side}
 

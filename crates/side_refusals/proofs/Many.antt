@@ -12,17 +12,18 @@ use lib.Seq.{take-all}
 use lib.Dec.{T, leb, eqb}
 use lib.Ieee.{Float}
 use borrow.Author.Tests.{le-leb, lt-leb}
-use Rattle.layout.specs.Lists.{all, upFrom, part}
-use Rattle.layout.specs.Problem.{Problem, compact}
+use Rattle.layout.specs.General.Lists.{all, upFrom, part}
+use Rattle.layout.specs.Problems.Problem.{Problem, compact}
 use Rattle.layout.specs.Checks.{layout, coveredRows, valuesOn, routeChecks, refusal, check, firstFailing}
-use Rattle.layout.specs.Answers.{orElse, roomy, problemRefusal, sizes}
-use Rattle.layout.proofs.Tests.{and-iff, leb-iff, lt-or-le}
-use Rattle.layout.specs.Sides.{side, withSide, firstSideChecks, sidesRefusal}
-use Rattle.layout.proofs.OtherSide.{covers}
-use Rattle.layout.proofs.Sides.{side-first, side-part, first-in-order, first-count, first-passed, sides-whole}
-use Rattle.checks.proofs.Order.{problem-then-route}
-use Rattle.covered_rows.specs.Covered.{sidesOn}
-use Rattle.covered_rows.proofs.Marks.{all-same}
+use Rattle.layout.specs.Calls.Answers.{orElse, roomy, problemRefusal}
+use Rattle.layout.specs.Calls.Cut.{sizes}
+use Rattle.layout.proofs.Lists.Tests.{and-iff, leb-iff, lt-or-le}
+use Rattle.layout.specs.Calls.CutMany.{side, withSide, firstSideChecks, sidesRefusal}
+use Rattle.layout.proofs.Columns.OtherSide.{covers}
+use Rattle.layout.proofs.Theorems.Sides.{side-first, side-part, first-in-order, first-count, first-passed, sides-whole}
+use Rattle.check_problem.proofs.Order.{problem-then-route}
+use Rattle.check_covered.specs.Covered.{sidesOn}
+use Rattle.check_covered.proofs.Marks.{all-same}
 use Rattle.chordal_info.specs.Sizes.{rowsFit}
 use Rattle.side_numbers.specs.Order.{sidesOrder}
 use Rattle.side_numbers.proofs.Laws.{told}

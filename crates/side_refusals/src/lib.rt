@@ -3,11 +3,11 @@ ghost use mathlib.Core.Path.{_≡_};
 ghost use mathlib.Core.Bool.{cond};
 ghost use Prim.Native.Nat.{_*_, _≤_, _<_};
 ghost use lib.ListN.{length, getD, set};
-ghost use Rattle.layout.specs.Lists.{written};
-ghost use Rattle.layout.specs.Problem.{problem, compact};
-ghost use Rattle.layout.specs.Answers.{roomy};
-ghost use Rattle.layout.specs.Between.{limitsRefusal};
-ghost use Rattle.layout.specs.Sides.{side, sidesRefusal};
+ghost use Rattle.layout.specs.General.Lists.{written};
+ghost use Rattle.layout.specs.Problems.Problem.{problem, compact};
+ghost use Rattle.layout.specs.Calls.Answers.{roomy};
+ghost use Rattle.layout.specs.Calls.CutBetween.{limitsRefusal};
+ghost use Rattle.layout.specs.Calls.CutMany.{side, sidesRefusal};
 ghost use Rattle.chordal_info.specs.Sizes.{entriesKept, routeSizes, Fitting};
 ghost use Rattle.side_numbers.specs.Order.{withAnother};
 ghost use Rattle.side_refusals.specs.Tables.{TablesFew};
@@ -94,7 +94,7 @@ pub fn refuse_between(
         let p = problem n m (now («p_starts» .entry)) (now («p_rows» .entry)) (now («p_values» .entry)) (now (q .entry)) (now («a_starts» .entry)) (now («a_rows» .entry)) (now («a_values» .entry)) (now (low .entry)) (now (cones .entry)) (now (alphas .entry)) count (now (words .entry)) in
         ⌜ r ≡ limitsRefusal p (now (low .entry)) (now (high .entry)) (withAnother «high_room» (now (rooms .entry))) ⌝ }
 {
-    let r = checks::check_problem(
+    let r = check_problem::check_problem(
         n,
         m,
         p_starts,
@@ -114,8 +114,8 @@ pub fn refuse_between(
     if t != 0 {
         return t;
     }
-    let d = parts::get_decomposed_dim_and_overlaps(m, cones, count, words);
-    let c = covered_rows::sides_right(m, cones, count, words, a_rows, low, high, 0, 1);
+    let d = walk_cones::get_decomposed_dim_and_overlaps(m, cones, count, words);
+    let c = check_covered::sides_right(m, cones, count, words, a_rows, low, high, 0, 1);
     let rows_refused = chordal_info::rows_refusal(route::COMPACT, m, d.rows, d.overlaps);
     let u = side_numbers::refuse_limits_rows(c, rows_refused);
     if u != 0 {
@@ -174,7 +174,7 @@ fn refuse_sides(
         let p = problem n m (now («p_starts» .entry)) (now («p_rows» .entry)) (now («p_values» .entry)) (now (q .entry)) (now («a_starts» .entry)) (now («a_rows» .entry)) (now («a_values» .entry)) (now (sides .entry)) (now (cones .entry)) (now (alphas .entry)) «pattern_count» (now (words .entry)) in
         ⌜ r ≡ sidesRefusal p count (now (sides .entry)) (now (rooms .entry)) ⌝ }
 {
-    let r = checks::check_problem(
+    let r = check_problem::check_problem(
         n,
         m,
         p_starts,
@@ -194,8 +194,8 @@ fn refuse_sides(
     if t != 0 {
         return t;
     }
-    let d = parts::get_decomposed_dim_and_overlaps(m, cones, pattern_count, words);
-    let c = covered_rows::sides_right(
+    let d = walk_cones::get_decomposed_dim_and_overlaps(m, cones, pattern_count, words);
+    let c = check_covered::sides_right(
         m,
         cones,
         pattern_count,

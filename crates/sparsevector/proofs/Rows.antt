@@ -5,13 +5,13 @@ use mathlib.Core.Path.{_≡_, refl, ap₂}
 use mathlib.Core.List.{List, [], _∷_, map}
 use lib.Ieee.{Float}
 use borrow.Author.Tests.{lt-ltb, le-ltb}
-use Rattle.layout.specs.Problem.{Problem, compact}
-use Rattle.layout.specs.Blocks.{Row, kept, owned, overlap, originalRow, compactRows}
+use Rattle.layout.specs.Problems.Problem.{Problem, compact}
+use Rattle.layout.specs.Rows.Blocks.{Row, kept, owned, overlap, originalRow, compactRows}
 use Rattle.layout.specs.Checks.{layout, refusal}
-use Rattle.layout.specs.Compact.{rowValue, compactB}
-use Rattle.layout.proofs.Members.{every-cons}
-use Rattle.codes.specs.Codes.{cutCode}
-use Rattle.codes.proofs.Rows.{Small, accepted-small}
+use Rattle.layout.specs.Cuts.Compact.{rowValue, compactB}
+use Rattle.layout.proofs.Lists.Members.{every-cons}
+use Rattle.rows_codes.specs.Codes.{cutCode}
+use Rattle.rows_codes.proofs.Rows.{Small, accepted-small}
 use Rattle.sparsevector.specs.Values.{codeValue}
 
 row-value : (b : List Float) (x : Row) → originalRow x < 65536 → codeValue b (cutCode x) ≡ rowValue b x

@@ -5,7 +5,7 @@ use mathlib.Core.List.{List}
 use lib.ListN.{getD}
 use lib.Dec.{ltb}
 use lib.Ieee.{Float, nan, eq}
-use Rattle.layout.specs.Problem.{zero64}
+use Rattle.layout.specs.General.Floats.{zero64}
 
 -- b's value in original row o, a zero of either sign becoming +0.0
 abbrev pub valueOn : List Float → ℕ → Float

@@ -3,10 +3,10 @@ ghost use mathlib.Core.Path.{_≡_};
 ghost use mathlib.Core.List.{map};
 ghost use Prim.Native.Nat.{_≤_};
 ghost use lib.ListN.{length};
-ghost use Rattle.layout.specs.Lists.{written};
-ghost use Rattle.codes.specs.Codes.{RowInside, RowsInside};
+ghost use Rattle.layout.specs.General.Lists.{written};
+ghost use Rattle.rows_codes.specs.Codes.{RowInside, RowsInside};
 ghost use Rattle.sparsevector.specs.Values.{codeValue};
-use codes::FIRST_OVERLAP;
+use rows_codes::FIRST_OVERLAP;
 
 // Returns the value of `b` at an augmented row with this `code`: +0.0 at an overlap; a zero of either sign becomes +0.0, and a NaN is kept.
 pub fn code_value(code: u32, b: &[f64]) -> f64

@@ -2,19 +2,18 @@
 ghost use mathlib.Core.Path.{_≡_};
 ghost use mathlib.Core.Bool.{true};
 ghost use lib.ListN.{drop};
-ghost use Rattle.layout.specs.Lists.{all};
-ghost use Rattle.layout.specs.Checks.{originsRise, patternsRead};
-ghost use Rattle.layout.specs.Patterns.{readPattern, readPatterns, patterns, endsRight};
+ghost use Rattle.layout.specs.General.Lists.{all};
+ghost use Rattle.layout.specs.Problems.Patterns.{readPattern, readPatterns, patterns, endsRight};
 ghost use Rattle.supernode_tree.specs.Reads.{isWhole, patternAt};
-ghost use Rattle.sparsity_pattern.specs.Sparsity.{patternRight};
+ghost use Rattle.sparsity_pattern.specs.Sparsity.{patternRight, originsRiseFrom, patternsReadFrom};
 use supernode_tree::Pattern;
 
-// Returns whether each pattern's `orig_index` is above the one before it.
-fn origins_rise(count: u32, words: &[u32]) -> bool
+// Returns whether each pattern's `orig_index` is above the one before it, and that of the first is not below `first`.
+fn origins_rise(first: u64, count: u32, words: &[u32]) -> bool
     requires { ⌜ endsRight (readPatterns count (now words)) ≡ true ⌝ }
-    ensures { λ r. ⌜ r ≡ originsRise (patterns count (now (words .entry))) ⌝ }
+    ensures { λ r. ⌜ r ≡ originsRiseFrom first (patterns count (now (words .entry))) ⌝ }
 {
-    let mut least: u64 = 0;
+    let mut least = first;
     let mut at = 0;
     let mut left = count;
     while 0 < left {
@@ -62,14 +61,14 @@ fn patterns_right(cones: &[u32], count: u32, words: &[u32]) -> bool
     true
 }
 
-// Returns whether check 5 passes. Words that end early are found before any of their counts is used.
-pub fn check_patterns(cones: &[u32], count: u32, words: &[u32]) -> bool
-    ensures { λ r. ⌜ r ≡ patternsRead (now (cones .entry)) count (now (words .entry)) ⌝ }
+// Returns whether check 5 passes and no pattern names a cone before `least`. Words that end early are found before any of their counts is used.
+pub fn check_patterns(cones: &[u32], least: u64, count: u32, words: &[u32]) -> bool
+    ensures { λ r. ⌜ r ≡ patternsReadFrom (now (cones .entry)) least count (now (words .entry)) ⌝ }
 {
     if !supernode_tree::patterns_end(count, words) {
         return false;
     }
-    if !origins_rise(count, words) {
+    if !origins_rise(least, count, words) {
         return false;
     }
     patterns_right(cones, count, words)

@@ -6,7 +6,7 @@ use lib.Dec.{T}
 use lib.Ieee.{nan, binary64, nanBits, ofBits}
 use lib.Ieee.Bits.{nanBits-is, nanBits-above}
 use borrow.Author.Tests.{lt-ltb, le-ltb}
-use Rattle.layout.proofs.Nans.{nan-is}
+use Rattle.layout.proofs.Floats.Nans.{nan-is}
 
 pub nan-pattern : (n : ℕ) → 0x7ff0_0000_0000_0000 < n % 0x8000_0000_0000_0000 → ofBits binary64 n ≡ nan
 nan-pattern n h = nan-is (ofBits binary64 n) (rw (← nanBits-is binary64 n, nanBits-above binary64 n, lt-ltb _ _ h) tt)

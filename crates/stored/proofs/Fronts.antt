@@ -8,8 +8,8 @@ use lib.ListN.{length, take, drop, getD, length-take}
 use lib.Dec.{leb}
 use lib.Seq.{getD-take, length-take-le, take-all}
 use borrow.Author.Tests.{leb-true, leb-false}
-use Rattle.layout.specs.Lists.{sameBy}
-use Rattle.layout.proofs.Walks.{same-lengths, same-step, same-miss, same-done}
+use Rattle.layout.specs.General.Lists.{sameBy}
+use Rattle.layout.proofs.Lists.Walks.{same-lengths, same-step, same-miss, same-done}
 
 module _ {A : Type 0} (alike : A → A → Bool) (out list : List A) where
   abbrev pub front : List A

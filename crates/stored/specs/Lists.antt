@@ -6,7 +6,7 @@ use lib.ListN.{length, getD}
 use lib.Dec.{leb}
 use lib.IntN.{pos, negsuc}
 use lib.Ieee.{Float, fin, binary64, ofInt, sub}
-use Rattle.layout.specs.Lists.{below, part}
+use Rattle.layout.specs.General.Lists.{below, part}
 
 -- the length of a case's buffer: room for the starts of the lists, and every index fits in a u32
 abbrev pub CaseRoom : ℕ → Type 0

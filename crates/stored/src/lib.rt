@@ -12,7 +12,7 @@ ghost use lib.ListN.{length, take, getD};
 ghost use lib.Dec.{eqb};
 ghost use lib.Ieee.{binary64, ofBits};
 ghost use Rattle.stored.specs.Lists.{listFrom, listEnd, listAt, wordsBefore, valuesBefore, CaseRoom};
-ghost use Rattle.layout.specs.Lists.{sameBy};
+ghost use Rattle.layout.specs.General.Lists.{sameBy};
 ghost use Rattle.stored.specs.Same.{alikeValues};
 use libc::STDOUT_FILENO;
 

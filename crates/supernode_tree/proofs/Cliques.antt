@@ -5,8 +5,8 @@ use mathlib.Core.Bool.{Bool, true, false, _&&_}
 use mathlib.Core.Path.{_≡_, refl, sym, ap, subst, _∙_}
 use mathlib.Core.List.{List, [], _∷_}
 use lib.ListN.{length, take, drop}
-use Rattle.layout.specs.Patterns.{Read, read, short, andThen, Head, readHead, withCliques, readClique, readCliques, readPattern, Clique, Pattern, noPattern, members, blockSize}
-use Rattle.layout.specs.Lists.{all}
+use Rattle.layout.specs.Problems.Patterns.{Read, read, short, andThen, Head, readHead, withCliques, readClique, readCliques, readPattern, Clique, Pattern, noPattern, members, blockSize}
+use Rattle.layout.specs.General.Lists.{all}
 use Rattle.layout.specs.Checks.{treeRight}
 use lib.Dec.{T}
 use Rattle.supernode_tree.specs.Reads.{isWhole, Whole, rest, ended, cliquesFrom, valueOr, cliqueOf, cliqueRead, CliqueInside, patternAt}
@@ -15,7 +15,7 @@ use Rattle.supernode_tree.specs.declared.CliqueRead.{CliqueRead}
 use Rattle.supernode_tree.specs.declared.CliqueRead.the-variants.{Clique as Found}
 use Rattle.supernode_tree.proofs.Words.{clique-found, part-part, length-part}
 use Rattle.supernode_tree.proofs.Many.{many-whole, many-rest, many-value, first-whole as some-whole}
-use Rattle.layout.proofs.Tests.{differ, and-cases}
+use Rattle.layout.proofs.Lists.Tests.{differ, and-cases}
 
 module _ (ws : List ℕ) (at k : ℕ) (r : CliqueRead) (e : cliqueRead ws r ≡ readClique (drop at ws)) (more : 0 < k) where
   pub whole-next : (q : CliqueAt) → r ≡ Found q → isWhole (readCliques k (drop at ws)) ≡ isWhole (readCliques (k - 1) (drop (q .next) ws))

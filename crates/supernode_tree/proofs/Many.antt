@@ -6,9 +6,9 @@ use mathlib.Core.Path.{_≡_, refl, sym, ap, _∙_}
 use mathlib.Core.List.{List, [], _∷_, _++_}
 use lib.ListN.{length, drop}
 use lib.Seq.{drop-at}
-use Rattle.layout.specs.Patterns.{Read, read, short, andThen, readMany, endsRight, wholly}
+use Rattle.layout.specs.Problems.Patterns.{Read, read, short, andThen, readMany, endsRight, wholly}
 use Rattle.supernode_tree.specs.Reads.{isWhole, valueOr, rest, ended}
-use Rattle.layout.proofs.Tests.{differ}
+use Rattle.layout.proofs.Lists.Tests.{differ}
 
 module _ {A : Type 0} where
   -- a complete read is its value and the words after it

@@ -9,8 +9,8 @@ use mathlib.Core.Path.{_≡_, sym, ap, _∙_}
 use mathlib.Core.List.{List, [], _∷_}
 use lib.ListN.{length, getD, drop, set}
 use lib.Seq.{getD-set-same, getD-set-other, getD-drop}
-use Rattle.layout.specs.Patterns.{Read, read, andThen, Clique, noClique, readClique, readCliques}
-use Rattle.layout.proofs.Tests.{lt-or-le}
+use Rattle.layout.specs.Problems.Patterns.{Read, read, andThen, Clique, noClique, readClique, readCliques}
+use Rattle.layout.proofs.Lists.Tests.{lt-or-le}
 use Rattle.supernode_tree.specs.Reads.{isWhole, Whole, rest, valueOr, cliquesFrom}
 use Rattle.supernode_tree.specs.Offsets.{OffsetsEvery}
 use Rattle.supernode_tree.proofs.Many.{whole-read, first-whole, many-value, front-whole, back-whole, back-rest, back-value}

@@ -5,9 +5,9 @@ use mathlib.Core.Bool.{Bool, true, false, _&&_}
 use mathlib.Core.Path.{_≡_, sym, ap, _∙_}
 use mathlib.Core.List.{List, [], _∷_}
 use lib.ListN.{drop}
-use Rattle.layout.specs.Lists.{all}
-use Rattle.layout.specs.Patterns.{Pattern, read, noPattern, readPattern, readPatterns, endsRight, patterns}
-use Rattle.layout.proofs.Tests.{and-cases}
+use Rattle.layout.specs.General.Lists.{all}
+use Rattle.layout.specs.Problems.Patterns.{Pattern, read, noPattern, readPattern, readPatterns, endsRight, patterns}
+use Rattle.layout.proofs.Lists.Tests.{and-cases}
 use Rattle.supernode_tree.specs.Reads.{isWhole, rest, valueOr, patternAt}
 use Rattle.supernode_tree.proofs.Many.{whole-read, ends-whole, ends-value, first-whole, many-whole, many-value}
 

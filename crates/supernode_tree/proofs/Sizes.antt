@@ -6,15 +6,15 @@ use mathlib.Core.Path.{_≡_, sym, ap, _∙_}
 use mathlib.Core.List.{List, [], _∷_, map}
 use lib.ListN.{length, length-append}
 use lib.Dec.{T, le→leb}
-use Rattle.layout.specs.Lists.{all, sum, below}
-use Rattle.layout.specs.Triangle.{triangle}
-use Rattle.layout.specs.Patterns.{Clique, Pattern, noClique, blockSize, members, cliqueAt, cliqueCount}
-use Rattle.layout.proofs.Tests.{and-iff, passed, passes}
-use Rattle.layout.proofs.Triangles.{triangle-mono}
-use Rattle.layout.proofs.Members.{all-at, has-below, length-below}
-use Rattle.layout.proofs.Distinct.{distinct-length}
+use Rattle.layout.specs.General.Lists.{all, sum, below}
+use Rattle.layout.specs.General.Triangle.{triangle}
+use Rattle.layout.specs.Problems.Patterns.{Clique, Pattern, noClique, blockSize, members, cliqueAt, cliqueCount}
+use Rattle.layout.proofs.Lists.Tests.{and-iff, passed, passes}
+use Rattle.layout.proofs.Numbers.Triangles.{triangle-mono}
+use Rattle.layout.proofs.Lists.Members.{all-at, has-below, length-below}
+use Rattle.layout.proofs.Lists.Distinct.{distinct-length}
 use Rattle.layout.specs.Checks.{RightPattern}
-use Rattle.layout.proofs.Cliques.{clique-distinct, clique-vertices}
+use Rattle.layout.proofs.Patterns.Cliques.{clique-distinct, clique-vertices}
 use Rattle.supernode_tree.specs.Sizes.{blockAtMost}
 
 pub triangle-small : (k : ℕ) → k ≤ 256 → triangle k ≤ 32896

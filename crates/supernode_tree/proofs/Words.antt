@@ -10,8 +10,8 @@ use lib.ListN.{length, getD, take, drop, length-drop}
 use lib.Seq.{drop-cons, drop-drop, take-add, length-take-le}
 use lib.Dec.{leb}
 use borrow.Author.Tests.{le-leb, lt-leb, leb-true, leb-false}
-use Rattle.layout.specs.Patterns.{Read, read, short, andThen, readHead, readMembers, readClique, endsRight}
-use Rattle.layout.proofs.Tests.{differ, lt-or-le}
+use Rattle.layout.specs.Problems.Patterns.{Read, read, short, andThen, readHead, readMembers, readClique, endsRight}
+use Rattle.layout.proofs.Lists.Tests.{differ, lt-or-le}
 use Rattle.supernode_tree.specs.Reads.{headOf, patternRead, cliqueOf, cliqueRead, isWhole}
 use Rattle.supernode_tree.specs.declared.Clique.{Clique as CliqueAt}
 use Rattle.supernode_tree.specs.declared.CliqueRead.{CliqueRead}

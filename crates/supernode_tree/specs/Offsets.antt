@@ -3,7 +3,7 @@ use Prim.Native.Nat.{ℕ, suc, _*_, _<_}
 use mathlib.Core.Path.{_≡_}
 use mathlib.Core.List.{List}
 use lib.ListN.{getD, drop}
-use Rattle.layout.specs.Patterns.{read, noClique, readClique, readCliques}
+use Rattle.layout.specs.Problems.Patterns.{read, noClique, readClique, readCliques}
 use Rattle.supernode_tree.specs.Reads.{rest, cliquesFrom}
 
 -- offset i is that of clique i · step, of k from `first` on: the words there are those after i · step cliques

@@ -4,8 +4,8 @@ use mathlib.Core.Path.{_≡_}
 use mathlib.Core.Bool.{Bool, true, false}
 use mathlib.Core.List.{List, []}
 use lib.ListN.{length, take, drop}
-use Rattle.layout.specs.Patterns as P
-use Rattle.layout.specs.Patterns.{Read, read, short, Head}
+use Rattle.layout.specs.Problems.Patterns as P
+use Rattle.layout.specs.Problems.Patterns.{Read, read, short, Head}
 use Rattle.supernode_tree.specs.declared.Clique.{Clique}
 use Rattle.supernode_tree.specs.declared.CliqueRead.{CliqueRead}
 use Rattle.supernode_tree.specs.declared.CliqueRead.the-variants.{Clique as Found, Short}

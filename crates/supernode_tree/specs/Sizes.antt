@@ -3,8 +3,8 @@ use Prim.Native.Nat.{ℕ}
 use mathlib.Core.Bool.{Bool}
 use lib.ListN.{length}
 use lib.Dec.{leb}
-use Rattle.layout.specs.Triangle.{triangle}
-use Rattle.layout.specs.Patterns.{Clique, blockSize}
+use Rattle.layout.specs.General.Triangle.{triangle}
+use Rattle.layout.specs.Problems.Patterns.{Clique, blockSize}
 
 -- a clique's block has at most n vertices
 abbrev pub blockAtMost : ℕ → Clique → Bool

@@ -4,11 +4,11 @@ use native.Mathlib.Omega.{arith}
 use mathlib.Core.Path.{_≡_}
 use mathlib.Core.Bool.{true, not, _&&_, _||_}
 use lib.Dec.{T, leb, leb→le}
-use Rattle.layout.specs.Cones.{Cone, rowCount, isPsd}
-use Rattle.layout.specs.Triangle.{triangle}
+use Rattle.layout.specs.Problems.Cones.{Cone, rowCount, isPsd}
+use Rattle.layout.specs.General.Triangle.{triangle}
 use Rattle.layout.specs.Checks.{sizesBounded}
-use Rattle.layout.proofs.Tests.{and-iff, passes}
-use Rattle.layout.proofs.Triangles.{triangle-mono}
+use Rattle.layout.proofs.Lists.Tests.{and-iff, passes}
+use Rattle.layout.proofs.Numbers.Triangles.{triangle-mono}
 use Rattle.supportedcone.specs.Cases.{coneRecord}
 
 module _ (c : Cone) (h : sizesBounded c ≡ true) where

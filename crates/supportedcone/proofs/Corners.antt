@@ -2,7 +2,7 @@
 use mathlib.Core.Path.{_≡_, refl}
 use mathlib.Core.Bool.{true, false}
 use mathlib.Core.List.{[], _∷_}
-use Rattle.layout.specs.Cones.{records}
+use Rattle.layout.specs.Problems.Cones.{records}
 use Rattle.layout.specs.Checks.{conesBounded, conesRead}
 use Rattle.supportedcone.specs.Ranges.{rowTotal}
 

@@ -8,9 +8,9 @@ use lib.ListN.{length, getD}
 use lib.Dec.{T, leb, eqb}
 use lib.Ieee.{Float}
 use borrow.Author.Tests.{ne-eqb, le-leb, lt-leb}
-use Rattle.layout.specs.Cones.{Cone, Kind, zeroCone, nonnegative, secondOrder, exponential, power, genPower, psdTriangle, noKind, kindOf, reads, alphaCount}
-use Rattle.layout.specs.Problem.{zero64}
-use Rattle.layout.proofs.Tests.{lt-or-le, and-right}
+use Rattle.layout.specs.General.Floats.{zero64}
+use Rattle.layout.specs.Problems.Cones.{Cone, Kind, zeroCone, nonnegative, secondOrder, exponential, power, genPower, psdTriangle, noKind, kindOf, reads, alphaCount}
+use Rattle.layout.proofs.Lists.Tests.{lt-or-le, and-right}
 use Rattle.supportedcone.specs.declared.SupportedCone.{SupportedCone}
 use Rattle.supportedcone.specs.declared.SupportedCone.the-variants.{ZeroConeT, NonnegativeConeT, SecondOrderConeT, ExponentialConeT, PowerConeT, GenPowerConeT, PSDTriangleConeT}
 use Rattle.supportedcone.specs.declared.ReadCone.{ReadCone}

@@ -8,12 +8,12 @@ use mathlib.Core.List.{List, [], _∷_}
 use lib.ListN.{length, getD, List·getD-eq-default}
 use lib.Dec.{T, leb, eqb, leb→le}
 use borrow.Author.Tests.{lt-ltb}
-use Rattle.layout.specs.Cones.{Cone, records, wholeRecords, reads, rowCount}
-use Rattle.layout.specs.Lists.{all}
+use Rattle.layout.specs.Problems.Cones.{Cone, records, wholeRecords, reads, rowCount}
+use Rattle.layout.specs.General.Lists.{all}
 use Rattle.layout.specs.Checks.{noCone, sizesBounded, conesBounded, conesRead}
-use Rattle.layout.proofs.Tests.{and-iff, lt-or-le, passed, passes, differ}
-use Rattle.layout.proofs.Members.{all-at}
-use Rattle.layout.proofs.Records.{record-count, record-at}
+use Rattle.layout.proofs.Lists.Tests.{and-iff, lt-or-le, passed, passes, differ}
+use Rattle.layout.proofs.Lists.Members.{all-at}
+use Rattle.layout.proofs.Patterns.Records.{record-count, record-at}
 use Rattle.supportedcone.specs.Cases.{coneRecord, recordAt}
 use Rattle.supportedcone.specs.Ranges.{rowTotal, isPsdOf}
 

@@ -6,8 +6,8 @@ use mathlib.Core.Path.{_≡_, sym, ap, _∙_}
 use mathlib.Core.List.{List, [], _∷_, map, map-append}
 use lib.ListN.{length, getD, take, drop, take-append-drop}
 use lib.Seq.{take-suc, take-all}
-use Rattle.layout.specs.Lists.{sum}
-use Rattle.layout.proofs.Starts.{sum-append}
+use Rattle.layout.specs.General.Lists.{sum}
+use Rattle.layout.proofs.Lists.Starts.{sum-append}
 
 module _ {A : Type 0} (f : A → ℕ) where
   pub total-more : (xs : List A) (i : ℕ) (d : A) → i < length xs → sum (map f (take (i + 1) xs)) ≡ sum (map f (take i xs)) + f (getD xs i d)

@@ -5,9 +5,9 @@ use mathlib.Core.List.{List, [], _∷_}
 use lib.ListN.{length, getD}
 use lib.Dec.{eqb, leb}
 use lib.Ieee.{Float}
-use Rattle.layout.specs.Cones.{Cone, records, reads, alphaCount}
+use Rattle.layout.specs.General.Floats.{zero64}
+use Rattle.layout.specs.Problems.Cones.{Cone, records, reads, alphaCount}
 use Rattle.layout.specs.Checks.{noCone}
-use Rattle.layout.specs.Problem.{zero64}
 use Rattle.supportedcone.specs.declared.SupportedCone.{SupportedCone}
 use Rattle.supportedcone.specs.declared.SupportedCone.the-variants.{ZeroConeT, NonnegativeConeT, SecondOrderConeT, ExponentialConeT, PowerConeT, GenPowerConeT, PSDTriangleConeT}
 use Rattle.supportedcone.specs.declared.ReadCone.{ReadCone}

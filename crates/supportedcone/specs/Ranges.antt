@@ -4,8 +4,8 @@ use mathlib.Core.Bool.{Bool, _&&_}
 use mathlib.Core.List.{List, map}
 use lib.ListN.{length}
 use lib.Dec.{eqb, ltb}
-use Rattle.layout.specs.Cones.{Cone, records, rowCount, isPsd}
-use Rattle.layout.specs.Lists.{sum}
+use Rattle.layout.specs.Problems.Cones.{Cone, records, rowCount, isPsd}
+use Rattle.layout.specs.General.Lists.{sum}
 use Rattle.supportedcone.specs.Cases.{recordAt}
 
 -- the number of rows of all cones together

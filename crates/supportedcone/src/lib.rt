@@ -2,10 +2,10 @@
 ghost use mathlib.Core.Path.{_≡_};
 ghost use mathlib.Core.Bool.{true, cond};
 ghost use lib.ListN.{length};
-ghost use Rattle.layout.specs.Lists.{all};
-ghost use Rattle.layout.specs.Cones.{records, reads, rowCount, alphaCount};
+ghost use Rattle.layout.specs.General.Lists.{all};
+ghost use Rattle.layout.specs.Problems.Cones.{records, reads, rowCount, alphaCount};
 ghost use Rattle.layout.specs.Checks.{sizesBounded, conesBounded, conesRead, alphasAsMany};
-ghost use Rattle.layout.specs.FileWords.{unvalued};
+ghost use Rattle.layout.specs.Files.FileWords.{unvalued};
 ghost use Rattle.supportedcone.specs.Cases.{coneRecord, recordOf, told, readsAs, readsWith, recordAt};
 ghost use Rattle.supportedcone.specs.Ranges.{isPsdOf};
 use constants::limit;

@@ -40,7 +40,7 @@ fn add_words(sum: u64, table: &[u32], n: u32) -> u64 {
     let mut s = sum;
     let mut i = 0;
     while i < n {
-        s = draws::draw(s ^ item(table, i as usize) as u64);
+        s = generator_draws::draw(s ^ item(table, i as usize) as u64);
         i += 1;
     }
     s
@@ -51,7 +51,7 @@ fn add_values(sum: u64, table: &[f64], n: u32) -> u64 {
     let mut s = sum;
     let mut i = 0;
     while i < n {
-        s = draws::draw(s ^ bits(value(table, i as usize)));
+        s = generator_draws::draw(s ^ bits(value(table, i as usize)));
         i += 1;
     }
     s

@@ -1,6 +1,6 @@
 -- Consecutive numbers written at the indices that a list gives: for a duplicate-free list the number at index w is the position of w
 -- in the list, so a permutation gives its inverse.
-use Prim.Native.Nat.{ℕ, suc, _+_, _≤_, _<_, zero-le, suc-le-suc}
+use Prim.Native.Nat.{ℕ, suc, _+_, _≤_, _<_}
 use native.Mathlib.Numerals.{add-one}
 use native.Mathlib.Omega.{arith}
 use mathlib.Core.Path.{_≡_, refl, sym, ap, subst, _∙_}
@@ -10,15 +10,13 @@ use mathlib.Core.List.{List, [], _∷_}
 use lib.ListN.{length, getD, drop, set, length-set, length-map, drop-of-length-le}
 use lib.Seq.{drop-cons, getD-set-same, getD-set-other, ext-getD}
 use lib.Dec.{T, eqb}
-use borrow.Author.Tests.{eqb-true, eqb-false, le-leb, lt-leb}
-use Rattle.layout.specs.Lists.{has, distinct, below, written, Below}
-use Rattle.layout.specs.Patterns.{placeOf}
-use Rattle.layout.specs.Checks.{isPermutation}
-use Rattle.layout.specs.Answers.{inverse, inverseRefusal}
-use Rattle.layout.proofs.Tests.{lt-or-le}
-use Rattle.layout.proofs.Members.{has-cons, has-at, has-getD, has-below, length-below, getD-below, getD-map}
-use Rattle.layout.proofs.Distinct.{distinct-cons, distinct-length, permutation-distinct, permutation-has}
-use Rattle.layout.proofs.Starts.{length-written, written-front, written-rest}
+use borrow.Author.Tests.{eqb-true, eqb-false}
+use Rattle.layout.specs.General.Lists.{has, distinct, below, written, Below, placeOf, isPermutation}
+use Rattle.layout.specs.Calls.Inverse.{inverse}
+use Rattle.layout.proofs.Lists.Tests.{lt-or-le}
+use Rattle.layout.proofs.Lists.Members.{place-found, has-cons, has-at, has-getD, has-below, length-below, getD-below, getD-map}
+use Rattle.layout.proofs.Lists.Distinct.{distinct-cons, distinct-length, permutation-distinct, permutation-has}
+use Rattle.layout.proofs.Lists.Starts.{length-written, written-front, written-rest}
 use Rattle.utils.specs.Scattered.{scattered}
 
 -- ---- positions
@@ -26,16 +24,6 @@ use Rattle.utils.specs.Scattered.{scattered}
 -- a member of a list that differs from the first is a member of the rest
 has-rest : (w x : ℕ) (xs : List ℕ) → (w ≡ x → ⊥) → T (has w (x ∷ xs)) → T (has w xs)
 has-rest w x xs n h = elim (has-cons w x xs .0 h) [ inl e ↦ absurd (n e) | inr k ↦ k ]
-
--- a member of a list is at its position
-pub place-at : (w : ℕ) (xs : List ℕ) (d : ℕ) → T (has w xs) → (placeOf w xs < length xs) × (getD xs (placeOf w xs) d ≡ w)
-place-at w [] d h = absurd h
-place-at w (x ∷ xs) d h = go (eqb w x) refl (λ k. place-at w xs d k)
-  where
-    go : (b : Bool) → eqb w x ≡ b → (T (has w xs) → (placeOf w xs < length xs) × (getD xs (placeOf w xs) d ≡ w))
-        → (cond b 0 (suc (placeOf w xs)) < suc (length xs)) × (getD (x ∷ xs) (cond b 0 (suc (placeOf w xs))) d ≡ w)
-    go true e rest = (suc-le-suc zero-le, sym (eqb-true w x e))
-    go false e rest = let (l, q) = rest (has-rest w x xs (eqb-false w x e) h) in (suc-le-suc l, q)
 
 -- ---- one number at a time
 
@@ -90,7 +78,7 @@ inverse-at xs w h =
 
 -- the number at the position of w in a permutation is w
 pub inverse-back : (xs : List ℕ) (w : ℕ) → T (isPermutation xs) → w < length xs → getD xs (getD (inverse xs) w 0) 0 ≡ w
-inverse-back xs w p h = rw (inverse-at xs w h) (place-at w xs 0 (permutation-has xs p w .1 h) .1)
+inverse-back xs w p h = rw (inverse-at xs w h) (place-found w xs 0 (permutation-has xs p w .1 h) .1)
 
 pub scattered-inverse : (xs old : List ℕ) → T (isPermutation xs) → length xs ≤ length old → scattered 0 xs old ≡ written (inverse xs) old
 scattered-inverse xs old p room = ext-getD 0 (scattered 0 xs old) (written (inverse xs) old) same each
@@ -117,14 +105,3 @@ distinct-below n xs once b = omega (arith, distinct-length xs (below n) once ins
   where
     inside : (x : ℕ) → T (has x xs) → T (has x (below n))
     inside x h = let (i, l, e) = has-at 0 x xs .0 h in has-below x n .1 (omega (arith, b i l))
-
--- ---- refusals, in order
-
-pub refused-order : (xs : List ℕ) (room : ℕ) → isPermutation xs ≡ false → inverseRefusal xs room ≡ 5
-refused-order xs room e = rw e
-
-pub refused-room : (xs : List ℕ) (room : ℕ) → isPermutation xs ≡ true → room < length xs → inverseRefusal xs room ≡ 11
-refused-room xs room e l = rw (e, lt-leb (length xs) room l)
-
-pub accepted : (xs : List ℕ) (room : ℕ) → isPermutation xs ≡ true → length xs ≤ room → inverseRefusal xs room ≡ 0
-accepted xs room e l = rw (e, le-leb (length xs) room l)

@@ -10,12 +10,12 @@ use lib.ListN.{length, getD, take, drop, set, replicate, length-set}
 use lib.Seq.{take-suc, getD-set-same, getD-set-other, split-at}
 use lib.Dec.{T, eqb, ltb, ltb→lt, lt→ltb}
 use borrow.Author.Tests.{le-leb, lt-leb, lt-ltb, le-ltb, eq-eqb, ne-eqb, eqb-true, eqb-false}
-use Rattle.layout.specs.Lists.{has, all, keep, distinct}
-use Rattle.layout.proofs.Tests.{and-iff, tested, lt-or-le, passed, failed, passes, fails}
-use Rattle.layout.proofs.Members.{has-keep, has-cons, all-has}
-use Rattle.layout.proofs.Rising.{keep-none}
-use Rattle.layout.proofs.Distinct.{distinct-cons, distinct-append, distinct-keep}
-use Rattle.layout.proofs.Keeps.{keep-append}
+use Rattle.layout.specs.General.Lists.{has, all, keep, distinct}
+use Rattle.layout.proofs.Lists.Tests.{and-iff, tested, lt-or-le, passed, failed, passes, fails}
+use Rattle.layout.proofs.Lists.Members.{has-keep, has-cons, all-has}
+use Rattle.layout.proofs.Lists.Rising.{keep-none}
+use Rattle.layout.proofs.Lists.Distinct.{distinct-cons, distinct-append, distinct-keep}
+use Rattle.layout.proofs.Lists.Keeps.{keep-append}
 use Rattle.utils.specs.Windows.{within, Marked}
 
 pub keep-all : (p : ℕ → Bool) (xs : List ℕ) → T (all p xs) → keep p xs ≡ xs
@@ -60,11 +60,11 @@ has-more y (z ∷ l) x = pick (eqb y z) (has-more y l x)
     pick true e = refl
     pick false e = e
 
-or-false : (a b : Bool) → b ≡ false → (a || b) ≡ a
+pub or-false : (a b : Bool) → b ≡ false → (a || b) ≡ a
 or-false true b e = refl
 or-false false b e = e
 
-or-true : (a b : Bool) → b ≡ true → (a || b) ≡ true
+pub or-true : (a b : Bool) → b ≡ true → (a || b) ≡ true
 or-true true b e = refl
 or-true false b e = e
 

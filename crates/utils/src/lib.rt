@@ -4,10 +4,8 @@ ghost use Prim.Native.Nat.{_≤_, _<_};
 ghost use mathlib.Core.Bool.{true, false, cond};
 ghost use lib.ListN.{length, replicate};
 ghost use lib.Dec.{ltb};
-ghost use Rattle.layout.specs.Lists.{all, Below};
-ghost use Rattle.layout.specs.Checks.{isPermutation};
-ghost use Rattle.layout.specs.Answers.{roomy};
-ghost use Rattle.layout.specs.Calls.Inverse.{Inverse};
+ghost use Rattle.layout.specs.General.Lists.{all, Below, isPermutation};
+ghost use Rattle.layout.specs.Calls.Answers.{roomy};
 ghost use Rattle.utils.specs.Windows.{MarksMore};
 ghost use Rattle.utils.specs.Scattered.{scattered};
 use constants::refusal;
@@ -49,18 +47,19 @@ pub fn mark(words: &[u32], low: usize, marks: &mut [bool]) -> bool
     true
 }
 
-// Checks that every number of `words` is below `n`.
+// Checks that every number of `words` is below `n`. The walk goes on after one that is not, so that the compiler tests several at a time.
 pub fn all_below(words: &[u32], n: usize) -> bool
     ensures { λ r. ⌜ r ≡ all (λ x. ltb x n) (now (words .entry)) ⌝ }
 {
+    let mut holds = true;
     let mut i = 0;
     while i < words.len() {
         if n <= words[i] as usize {
-            return false;
+            holds = false;
         }
         i += 1;
     }
-    true
+    holds
 }
 
 // Checks that each number below the length occurs in `words` exactly once, in windows of `marks.len()` numbers. `marks` is overwritten;
@@ -133,19 +132,30 @@ pub fn scatter(words: &[u32], out: &mut [u32])
     }
 }
 
-// Writes the inverse of the permutation `p` (the index of each number in `p`) to the front of `out`. Returns 5 if `p` is no permutation
-// of the numbers below its length, 11 if `out` is too short, and 0 otherwise.
-pub fn inverse(p: &[u32], out: &mut [u32]) -> u32
-    ensures { λ r. ⌜ Inverse (now (p .entry)) (now (out .entry)) (now (out .exit)) r ⌝ }
+// The number at an index of a table to which none has been written: every index of a list is smaller.
+pub const UNPLACED: u32 = constants::NONE;
+
+// Writes `k` at index `words[k]` of `table`, for k = 0, 1, .. in order, up to the first number that is not below `words.len()` or is a
+// repeat. Returns false if there is such a number, and true otherwise: then the inverse of `words` is at the front of `table`.
+pub fn invperm(words: &[u32], table: &mut [u32]) -> bool
+    requires { ⌜ now table ≡ replicate (length (now table)) 4294967295 ⌝ }
+    requires { ⌜ (length (now words) ≤ length (now table)) × (length (now words) ≤ 4294967295) ⌝ }
+    ensures { λ r. ⌜ r ≡ isPermutation (now (words .entry)) ⌝ }
+    ensures { λ r. ⌜ (r ≡ true → now (table .exit) ≡ scattered 0 (now (words .entry)) (now (table .entry))) ⌝ }
 {
-    if !is_permutation(p) {
-        return refusal::PATTERNS;
+    let mut k = 0;
+    while k < words.len() {
+        let w = words[k] as usize;
+        if words.len() <= w {
+            return false;
+        }
+        if table[w] != UNPLACED {
+            return false;
+        }
+        table[w] = k as u32;
+        k += 1;
     }
-    if out.len() < p.len() {
-        return refusal::SHORT;
-    }
-    scatter(p, out);
-    refusal::DONE
+    true
 }
 
 // ---- check 11

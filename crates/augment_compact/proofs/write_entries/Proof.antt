@@ -4,10 +4,11 @@ use native.Mathlib.Omega.{arith}
 use mathlib.Core.Path.{_≡_, refl, sym, subst, _∙_}
 use mathlib.Core.List.{List}
 use lib.ListN.{length, getD}
-use Rattle.layout.specs.Problem.{Csc, one64, minusOne64}
-use Rattle.layout.specs.Compact.{Entry, csc}
-use Rattle.layout.specs.Runs.{sums, runCount}
-use Rattle.layout.proofs.Columns.{RightStarts, starts-right}
+use Rattle.layout.specs.General.Floats.{one64, minusOne64}
+use Rattle.layout.specs.Problems.Problem.{Csc}
+use Rattle.layout.specs.Cuts.Compact.{Entry, csc}
+use Rattle.layout.specs.Cuts.Runs.{sums, runCount}
+use Rattle.layout.proofs.Columns.Columns.{RightStarts, starts-right}
 use Rattle.csc.specs.Matrix.{matrix}
 use Rattle.augment_standard.proofs.Columns.{length-pairs}
 use Rattle.augment_compact.proofs.Columns.{columns-start}

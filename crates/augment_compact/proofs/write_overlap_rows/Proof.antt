@@ -7,8 +7,8 @@ use lib.ListN.{length, getD, take, length-set, length-append}
 use lib.Seq.{take-all}
 use borrow.Author.Tests.{lt-ltb, le-ltb}
 use borrow.Author.Needs.{needs}
-use Rattle.layout.specs.Lists.{written}
-use Rattle.layout.proofs.Buffers.{two-more}
+use Rattle.layout.specs.General.Lists.{written}
+use Rattle.layout.proofs.Lists.Buffers.{two-more}
 use Rattle.augment_compact.proofs.Steps.{tied-more, tied-le}
 use Rattle.augment_compact.specs.Cut.{tie, tiedRows}
 use Rattle.augment_compact.proofs.write_overlap_rows.Statement.{statement}

@@ -1,7 +1,7 @@
 use lib.Ieee.{ofBits, neg}
 use borrow.Author.Needs.{needs}
-use Rattle.layout.specs.Problem.{one64, minusOne64}
-use Rattle.layout.proofs.Buffers.{written-after}
+use Rattle.layout.specs.General.Floats.{one64, minusOne64}
+use Rattle.layout.proofs.Lists.Buffers.{written-after}
 use Rattle.augment_standard.specs.Beside.{pairValues}
 use Rattle.augment_compact.specs.Cut.{tiedRows}
 use Rattle.augment_compact.proofs.write_overlaps.Statement.{statement}

@@ -1,8 +1,7 @@
-use Prim.Native.Nat.{ℕ, _≤_}
 use mathlib.Core.Path.{sym, _∙_}
 use lib.ListN.{length}
-use Rattle.layout.specs.Runs.{runStarts, runCount}
-use Rattle.layout.proofs.Buffers.{written-after, length-tail}
+use Rattle.layout.specs.Cuts.Runs.{runStarts, runCount}
+use Rattle.layout.proofs.Lists.Buffers.{written-after, length-tail}
 use Rattle.csc.specs.Matrix.{table}
 use Rattle.csc.proofs.Runs.{count-few, length-run-starts}
 use Rattle.augment_standard.specs.Beside.{hStarts}

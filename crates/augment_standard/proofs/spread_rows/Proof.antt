@@ -4,7 +4,7 @@ use mathlib.Core.Path.{_≡_, ap, _∙_}
 use mathlib.Core.List.{List}
 use borrow.Author.Needs.{needs}
 use lib.ListN.{length, take, drop, length-set}
-use Rattle.layout.specs.Lists.{written}
+use Rattle.layout.specs.General.Lists.{written}
 use Rattle.augment_standard.specs.Beside.{hRows}
 use Rattle.augment_standard.proofs.Columns.{spread-more, spread-done}
 use Rattle.augment_standard.proofs.spread_rows.Statement.{statement}

@@ -3,8 +3,8 @@ use native.Mathlib.Omega.{arith}
 use mathlib.Core.Path.{_≡_, sym}
 use borrow.Author.Needs.{needs}
 use lib.ListN.{length, length-set}
-use Rattle.layout.specs.Lists.{written}
-use Rattle.layout.proofs.Buffers.{set-written}
+use Rattle.layout.specs.General.Lists.{written}
+use Rattle.layout.proofs.Lists.Buffers.{set-written}
 use Rattle.augment_standard.specs.Beside.{hStarts}
 use Rattle.augment_standard.proofs.Columns.{length-hStarts, starts-more}
 use Rattle.augment_standard.proofs.write_h_starts.Statement.{statement}

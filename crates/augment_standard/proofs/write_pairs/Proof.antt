@@ -3,12 +3,12 @@ use native.Mathlib.Omega.{arith}
 use mathlib.Core.Path.{_≡_}
 use borrow.Author.Needs.{needs}
 use lib.ListN.{length, length-set}
-use Rattle.layout.specs.Lists.{written}
+use Rattle.layout.specs.General.Lists.{written}
 use Rattle.augment_standard.specs.Beside.{pairValues}
 use Rattle.augment_standard.proofs.Columns.{length-pairs, pairs-more}
 use Rattle.augment_standard.proofs.write_pairs.Statement.{statement}
 use Rattle.augment_standard.proofs.write_pairs.Tie as tie
-use Rattle.layout.proofs.Buffers.{two-more}
+use Rattle.layout.proofs.Lists.Buffers.{two-more}
 
 abbrev Inv-loop : tie.InvT-loop
 Inv-loop out₀ k first second t₀ i₀ out t i = (i ≤ k) × (t ≡ 2 * i) × (length out ≡ length out₀) × (out ≡ written (pairValues first second i) out₀)

@@ -1,6 +1,6 @@
 use native.Mathlib.Omega.{arith}
 use borrow.Author.Needs.{needs}
-use Rattle.layout.proofs.Buffers.{written-after}
+use Rattle.layout.proofs.Lists.Buffers.{written-after}
 use Rattle.augment_standard.specs.Beside.{hStarts}
 use Rattle.augment_standard.proofs.Columns.{length-hStarts}
 use Rattle.augment_standard.proofs.write_starts.Statement.{statement}

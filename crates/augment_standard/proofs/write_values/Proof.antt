@@ -1,10 +1,10 @@
 use native.Mathlib.Omega.{arith}
 use borrow.Author.Needs.{needs}
 use lib.Ieee.{ofBits, neg}
-use Rattle.layout.specs.Problem.{one64, minusOne64}
+use Rattle.layout.specs.General.Floats.{one64, minusOne64}
 use Rattle.augment_standard.specs.Beside.{pairValues}
 use Rattle.augment_standard.proofs.Columns.{length-pairs}
-use Rattle.layout.proofs.Buffers.{written-after}
+use Rattle.layout.proofs.Lists.Buffers.{written-after}
 use Rattle.augment_standard.proofs.write_values.Statement.{statement}
 use Rattle.augment_standard.proofs.write_values.Tie as tie
 use lib.ListN.{length}

@@ -3,12 +3,13 @@ use native.Mathlib.Omega.{arith}
 use mathlib.Core.Path.{_≡_, sym, ap, subst, _∙_}
 use mathlib.Core.List.{List, [], _∷_, _++_}
 use lib.ListN.{length, take, replicate}
-use Rattle.layout.specs.Lists.{written}
-use Rattle.layout.specs.Problem.{Solution, solution, zero64}
-use Rattle.layout.specs.Answers.{joinedParts}
-use Rattle.layout.specs.ChangeRoute.{changeRefusal}
+use Rattle.layout.specs.General.Lists.{written}
+use Rattle.layout.specs.General.Floats.{zero64}
+use Rattle.layout.specs.Problems.Problem.{Solution, solution}
+use Rattle.layout.specs.Calls.Join.{joinedParts}
+use Rattle.layout.specs.Calls.ChangeRoute.{changeRefusal}
 use Rattle.layout.proofs.Promises.{rejoined-kept}
-use Rattle.checks.specs.Order.{joinedRefusal}
+use Rattle.check_problem.specs.Order.{joinedRefusal}
 use Rattle.chordal_info.specs.Routes.{Counted}
 use Rattle.chordal_info.proofs.Counts.{overlaps-few}
 use Rattle.change_route.proofs.Order.{columns-few, refused-early, refused-late, Accepted, change-accepted}

@@ -4,11 +4,11 @@ use mathlib.Core.Path.{_≡_, sym, _∙_}
 use mathlib.Core.Bool.{Bool, true}
 use mathlib.Core.List.{[], _∷_}
 use borrow.Author.Tests.{not-true, not-false}
-use Rattle.layout.specs.Problem.{standard, compact}
-use Rattle.layout.specs.Answers.{roomy}
-use Rattle.layout.proofs.Tests.{and-iff, leb-iff, passes}
+use Rattle.layout.specs.Problems.Problem.{standard, compact}
+use Rattle.layout.specs.Calls.Answers.{roomy}
+use Rattle.layout.proofs.Lists.Tests.{and-iff, leb-iff, passes}
 use Rattle.chordal_info.specs.Sizes.{rowsFit}
-use Rattle.decomp_reverse.specs.Fits.{lengthsFit}
+use Rattle.join_on_route.specs.Fits.{lengthsFit}
 use Rattle.change_route.specs.Counted.{countedRefusal}
 use Rattle.change_route.proofs.Order.{in-order}
 use Rattle.change_route.proofs.refuse_counted.Statement.{statement}

@@ -2,11 +2,11 @@ use mathlib.Core.Path.{_≡_, sym, _∙_}
 use mathlib.Core.Bool.{Bool}
 use mathlib.Core.List.{List}
 use borrow.Author.Tests.{not-true, not-false}
-use Rattle.layout.specs.Cones.{records}
-use Rattle.layout.specs.Patterns.{patterns}
-use Rattle.layout.specs.Blocks.{Part, parts}
+use Rattle.layout.specs.Problems.Cones.{records}
+use Rattle.layout.specs.Problems.Patterns.{patterns}
+use Rattle.layout.specs.Rows.Blocks.{Part, parts}
 use Rattle.layout.specs.Checks.{check10}
-use Rattle.layout.specs.Answers.{routeOf}
+use Rattle.layout.specs.Calls.Answers.{routeOf}
 use Rattle.chordal_info.specs.Routes.{entriesCheck}
 use Rattle.chordal_info.proofs.Routes.{entries-fail, entries-pass, entries-standard, entries-compact, counted-rows}
 use borrow.Author.Needs.{needs}

@@ -2,8 +2,8 @@ use Prim.Native.Nat.{ℕ}
 use native.Mathlib.Omega.{arith}
 use mathlib.Core.Path.{sym, ap, _∙_}
 use borrow.Author.Needs.{needs}
-use Rattle.layout.specs.Problem.{Route}
-use Rattle.layout.proofs.Routes.{route-standard, route-compact}
+use Rattle.layout.specs.Problems.Problem.{Route}
+use Rattle.layout.proofs.Checks.Routes.{route-standard, route-compact}
 use Rattle.csc.proofs.Runs.{count-few}
 use Rattle.chordal_info.specs.Sizes.{entriesKept}
 use Rattle.chordal_info.proofs.count_entries.Statement.{statement}

@@ -1,8 +1,8 @@
 use mathlib.Core.Path.{sym, ap, _∙_}
 use borrow.Author.Tests.{le-leb}
-use Rattle.layout.specs.Problem.{Route}
-use Rattle.layout.specs.Answers.{routeOf}
-use Rattle.layout.proofs.Routes.{route-standard, route-compact}
+use Rattle.layout.specs.Problems.Problem.{Route}
+use Rattle.layout.specs.Calls.Answers.{routeOf}
+use Rattle.layout.proofs.Checks.Routes.{route-standard, route-compact}
 use Rattle.chordal_info.specs.Sizes.{rowsFit}
 use Rattle.chordal_info.proofs.Sizes.{rows-many}
 use borrow.Author.Needs.{needs}

@@ -3,11 +3,11 @@ use mathlib.Core.Path.{_≡_, ap, subst, _∙_}
 use mathlib.Core.Logic.{⊎-elim}
 use mathlib.Core.List.{List}
 use lib.Dec.{T}
-use Rattle.layout.specs.Lists.{written}
-use Rattle.layout.specs.Problem.{Route}
-use Rattle.layout.specs.Answers.{routeOf}
-use Rattle.layout.proofs.Tests.{leb-iff}
-use Rattle.layout.proofs.Routes.{route-standard, route-compact}
+use Rattle.layout.specs.General.Lists.{written}
+use Rattle.layout.specs.Problems.Problem.{Route}
+use Rattle.layout.specs.Calls.Answers.{routeOf}
+use Rattle.layout.proofs.Lists.Tests.{leb-iff}
+use Rattle.layout.proofs.Checks.Routes.{route-standard, route-compact}
 use Rattle.chordal_info.specs.Sizes.{rowsFit, outputLengths, routeSizes}
 use Rattle.chordal_info.proofs.Sizes.{rows-few, lengths-standard, lengths-compact, lengths-listed}
 use native.Mathlib.Omega.{arith}

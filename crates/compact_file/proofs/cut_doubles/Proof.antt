@@ -3,9 +3,9 @@ use native.Mathlib.Omega.{arith}
 use mathlib.Core.Path.{ap, sym, subst, _∙_}
 use mathlib.Core.List.{List}
 use lib.ListN.{length}
-use Rattle.layout.specs.Lists.{written}
-use Rattle.layout.specs.File.{problemOf}
-use Rattle.layout.specs.FileWords.{wordTables}
+use Rattle.layout.specs.General.Lists.{written}
+use Rattle.layout.specs.Files.File.{problemOf}
+use Rattle.layout.specs.Files.FileWords.{wordTables}
 use Rattle.compact_file.proofs.Laws.{sized-number, sized-end, sized-writes, tables-refused, tables-long, tables-passed}
 use borrow.Author.Needs.{needs}
 use Rattle.compact_file.proofs.cut_doubles.Statement.{statement}

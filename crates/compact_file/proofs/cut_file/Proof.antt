@@ -4,8 +4,8 @@ use mathlib.Core.Path.{ap, sym, subst, _∙_}
 use mathlib.Core.List.{List}
 use lib.ListN.{length}
 use lib.Seq.{length-take-le}
-use Rattle.layout.specs.File.{refusedText}
-use Rattle.layout.specs.FileWords.{wordShapeFailing}
+use Rattle.layout.specs.Files.File.{refusedText}
+use Rattle.layout.specs.Files.FileWords.{wordShapeFailing}
 use Rattle.compact_file.specs.Program.{Small, wordsOutput}
 use Rattle.compact_file.proofs.Laws.{words-taken, small-words, program-words, program-long, none-written, all-written}
 use borrow.Author.Needs.{needs}

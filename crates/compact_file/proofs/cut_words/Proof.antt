@@ -3,7 +3,7 @@ use mathlib.Core.List.{List}
 use Prim.Native.Nat.{ℕ}
 use native.Mathlib.Omega.{arith}
 use lib.ListN.{length}
-use Rattle.layout.specs.Lists.{written}
+use Rattle.layout.specs.General.Lists.{written}
 use Rattle.file_shape.proofs.Parts.{stands}
 use Rattle.compact_file.proofs.Laws.{words-refused, words-passed}
 use borrow.Author.Needs.{needs}

@@ -1,7 +1,7 @@
 use native.Mathlib.Omega.{arith}
 use mathlib.Core.Path.{refl}
 use lib.ListN.{length, replicate, length-replicate}
-use Rattle.layout.proofs.Buffers.{written-after}
+use Rattle.layout.proofs.Lists.Buffers.{written-after}
 use borrow.Author.Needs.{needs}
 use Rattle.compact_tables.proofs.extend_numbers.Statement.{statement}
 use Rattle.compact_tables.proofs.extend_numbers.Tie as tie

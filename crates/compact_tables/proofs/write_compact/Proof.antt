@@ -5,9 +5,9 @@ use mathlib.Core.List.{List}
 use lib.ListN.{length, replicate, length-map, length-replicate}
 use lib.Seq.{length-take-le}
 use lib.Ieee.{binary64, toBits}
-use Rattle.layout.specs.Lists.{written}
-use Rattle.layout.specs.File.{fileOf}
-use Rattle.layout.specs.FileWords.{wordTables}
+use Rattle.layout.specs.General.Lists.{written}
+use Rattle.layout.specs.Files.File.{fileOf}
+use Rattle.layout.specs.Files.FileWords.{wordTables}
 use Rattle.compact_tables.specs.Writers.{extendedTables}
 use Rattle.compact_tables.proofs.Extended.{extends-as}
 use Rattle.compact_tables.proofs.Fronts.{front-bits}

@@ -3,10 +3,10 @@ use native.Mathlib.Omega.{arith}
 use mathlib.Core.Path.{ap, ap₂, sym, _∙_}
 use lib.ListN.{length-replicate}
 use lib.Seq.{length-take-le}
-use Rattle.layout.specs.Lists.{written}
-use Rattle.layout.specs.Problem.{zero64}
-use Rattle.layout.specs.File.{BitTables, fileOf}
-use Rattle.layout.specs.FileWords.{wordTables}
+use Rattle.layout.specs.General.Lists.{written}
+use Rattle.layout.specs.General.Floats.{zero64}
+use Rattle.layout.specs.Files.File.{BitTables, fileOf}
+use Rattle.layout.specs.Files.FileWords.{wordTables}
 use Rattle.file_shape.proofs.Parts.{stands-long}
 use Rattle.compact_tables.proofs.Cut.{count-lengths, columns-is, rows-is, room-columns, room-entries, room-rows, room-cones, cut-fits, cut-tables, cut-extends}
 use borrow.Author.Needs.{needs}

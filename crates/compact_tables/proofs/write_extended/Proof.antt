@@ -4,7 +4,7 @@ use mathlib.Core.Path.{sym}
 use lib.ListN.{length, replicate, length-replicate}
 use lib.Seq.{length-take-le}
 use lib.Dec.{lit<}
-use Rattle.layout.specs.FileWords.{wordTables}
+use Rattle.layout.specs.Files.FileWords.{wordTables}
 use Rattle.file_shape.proofs.Parts.{stands-long}
 use Rattle.compact_tables.specs.Writers.{extendedTables}
 use Rattle.compact_tables.proofs.Extended.{starts-count, starts-extended, costs-fit, costs-extended, extended-given, file-written}

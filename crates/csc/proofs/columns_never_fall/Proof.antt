@@ -7,8 +7,8 @@ use mathlib.Core.List.{List}
 use borrow.Author.Tests.{not-true, not-false}
 use borrow.Author.Needs.{needs}
 use lib.ListN.{length, getD, drop}
-use Rattle.layout.specs.Lists.{all, below}
-use Rattle.layout.specs.Checks.{neverFalls, columnRows}
+use Rattle.layout.specs.General.Lists.{all, below, neverFalls}
+use Rattle.layout.specs.Checks.{columnRows}
 use Rattle.csc.specs.Matrix.{table}
 use Rattle.csc.proofs.Fronts.{below-step, below-fails, below-done}
 use Rattle.csc.proofs.columns_never_fall.Statement.{statement}

@@ -7,7 +7,7 @@ use mathlib.Core.List.{List}
 use borrow.Author.Tests.{not-true, not-false}
 use borrow.Author.Needs.{needs}
 use lib.ListN.{length, getD, drop}
-use Rattle.layout.specs.Lists.{all, below, rises}
+use Rattle.layout.specs.General.Lists.{all, below, rises}
 use Rattle.layout.specs.Checks.{columnRows}
 use Rattle.csc.specs.Matrix.{table}
 use Rattle.csc.proofs.Fronts.{below-step, below-fails, below-done}

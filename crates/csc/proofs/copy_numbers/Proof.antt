@@ -3,8 +3,8 @@ use native.Mathlib.Omega.{arith}
 use mathlib.Core.Path.{_≡_, _∙_}
 use borrow.Author.Needs.{needs}
 use lib.ListN.{length, take, length-set}
-use Rattle.layout.specs.Lists.{written}
-use Rattle.layout.proofs.Buffers.{copy-more, copy-done}
+use Rattle.layout.specs.General.Lists.{written}
+use Rattle.layout.proofs.Lists.Buffers.{copy-more, copy-done}
 use Rattle.csc.proofs.copy_numbers.Statement.{statement}
 use Rattle.csc.proofs.copy_numbers.Tie as tie
 

@@ -4,8 +4,8 @@ use mathlib.Core.Path.{_≡_, _∙_}
 use borrow.Author.Needs.{needs}
 use lib.ListN.{length, take, length-set}
 use lib.Ieee.{nan}
-use Rattle.layout.specs.Lists.{written}
-use Rattle.layout.proofs.Buffers.{copy-more, copy-done}
+use Rattle.layout.specs.General.Lists.{written}
+use Rattle.layout.proofs.Lists.Buffers.{copy-more, copy-done}
 use Rattle.csc.proofs.copy_values.Statement.{statement}
 use Rattle.csc.proofs.copy_values.Tie as tie
 

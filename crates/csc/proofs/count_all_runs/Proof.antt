@@ -2,7 +2,7 @@ use Prim.Native.Nat.{ℕ, _≤_, _<_, _-_, _+_}
 use native.Mathlib.Numerals.{add-one}
 use mathlib.Core.Path.{_≡_, refl}
 use lib.ListN.{length, getD}
-use Rattle.layout.specs.Runs.{runs, runCount}
+use Rattle.layout.specs.Cuts.Runs.{runs, runCount}
 use Rattle.layout.specs.Checks.{columnRows}
 use Rattle.csc.specs.Matrix.{table}
 use Rattle.csc.proofs.Runs.{count-more, count-few}

@@ -2,8 +2,8 @@ use Prim.Native.Nat.{_<_, _≤_, _-_, _+_}
 use mathlib.Core.Path.{_≡_, _∙_}
 use mathlib.Core.Logic.{⊎-elim}
 use lib.ListN.{length, drop}
-use Rattle.layout.specs.Runs.{runs}
-use Rattle.layout.proofs.Repeats.{runs-few}
+use Rattle.layout.specs.Cuts.Runs.{runs}
+use Rattle.layout.proofs.Columns.Repeats.{runs-few}
 use Rattle.csc.proofs.Runs.{runs-same, runs-apart, runs-last}
 use native.Mathlib.Omega.{arith}
 use borrow.Author.Needs.{needs}

@@ -1,7 +1,7 @@
 use native.Mathlib.Omega.{arith}
 use borrow.Author.Needs.{needs}
 use lib.ListN.{replicate, length-replicate, length}
-use Rattle.layout.proofs.Buffers.{written-after}
+use Rattle.layout.proofs.Lists.Buffers.{written-after}
 use Rattle.csc.proofs.extend_values.Statement.{statement}
 use Rattle.csc.proofs.extend_values.Tie as tie
 use mathlib.Core.Path.{refl}

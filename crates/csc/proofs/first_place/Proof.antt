@@ -1,6 +1,6 @@
 use Prim.Native.Nat.{_≤_, _-_}
 use mathlib.Core.Path.{_≡_, sym, ap, _∙_}
-use Rattle.layout.specs.Runs.{runFirst}
+use Rattle.layout.specs.Cuts.Runs.{runFirst}
 use Rattle.csc.proofs.Runs.{first-step, first-done}
 use native.Mathlib.Omega.{arith}
 use borrow.Author.Needs.{needs}

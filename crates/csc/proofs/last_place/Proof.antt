@@ -1,7 +1,7 @@
 use Prim.Native.Nat.{_<_, _-_}
 use mathlib.Core.Path.{_≡_, sym, _∙_}
 use lib.ListN.{length}
-use Rattle.layout.specs.Runs.{runLast}
+use Rattle.layout.specs.Cuts.Runs.{runLast}
 use Rattle.csc.proofs.Runs.{last-step, last-apart, last-end}
 use native.Mathlib.Omega.{arith}
 use borrow.Author.Needs.{needs}

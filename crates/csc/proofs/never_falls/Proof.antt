@@ -1,6 +1,8 @@
-use Prim.Native.Nat.{_≤_, _-_}
+use Prim.Native.Nat.{_≤_, _-_, _+_}
 use native.Mathlib.Omega.{arith}
-use mathlib.Core.Path.{_≡_, sym, _∙_}
+use mathlib.Core.Path.{_≡_, sym, ap, _∙_}
+use mathlib.Core.Logic.{⊎-elim}
+use mathlib.Core.Bool.{Bool, _&&_, and-true, and-false}
 use borrow.Author.Tests.{le-leb, lt-leb}
 use borrow.Author.Needs.{needs}
 use lib.ListN.{length, drop}
@@ -9,11 +11,12 @@ use Rattle.csc.proofs.Fronts.{chained, falls-chained, chain-step, chain
 use Rattle.csc.proofs.never_falls.Statement.{statement}
 use Rattle.csc.proofs.never_falls.Tie as tie
 
+-- `holds` is whether no number up to i is less than the one before it
 abbrev Inv-loop : tie.InvT-loop
-Inv-loop xs i₀ i = (i ≤ length xs) × (chained leb xs ≡ chained leb (drop i xs))
+Inv-loop xs holds₀ i₀ holds i = (i ≤ length xs) × (chained leb xs ≡ (holds && chained leb (drop i xs)))
 
 abbrev μ-loop : tie.MeasureT-loop
-μ-loop xs i₀ i = length xs - i
+μ-loop xs holds₀ i₀ holds i = length xs - i
 
 loop-holds : tie.Need-loop-holds Inv-loop μ-loop
 loop-holds c = search needs
@@ -36,12 +39,6 @@ mul-if1-2 c = omega arith
 shared-slice-read-if1-2 : tie.Need-shared-slice-read-if1-2 Inv-loop μ-loop
 shared-slice-read-if1-2 c = omega arith
 
-returns : tie.Need-returns Inv-loop μ-loop
-returns c =
-    let l = c .before .before .before .before in
-    let xs = l .before .args .xs .now in
-    sym (falls-chained xs ∙ l .loop .inv .1 ∙ chain-fails leb xs (l .loop .i) (omega arith) (lt-leb _ _ (c .if1 .taken)))
-
 add-i : tie.Need-add-i Inv-loop μ-loop
 add-i c = omega arith
 
@@ -52,13 +49,20 @@ loop-again : tie.Need-loop-again Inv-loop μ-loop
 loop-again c =
     let l = c .before .before .before .before in
     let xs = l .before .args .xs .now in
-    (omega arith, l .loop .inv .1 ∙ chain-step leb xs (l .loop .i) (omega arith) (le-leb _ _ (c .if1 .left)))
+    let i = l .loop .i in
+    let left : Bool → Bool = λ b. l .loop .holds && b in
+    let next : Bool → Bool = λ b. b && chained leb (drop (i + 1) xs) in
+    ⊎-elim
+    (λ w. (omega arith, l .loop .inv .1 ∙ ap left (chain-fails leb xs i (omega arith) (lt-leb _ _ (w .0 .taken))) ∙ and-false (l .loop .holds) ∙ ap next (sym (w .1))))
+    (λ w. (omega arith, l .loop .inv .1 ∙ ap left (chain-step leb xs i (omega arith) (le-leb _ _ (w .0 .left))) ∙ ap next (sym (w .1))))
+    (c .if1 .came)
 
-returns-2 : tie.Need-returns-2 Inv-loop μ-loop
-returns-2 c =
+returns : tie.Need-returns Inv-loop μ-loop
+returns c =
     let l = c .before in
     let xs = l .before .args .xs .now in
-    sym (falls-chained xs ∙ l .loop .inv .1 ∙ chain-done leb xs (l .loop .i) (c .loop-test .left))
+    let left : Bool → Bool = λ b. l .loop .holds && b in
+    sym (falls-chained xs ∙ l .loop .inv .1 ∙ ap left (chain-done leb xs (l .loop .i) (c .loop-test .left)) ∙ and-true (l .loop .holds))
 
 pub never-falls-spec : {M : Type 1} → statement M
 never-falls-spec =
@@ -73,8 +77,7 @@ never-falls-spec =
     shared-slice-read-if1
     mul-if1-2
     shared-slice-read-if1-2
-    returns
     add-i
     loop-less
     loop-again
-    returns-2)
+    returns)

@@ -1,7 +1,7 @@
 use native.Mathlib.Omega.{arith}
 use mathlib.Core.Path.{_∙_}
 use borrow.Author.Needs.{needs}
-use Rattle.layout.proofs.Columns.{RightStarts, starts-right}
+use Rattle.layout.proofs.Columns.Columns.{RightStarts, starts-right}
 use Rattle.csc.specs.Matrix.{matrix}
 use Rattle.csc.proofs.nnz.Statement.{statement}
 use Rattle.csc.proofs.nnz.Tie as tie

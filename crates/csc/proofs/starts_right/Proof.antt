@@ -8,7 +8,7 @@ use borrow.Author.Needs.{needs}
 use lib.ListN.{length, getD, length-replicate}
 use lib.Ieee.{nan}
 use lib.Dec.{eqb}
-use Rattle.layout.proofs.Members.{getD-default}
+use Rattle.layout.proofs.Lists.Members.{getD-default}
 use Rattle.csc.proofs.starts_right.Statement.{statement}
 use Rattle.csc.proofs.starts_right.Tie as tie
 

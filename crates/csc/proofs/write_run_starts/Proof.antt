@@ -2,10 +2,10 @@ use Prim.Native.Nat.{ℕ, _≤_, _<_, _-_, _+_}
 use native.Mathlib.Numerals.{add-one}
 use mathlib.Core.Path.{_≡_, refl, _∙_}
 use lib.ListN.{length, getD, set, length-set}
-use Rattle.layout.specs.Lists.{written}
-use Rattle.layout.specs.Runs.{runs, runStarts, runCount}
+use Rattle.layout.specs.General.Lists.{written}
+use Rattle.layout.specs.Cuts.Runs.{runs, runStarts, runCount}
 use Rattle.layout.specs.Checks.{columnRows}
-use Rattle.layout.proofs.Buffers.{set-written}
+use Rattle.layout.proofs.Lists.Buffers.{set-written}
 use Rattle.csc.specs.Matrix.{table}
 use Rattle.csc.proofs.Runs.{count-more, count-few, run-starts-more, length-run-starts, first-over, first-written}
 use native.Mathlib.Omega.{arith}

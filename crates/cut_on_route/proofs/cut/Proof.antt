@@ -1,10 +1,10 @@
 use mathlib.Core.Path.{_≡_, refl, sym, _∙_}
-use Rattle.layout.specs.Problem.{Problem, problem}
-use Rattle.layout.specs.Answers.{Augmented, lengths, onRoute, routeOf, cutRefusal}
-use Rattle.layout.specs.Calls.Cut.{outputs}
-use Rattle.layout.proofs.Accepted.{accepted-sound}
+use Rattle.layout.specs.Problems.Problem.{Problem, problem}
+use Rattle.layout.specs.Calls.Cut.{Augmented, lengths, cutRefusal, outputs}
+use Rattle.layout.specs.Calls.Answers.{onRoute, routeOf}
+use Rattle.layout.proofs.Checks.Accepted.{accepted-sound}
 use Rattle.layout.proofs.Promises.{cut-refused, Taken, taken}
-use Rattle.decomp_augment.proofs.Rooms.{objective-fits, constrained-fits, map-fits, objective-cut, constrained-cut, map-cut}
+use Rattle.cut_laws.proofs.Rooms.{objective-fits, constrained-fits, map-fits, objective-cut, constrained-cut, map-cut}
 use Rattle.cut_on_route.proofs.cut.Statement.{statement}
 use Rattle.cut_on_route.proofs.cut.Tie as tie
 

@@ -1,14 +1,12 @@
 use mathlib.Core.Path.{_≡_, refl, sym, _∙_}
 use lib.Dec.{lit≤}
-use Rattle.layout.specs.Problem.{Problem, problem, compact}
-use Rattle.layout.specs.Answers.{lengths}
-use Rattle.layout.specs.Calls.Cut.{outputs}
-use Rattle.layout.proofs.Accepted.{accepted-sound}
+use Rattle.layout.specs.Problems.Problem.{Problem, problem, compact}
+use Rattle.layout.specs.Calls.Cut.{lengths, outputs}
+use Rattle.layout.proofs.Checks.Accepted.{accepted-sound}
 use Rattle.layout.proofs.Promises.{Taken}
-use Rattle.layout.specs.Between.{limitsRefusal}
-use Rattle.layout.specs.Calls.CutBetween.{Limits, limits, limitsRooms}
-use Rattle.decomp_augment.proofs.Rooms.{objective-fits, constrained-fits, map-fits, objective-cut, constrained-cut, map-cut}
-use Rattle.right_sides.proofs.Written.{between-refused, low-accepted, low-taken, high-asked, high-written}
+use Rattle.layout.specs.Calls.CutBetween.{limitsRefusal, Limits, limits, limitsRooms}
+use Rattle.cut_laws.proofs.Rooms.{objective-fits, constrained-fits, map-fits, objective-cut, constrained-cut, map-cut}
+use Rattle.side_values.proofs.Written.{between-refused, low-accepted, low-taken, high-asked, high-written}
 use Rattle.cut_with_limits.proofs.cut_between.Statement.{statement}
 use Rattle.cut_with_limits.proofs.cut_between.Tie as tie
 

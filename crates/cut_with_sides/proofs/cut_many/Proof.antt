@@ -5,16 +5,15 @@ use mathlib.Core.List.{List}
 use lib.ListN.{take}
 use lib.Seq.{length-take-le}
 use lib.Ieee.{Float}
-use Rattle.layout.specs.Problem.{Problem, problem, withB, compact}
-use Rattle.layout.specs.Answers.{Augmented, lengths, augmented}
-use Rattle.layout.specs.Calls.Cut.{outputs, Constrained, constrainedOf, HoldsConstrained}
-use Rattle.layout.proofs.Accepted.{accepted-sound}
+use Rattle.layout.specs.Problems.Problem.{Problem, problem, withB, compact}
+use Rattle.layout.specs.Calls.Cut.{Augmented, lengths, augmented, outputs, Constrained, constrainedOf, HoldsConstrained}
+use Rattle.layout.proofs.Checks.Accepted.{accepted-sound}
 use Rattle.layout.proofs.Promises.{Taken}
-use Rattle.layout.specs.Sides.{side, withSide, sidesRefusal}
-use Rattle.layout.proofs.Sides.{side-first}
-use Rattle.augment.specs.Fits.{ConstrainedFits}
-use Rattle.decomp_augment.proofs.Rooms.{only, objective-fits, constrained-fits, map-fits, objective-cut, constrained-cut, map-cut}
-use Rattle.right_sides.proofs.Written.{many-refused, first-accepted, first-taken, first-inside, sides-asked, sides-written}
+use Rattle.layout.specs.Calls.CutMany.{side, withSide, sidesRefusal}
+use Rattle.layout.proofs.Theorems.Sides.{side-first}
+use Rattle.cut_standard.specs.Fits.{ConstrainedFits}
+use Rattle.cut_laws.proofs.Rooms.{only, objective-fits, constrained-fits, map-fits, objective-cut, constrained-cut, map-cut}
+use Rattle.side_values.proofs.Written.{many-refused, first-accepted, first-taken, first-inside, sides-asked, sides-written}
 use Rattle.cut_with_sides.proofs.cut_many.Statement.{statement}
 use Rattle.cut_with_sides.proofs.cut_many.Tie as tie
 

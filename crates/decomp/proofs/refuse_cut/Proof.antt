@@ -1,5 +1,5 @@
 use mathlib.Core.Path.{_∙_}
-use Rattle.layout.specs.Problem.{Problem, problem}
+use Rattle.layout.specs.Problems.Problem.{Problem, problem}
 use Rattle.decomp.proofs.Rooms.{sizes-first, rooms-next}
 use borrow.Author.Needs.{needs}
 use Rattle.decomp.proofs.refuse_cut.Statement.{statement}

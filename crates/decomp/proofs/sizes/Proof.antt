@@ -5,14 +5,14 @@ use mathlib.Core.Path.{_≡_, refl, sym, _∙_}
 use lib.ListN.{length}
 use lib.Dec.{ltb, lit≤}
 use borrow.Author.Tests.{le-leb, lt-leb}
-use Rattle.layout.specs.Lists.{all, below}
-use Rattle.layout.specs.Problem.{Problem, problem}
-use Rattle.layout.specs.Checks.{Checked, neverFalls, columnRows, refusal}
-use Rattle.layout.specs.Answers.{problemRefusal, routeOf}
-use Rattle.layout.proofs.Tests.{and-iff}
-use Rattle.layout.proofs.Buffers.{output-kept}
-use Rattle.layout.proofs.Accepted.{fits-u32, problem-checked}
-use Rattle.layout.proofs.Columns.{starts-right}
+use Rattle.layout.specs.General.Lists.{all, below, neverFalls}
+use Rattle.layout.specs.Problems.Problem.{Problem, problem}
+use Rattle.layout.specs.Checks.{Checked, columnRows, refusal}
+use Rattle.layout.specs.Calls.Answers.{problemRefusal, routeOf}
+use Rattle.layout.proofs.Lists.Tests.{and-iff}
+use Rattle.layout.proofs.Checks.Accepted.{fits-u32, problem-checked}
+use Rattle.layout.proofs.Columns.Columns.{starts-right}
+use Rattle.layout.proofs.Promises.{output-kept}
 use Rattle.decomp.proofs.Answers.{no-route, few-alphas}
 use Rattle.decomp.proofs.Refusals.{stopped-early, stopped-late, by-room, accepted, counts-fit, sizes-written}
 use Rattle.decomp.proofs.sizes.Statement.{statement}

@@ -1,8 +1,8 @@
 use mathlib.Core.Path.{_≡_, sym, ap, subst, _∙_}
 use lib.Dec.{T}
 use lib.Ieee.{binary64, toBits}
-use Rattle.layout.proofs.Nans.{ne-self, nan-is}
-use Rattle.layout.proofs.Bits.{nan-pattern}
+use Rattle.layout.proofs.Floats.Nans.{ne-self, nan-is}
+use Rattle.layout.proofs.Floats.Bits.{nan-pattern}
 use borrow.Author.Needs.{needs}
 use Rattle.file_bytes.proofs.bits_of.Statement.{statement}
 use Rattle.file_bytes.proofs.bits_of.Tie as tie

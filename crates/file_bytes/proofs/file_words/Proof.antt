@@ -1,4 +1,4 @@
-use Rattle.layout.proofs.Tests.{cond-passed, cond-failed}
+use Rattle.layout.proofs.Lists.Tests.{cond-passed, cond-failed}
 use lib.Dec.{leb, leb→le, le→leb}
 use lib.ListN.{set}
 use mathlib.Core.Path.{ap₂}
@@ -7,11 +7,11 @@ use Prim.Native.Nat.{ℕ}
 use Prim.Native.Nat.{_-_, _≤_}
 use mathlib.Core.Path.{_≡_, refl, sym, _∙_}
 use lib.ListN.{length, take, length-set}
-use Rattle.layout.specs.Lists.{written}
-use Rattle.layout.specs.FileWords.{fileWords}
-use Rattle.layout.proofs.FileWords.{words-length}
-use Rattle.layout.proofs.FileWalks.{word-bytes}
-use Rattle.layout.proofs.Buffers.{copy-more, copy-done}
+use Rattle.layout.specs.General.Lists.{written}
+use Rattle.layout.specs.Files.FileWords.{fileWords}
+use Rattle.layout.proofs.Files.FileWords.{words-length}
+use Rattle.layout.proofs.Files.FileWalks.{word-bytes}
+use Rattle.layout.proofs.Lists.Buffers.{copy-more, copy-done}
 use native.Mathlib.Omega.{arith}
 use borrow.Author.Needs.{needs}
 use Rattle.file_bytes.proofs.file_words.Statement.{statement}

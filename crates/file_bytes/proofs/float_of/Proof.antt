@@ -5,7 +5,7 @@ use lib.Dec.{T, lt→ltb}
 use lib.Ieee.{binary64, nan, isNan, ofBits, nanBits, div}
 use lib.Ieee.Bits.{nanBits-is, nanBits-above}
 use borrow.Author.Tests.{le-ltb}
-use Rattle.layout.proofs.Nans.{nan-is}
+use Rattle.layout.proofs.Floats.Nans.{nan-is}
 use borrow.Author.Needs.{needs}
 use Rattle.file_bytes.proofs.float_of.Statement.{statement}
 use Rattle.file_bytes.proofs.float_of.Tie as tie

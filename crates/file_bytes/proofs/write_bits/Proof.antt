@@ -3,10 +3,10 @@ use mathlib.Core.Path.{_≡_, sym, ap₂, _∙_}
 use mathlib.Core.List.{List}
 use lib.ListN.{length, take, set, length-set, length-map}
 use lib.Ieee.{binary64, toBits, nan}
-use Rattle.layout.specs.Lists.{written}
-use Rattle.layout.specs.File.{bits}
-use Rattle.layout.proofs.Members.{getD-map}
-use Rattle.layout.proofs.Buffers.{copy-more, copy-done}
+use Rattle.layout.specs.General.Lists.{written}
+use Rattle.layout.specs.General.Floats.{bits}
+use Rattle.layout.proofs.Lists.Members.{getD-map}
+use Rattle.layout.proofs.Lists.Buffers.{copy-more, copy-done}
 use native.Mathlib.Omega.{arith}
 use borrow.Author.Needs.{needs}
 use Rattle.file_bytes.proofs.write_bits.Statement.{statement}

@@ -3,10 +3,10 @@ use mathlib.Core.Path.{_≡_, sym, ap₂, _∙_}
 use mathlib.Core.List.{List}
 use lib.ListN.{length, take, set, length-set, length-map}
 use lib.Ieee.{Float, binary64, ofBits, nan}
-use Rattle.layout.specs.Lists.{written}
-use Rattle.layout.specs.File.{floats}
-use Rattle.layout.proofs.Members.{getD-map}
-use Rattle.layout.proofs.Buffers.{copy-more, copy-done}
+use Rattle.layout.specs.General.Lists.{written}
+use Rattle.layout.specs.General.Floats.{floats}
+use Rattle.layout.proofs.Lists.Members.{getD-map}
+use Rattle.layout.proofs.Lists.Buffers.{copy-more, copy-done}
 use native.Mathlib.Omega.{arith}
 use borrow.Author.Needs.{needs}
 use Rattle.file_bytes.proofs.write_floats.Statement.{statement}

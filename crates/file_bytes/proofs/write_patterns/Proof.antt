@@ -1,6 +1,6 @@
-use Rattle.layout.proofs.FileWalks.{pairs-written}
-use Rattle.layout.specs.FileWords.{pairsOf}
-use Rattle.layout.specs.Lists.{written}
+use Rattle.layout.proofs.Files.FileWalks.{pairs-written}
+use Rattle.layout.specs.Files.FileWords.{pairsOf}
+use Rattle.layout.specs.General.Lists.{written}
 use lib.Seq.{take-all}
 use lib.ListN.{length, take, set, length-set}
 use mathlib.Core.Path.{_≡_, ap, ap₂, _∙_}

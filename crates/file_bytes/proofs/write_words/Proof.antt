@@ -1,7 +1,7 @@
-use Rattle.layout.proofs.FileWalks.{putWord, bytes-written}
+use Rattle.layout.proofs.Files.FileWalks.{putWord, bytes-written}
 use lib.Seq.{take-all}
-use Rattle.layout.specs.File.{tableBytes}
-use Rattle.layout.specs.Lists.{written}
+use Rattle.layout.specs.General.Lists.{written}
+use Rattle.layout.specs.General.Bytes.{tableBytes}
 use lib.ListN.{length, take, getD}
 use mathlib.Core.Path.{_≡_, ap, _∙_}
 use mathlib.Core.List.{List}

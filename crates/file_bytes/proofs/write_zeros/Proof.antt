@@ -1,8 +1,8 @@
 use Prim.Native.Nat.{_≤_, _-_}
 use mathlib.Core.Path.{_≡_}
 use lib.ListN.{length, replicate, length-set}
-use Rattle.layout.specs.Lists.{written}
-use Rattle.layout.proofs.Buffers.{fill-more}
+use Rattle.layout.specs.General.Lists.{written}
+use Rattle.layout.proofs.Lists.Buffers.{fill-more}
 use native.Mathlib.Omega.{arith}
 use borrow.Author.Needs.{needs}
 use Rattle.file_bytes.proofs.write_zeros.Statement.{statement}

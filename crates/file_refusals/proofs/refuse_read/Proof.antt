@@ -3,10 +3,10 @@ use mathlib.Core.Path.{_≡_, sym, ap, _∙_}
 use mathlib.Core.Bool.{cond}
 use mathlib.Core.List.{_∷_}
 use borrow.Author.Needs.{needs}
-use Rattle.layout.specs.Answers.{orElse, roomy}
-use Rattle.layout.specs.File.{countsIn, countedLengths}
-use Rattle.layout.specs.FileWords.{wordsFailing}
-use Rattle.checks.proofs.Order.{first-given}
+use Rattle.layout.specs.Calls.Answers.{orElse, roomy}
+use Rattle.layout.specs.Files.File.{countsIn, countedLengths}
+use Rattle.layout.specs.Files.FileWords.{wordsFailing}
+use Rattle.check_problem.proofs.Order.{first-given}
 use Rattle.file_shape.proofs.Parts.{accepted-stands}
 use Rattle.file_refusals.proofs.refuse_read.Statement.{statement}
 use Rattle.file_refusals.proofs.refuse_read.Tie as tie

@@ -1,10 +1,10 @@
 use Prim.Native.Nat.{ℕ}
 use mathlib.Core.Path.{_≡_, sym, ap, _∙_}
 use borrow.Author.Needs.{needs}
-use Rattle.layout.specs.Answers.{orElse, problemRefusal}
-use Rattle.layout.specs.FileWords.{wordShapeFailing, unvaluedProblem}
-use Rattle.layout.proofs.FileWalks.{words-unvalued}
-use Rattle.checks.proofs.Order.{first-given}
+use Rattle.layout.specs.Calls.Answers.{orElse, problemRefusal}
+use Rattle.layout.specs.Files.FileWords.{wordShapeFailing, unvaluedProblem}
+use Rattle.layout.proofs.Files.FileWalks.{words-unvalued}
+use Rattle.check_problem.proofs.Order.{first-given}
 use Rattle.file_shape.proofs.Parts.{stands}
 use Rattle.file_refusals.proofs.refuse_words.Statement.{statement}
 use Rattle.file_refusals.proofs.refuse_words.Tie as tie

@@ -1,5 +1,5 @@
 use mathlib.Core.Path.{sym}
-use Rattle.layout.proofs.FileWalks.{gap-none, gap-outside, gap-one}
+use Rattle.layout.proofs.Files.FileWalks.{gap-none, gap-outside, gap-one}
 use borrow.Author.Needs.{needs}
 use Rattle.file_shape.proofs.gap_zero.Statement.{statement}
 use Rattle.file_shape.proofs.gap_zero.Tie as tie

@@ -3,9 +3,9 @@ use mathlib.Core.Path.{sym, ap, ap₂, _∙_}
 use mathlib.Core.Bool.{Bool, _&&_}
 use lib.ListN.{length, getD}
 use lib.Dec.{eqb, leb}
-use Rattle.layout.specs.FileWords.{wordsLengthRight}
-use Rattle.layout.proofs.Tests.{passed, failed, eqb-iff, leb-iff}
-use Rattle.layout.proofs.FileWords.{words-long}
+use Rattle.layout.specs.Files.FileWords.{wordsLengthRight}
+use Rattle.layout.proofs.Lists.Tests.{passed, failed, eqb-iff, leb-iff}
+use Rattle.layout.proofs.Files.FileWords.{words-long}
 use native.Mathlib.Omega.{arith}
 use borrow.Author.Needs.{needs}
 use Rattle.file_shape.proofs.length_right.Statement.{statement}

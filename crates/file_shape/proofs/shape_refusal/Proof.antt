@@ -1,8 +1,8 @@
 use mathlib.Core.Path.{_≡_, sym, ap, ap₂, _∙_}
 use mathlib.Core.Bool.{Bool, cond}
 use borrow.Author.Tests.{not-true, not-false}
-use Rattle.layout.specs.FileWords.{wordShapeFailing}
-use Rattle.layout.proofs.FileWalks.{shape-number}
+use Rattle.layout.specs.Files.FileWords.{wordShapeFailing}
+use Rattle.layout.proofs.Files.FileWalks.{shape-number}
 use borrow.Author.Needs.{needs}
 use Rattle.file_shape.proofs.shape_refusal.Statement.{statement}
 use Rattle.file_shape.proofs.shape_refusal.Tie as tie

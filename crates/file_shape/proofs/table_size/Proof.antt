@@ -1,6 +1,6 @@
 use Prim.Native.Nat.{_≤_, _<_}
 use Prim.Native.Nat.{zero-le}
-use Rattle.layout.specs.File.{countsIn, tableSizes}
+use Rattle.layout.specs.Files.File.{countsIn, tableSizes}
 use lib.ListN.{getD}
 use mathlib.Core.Path.{_≡_, ap, sym, _∙_}
 use Prim.Native.Nat.{ℕ, suc, _+_, _*_}

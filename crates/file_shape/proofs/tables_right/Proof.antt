@@ -3,10 +3,10 @@ use mathlib.Core.Path.{_≡_, refl, sym, ap, _∙_}
 use lib.ListN.{drop}
 use lib.Dec.{eqb}
 use borrow.Author.Tests.{not-true, not-false}
-use Rattle.layout.specs.File.{aligned, countsIn, tableSizes}
-use Rattle.layout.specs.FileWords.{wordTablesRight}
-use Rattle.layout.proofs.FileWords.{size-fours}
-use Rattle.layout.proofs.FileWalks.{standsFrom, tables-short, tables-walk, stands-next, stands-elsewhere, stands-gap, stands-done}
+use Rattle.layout.specs.Files.File.{aligned, countsIn, tableSizes}
+use Rattle.layout.specs.Files.FileWords.{wordTablesRight}
+use Rattle.layout.proofs.Files.FileWords.{size-fours}
+use Rattle.layout.proofs.Files.FileWalks.{standsFrom, tables-short, tables-walk, stands-next, stands-elsewhere, stands-gap, stands-done}
 use native.Mathlib.Omega.{arith}
 use borrow.Author.Needs.{needs}
 use Rattle.file_shape.proofs.tables_right.Statement.{statement}

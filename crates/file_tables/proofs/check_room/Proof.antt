@@ -5,8 +5,8 @@ use mathlib.Core.Bool.{cond}
 use mathlib.Core.List.{[], _∷_}
 use lib.ListN.{getD}
 use lib.Dec.{lit<}
-use Rattle.layout.specs.Answers.{roomy}
-use Rattle.layout.specs.File.{countsIn}
+use Rattle.layout.specs.Calls.Answers.{roomy}
+use Rattle.layout.specs.Files.File.{countsIn}
 use Rattle.file_shape.proofs.Parts.{stands-long, stands-end, stands-inside}
 use native.Mathlib.Omega.{arith}
 use borrow.Author.Needs.{needs}

@@ -1,7 +1,7 @@
 use Prim.Native.Nat.{ℕ, _+_, _*_}
 use mathlib.Core.Path.{ap, _∙_}
-use Rattle.layout.specs.Lists.{part, written}
-use Rattle.layout.specs.FileWords.{pairsOf}
+use Rattle.layout.specs.General.Lists.{part, written}
+use Rattle.layout.specs.Files.FileWords.{pairsOf}
 use borrow.Author.Needs.{needs}
 use Rattle.file_tables.proofs.copy_patterns.Statement.{statement}
 use Rattle.file_tables.proofs.copy_patterns.Tie as tie

@@ -1,6 +1,6 @@
 use Prim.Native.Nat.{ℕ, _+_}
 use mathlib.Core.Path.{ap, _∙_}
-use Rattle.layout.specs.Lists.{part, written}
+use Rattle.layout.specs.General.Lists.{part, written}
 use borrow.Author.Needs.{needs}
 use Rattle.file_tables.proofs.copy_table.Statement.{statement}
 use Rattle.file_tables.proofs.copy_table.Tie as tie

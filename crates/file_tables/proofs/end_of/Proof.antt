@@ -1,7 +1,7 @@
 use Prim.Native.Nat.{ℕ, _+_, _-_, _*_, _≤_}
 use mathlib.Core.Path.{_≡_, sym, ap, _∙_}
 use lib.ListN.{drop}
-use Rattle.layout.specs.File.{widths, products, endFrom}
+use Rattle.layout.specs.Files.File.{widths, products, endFrom}
 use Rattle.file_tables.proofs.Laid.{length-products, end-step, end-done}
 use native.Mathlib.Omega.{arith}
 use borrow.Author.Needs.{needs}

@@ -3,8 +3,9 @@ use native.Mathlib.Nat.{le-trans}
 use mathlib.Core.Path.{_≡_, refl, ap, _∙_}
 use mathlib.Core.List.{List, [], _∷_, _++_, map}
 use lib.ListN.{length, take, drop}
-use Rattle.layout.specs.Lists.{written}
-use Rattle.layout.specs.File.{tableBytes, endFrom, laidFrom}
+use Rattle.layout.specs.General.Lists.{written}
+use Rattle.layout.specs.General.Bytes.{tableBytes}
+use Rattle.layout.specs.Files.File.{endFrom, laidFrom}
 use Rattle.file_tables.proofs.Laid.{end-before, end-low, laid-length, laid-inside, laid-room, laid-after}
 use borrow.Author.Needs.{needs}
 use Rattle.file_tables.proofs.lay_layout.Statement.{statement}

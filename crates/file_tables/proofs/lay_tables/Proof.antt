@@ -3,8 +3,8 @@ use native.Mathlib.Nat.{le-trans}
 use mathlib.Core.Path.{_≡_, refl, ap, _∙_}
 use mathlib.Core.List.{List, [], _++_, map}
 use lib.ListN.{length, take, drop}
-use Rattle.layout.specs.Lists.{written}
-use Rattle.layout.specs.File.{endFrom, laidFrom}
+use Rattle.layout.specs.General.Lists.{written}
+use Rattle.layout.specs.Files.File.{endFrom, laidFrom}
 use Rattle.file_tables.specs.Groups.{matrixBytes, layoutBytes}
 use Rattle.file_tables.proofs.Laid.{end-before, end-low, laid-length, laid-inside, laid-room, laid-after}
 use borrow.Author.Needs.{needs}

@@ -2,11 +2,12 @@ use Prim.Native.Nat.{ℕ, _+_, _-_}
 use mathlib.Core.Path.{sym, ap, _∙_}
 use mathlib.Core.List.{List, _++_, append-nil}
 use lib.ListN.{replicate, length-replicate}
-use Rattle.layout.specs.Lists.{written}
-use Rattle.layout.specs.File.{tableBytes, aligned}
-use Rattle.layout.proofs.Bytes.{length-table}
-use Rattle.layout.proofs.Offsets.{aligned-up}
-use Rattle.layout.proofs.Buffers.{length-tail, written-after}
+use Rattle.layout.specs.General.Lists.{written}
+use Rattle.layout.specs.General.Bytes.{tableBytes}
+use Rattle.layout.specs.Files.File.{aligned}
+use Rattle.layout.proofs.Numbers.Bytes.{length-table}
+use Rattle.layout.proofs.Files.Offsets.{aligned-up}
+use Rattle.layout.proofs.Lists.Buffers.{length-tail, written-after}
 use native.Mathlib.Omega.{arith}
 use borrow.Author.Needs.{needs}
 use Rattle.file_tables.proofs.lay_words.Statement.{statement}

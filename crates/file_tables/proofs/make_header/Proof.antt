@@ -1,8 +1,8 @@
 use Prim.Native.Nat.{ℕ}
 use mathlib.Core.Path.{refl, ap, _∙_}
 use mathlib.Core.List.{List, [], _∷_, _++_}
-use Rattle.layout.specs.Lists.{written}
-use Rattle.layout.specs.File.{BitTables, bitTables, countWords, countsOf, offsetsFrom, endFrom}
+use Rattle.layout.specs.General.Lists.{written}
+use Rattle.layout.specs.Files.File.{BitTables, bitTables, countWords, countsOf, offsetsFrom, endFrom}
 use Rattle.file_tables.proofs.Tables.{FewNumbers, few-numbers, sizes-counted, end-fits}
 use native.Mathlib.Omega.{arith}
 use borrow.Author.Needs.{needs}

@@ -1,7 +1,7 @@
 use Prim.Native.Nat.{ℕ, _+_, _*_, _≤_}
 use mathlib.Core.Path.{sym, ap}
 use lib.ListN.{getD}
-use Rattle.layout.specs.File.{widths, aligned}
+use Rattle.layout.specs.Files.File.{widths, aligned}
 use Rattle.file_tables.proofs.Laid.{product-at, size-most}
 use native.Mathlib.Omega.{arith}
 use borrow.Author.Needs.{needs}

@@ -2,8 +2,8 @@ use Prim.Native.Nat.{ℕ, _*_, _≤_}
 use mathlib.Core.Path.{refl, sym, ap, subst, _∙_}
 use lib.ListN.{length, getD}
 use lib.Dec.{lit<}
-use Rattle.layout.specs.Lists.{written}
-use Rattle.layout.specs.FileWords.{pairsOf, wordsAt}
+use Rattle.layout.specs.General.Lists.{written}
+use Rattle.layout.specs.Files.FileWords.{pairsOf, wordsAt}
 use Rattle.file_shape.specs.Parts.{Inside}
 use Rattle.file_shape.proofs.Parts.{stands-long, stands-inside}
 use native.Mathlib.Omega.{arith}

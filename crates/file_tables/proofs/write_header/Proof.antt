@@ -2,8 +2,8 @@ use Prim.Native.Nat.{ℕ, _+_}
 use mathlib.Core.Path.{_≡_, sym, ap, _∙_}
 use mathlib.Core.List.{List, [], _∷_, _++_}
 use lib.ListN.{length, length-append}
-use Rattle.layout.specs.File.{widths, products, offsetsFrom, endFrom}
-use Rattle.layout.proofs.Buffers.{written-after}
+use Rattle.layout.specs.Files.File.{widths, products, offsetsFrom, endFrom}
+use Rattle.layout.proofs.Lists.Buffers.{written-after}
 use Rattle.file_tables.proofs.Laid.{length-products, length-offsets}
 use native.Mathlib.Omega.{arith}
 use borrow.Author.Needs.{needs}

@@ -3,9 +3,9 @@ use mathlib.Core.Path.{_≡_, sym, ap, ap₂, _∙_}
 use mathlib.Core.List.{List}
 use lib.ListN.{length, take, drop, set, length-set}
 use lib.Seq.{take-all}
-use Rattle.layout.specs.Lists.{written}
-use Rattle.layout.specs.File.{widths, products, aligned, offsetsFrom, endFrom}
-use Rattle.layout.proofs.Buffers.{set-written, copy-more}
+use Rattle.layout.specs.General.Lists.{written}
+use Rattle.layout.specs.Files.File.{widths, products, aligned, offsetsFrom, endFrom}
+use Rattle.layout.proofs.Lists.Buffers.{set-written, copy-more}
 use Rattle.file_tables.proofs.Laid.{length-products, length-offsets, end-step, end-later, end-done, offset-here}
 use native.Mathlib.Omega.{arith}
 use borrow.Author.Needs.{needs}

@@ -2,7 +2,7 @@ use native.Mathlib.Omega.{arith}
 use mathlib.Core.Path.{ap, _∙_}
 use lib.ListN.{length}
 use Prim.Native.Nat.{_+_, _/_}
-use Rattle.layout.specs.Lists.{part}
+use Rattle.layout.specs.General.Lists.{part}
 use Rattle.file_shape.proofs.Parts.{stands-long}
 use Rattle.file_views.proofs.Doubles.{doubles-view, doubles-inside}
 use borrow.Author.Needs.{needs}

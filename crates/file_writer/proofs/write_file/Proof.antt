@@ -3,10 +3,10 @@ use native.Mathlib.Omega.{arith}
 use mathlib.Core.Path.{_≡_, refl, sym, subst, _∙_}
 use mathlib.Core.List.{List}
 use lib.ListN.{length, getD, replicate, length-replicate}
-use Rattle.layout.specs.Answers.{roomRefusal, problemRefusal}
-use Rattle.layout.specs.File.{BitTables, bitTables, problemOf, countsOf, headerOf, fileOf}
-use Rattle.layout.proofs.Buffers.{output-kept}
-use Rattle.checks.proofs.Order.{first-given}
+use Rattle.layout.specs.Calls.Answers.{roomRefusal, problemRefusal}
+use Rattle.layout.specs.Files.File.{BitTables, bitTables, problemOf, countsOf, headerOf, fileOf}
+use Rattle.layout.proofs.Promises.{output-kept}
+use Rattle.check_problem.proofs.Order.{first-given}
 use Rattle.file_tables.proofs.Tables.{tables-refusal}
 use Rattle.file_writer.proofs.Laws.{header-made, header-end, header-low, header-room, write-short, write-fits, tables-room, tables-low, file-laid}
 use borrow.Author.Needs.{needs}

@@ -4,9 +4,9 @@ use mathlib.Core.Path.{_≡_, sym, ap, _∙_}
 use mathlib.Core.List.{map}
 use borrow.Author.Needs.{needs}
 use lib.ListN.{length}
-use Rattle.layout.specs.Lists.{sum}
-use Rattle.layout.specs.Generator.{drawnColumn, drawnColumns, afterColumn, afterColumns}
-use Rattle.layout.proofs.Drawn.{column-length, afters-more}
+use Rattle.layout.specs.General.Lists.{sum}
+use Rattle.layout.specs.Calls.Generate.{drawnColumn, drawnColumns, afterColumn, afterColumns}
+use Rattle.layout.proofs.Generators.Drawn.{column-length, afters-more}
 use Rattle.generator.proofs.Columns.{entries-more}
 use Rattle.generator.proofs.count_columns.Statement.{statement}
 use Rattle.generator.proofs.count_columns.Tie as tie

@@ -4,8 +4,8 @@ use mathlib.Core.Path.{_≡_, sym, ap, ap₂, _∙_}
 use mathlib.Core.List.{List, [], _∷_, map}
 use borrow.Author.Needs.{needs}
 use lib.ListN.{length, take}
-use Rattle.layout.specs.Lists.{sum}
-use Rattle.layout.specs.Generator.{drawnOrdering, bandRows, drawnColumns}
+use Rattle.layout.specs.General.Lists.{sum}
+use Rattle.layout.specs.Calls.Generate.{drawnOrdering, bandRows, drawnColumns}
 use Rattle.generator.proofs.Rows.{rows-few, rows-front}
 use Rattle.generator.proofs.count_entries.Statement.{statement}
 use Rattle.generator.proofs.count_entries.Tie as tie

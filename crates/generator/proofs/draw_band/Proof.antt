@@ -4,9 +4,9 @@ use mathlib.Core.Path.{_≡_, ap, _∙_}
 use mathlib.Core.List.{List, [], _∷_}
 use borrow.Author.Needs.{needs}
 use lib.ListN.{length}
-use Rattle.layout.specs.Lists.{written}
-use Rattle.layout.specs.Triangle.{triangle}
-use Rattle.layout.proofs.Triangles.{triangle-mono}
+use Rattle.layout.specs.General.Lists.{written}
+use Rattle.layout.specs.General.Triangle.{triangle}
+use Rattle.layout.proofs.Numbers.Triangles.{triangle-mono}
 use Rattle.generator.proofs.Rows.{ordering-low, places-long, places-low, places-rows}
 use Rattle.generator.proofs.draw_band.Statement.{statement}
 use Rattle.generator.proofs.draw_band.Tie as tie

@@ -5,8 +5,8 @@ use mathlib.Core.List.{[], _∷_}
 use borrow.Author.Needs.{needs}
 use lib.ListN.{length, replicate, take, length-replicate}
 use lib.Seq.{length-take-le}
-use Rattle.layout.specs.Lists.{written}
-use Rattle.layout.specs.Generator.{draws, drawnOrdering, bandRows}
+use Rattle.layout.specs.General.Lists.{written}
+use Rattle.layout.specs.Calls.Generate.{draws, drawnOrdering, bandRows}
 use Rattle.generator.proofs.draw_rows.Statement.{statement}
 use Rattle.generator.proofs.draw_rows.Tie as tie
 

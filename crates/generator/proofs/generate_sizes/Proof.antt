@@ -7,12 +7,12 @@ use lib.ListN.{length, length-replicate}
 use mathlib.Core.Bool.{true}
 use lib.Dec.{T}
 use borrow.Author.Tests.{not-true, not-false}
-use Rattle.layout.specs.Lists.{written}
-use Rattle.layout.specs.Generator.{inRanges}
-use Rattle.layout.proofs.Tests.{passes}
+use Rattle.layout.specs.General.Lists.{written}
+use Rattle.layout.specs.Calls.Generate.{inRanges}
+use Rattle.layout.proofs.Lists.Tests.{passes}
 use Rattle.generator.specs.Lengths.{lengthsOf}
 use Rattle.generator.proofs.Numbers.{lengths-are, sizes-15, sizes-11, sizes-done}
-use Rattle.layout.proofs.Generated.{ranges}
+use Rattle.layout.proofs.Theorems.Generated.{ranges}
 use Rattle.generator.proofs.generate_sizes.Statement.{statement}
 use Rattle.generator.proofs.generate_sizes.Tie as tie
 

@@ -5,14 +5,14 @@ use mathlib.Core.List.{List, [], _∷_, _++_, map}
 use borrow.Author.Needs.{needs}
 use lib.ListN.{length, set, length-append, length-map, length-set}
 use lib.Ieee.{Float}
-use Rattle.layout.specs.Lists.{sum, written}
-use Rattle.layout.specs.Compact.{Entry, rowsOf, csc}
-use Rattle.layout.specs.Generator.{drawnColumn, drawnColumns, afterColumn, afterColumns}
-use Rattle.layout.proofs.Buffers.{set-written, written-after, length-tail}
-use Rattle.layout.proofs.Columns.{entry-count, even}
-use Rattle.layout.proofs.Compressed.{valuesOf}
-use Rattle.layout.proofs.Drawn.{column-length, afters-more}
-use Rattle.layout.proofs.Starts.{length-written}
+use Rattle.layout.specs.General.Lists.{sum, written}
+use Rattle.layout.specs.Cuts.Compact.{Entry, rowsOf, csc}
+use Rattle.layout.specs.Calls.Generate.{drawnColumn, drawnColumns, afterColumn, afterColumns}
+use Rattle.layout.proofs.Lists.Buffers.{set-written, written-after, length-tail}
+use Rattle.layout.proofs.Columns.Columns.{entry-count, even}
+use Rattle.layout.proofs.Columns.Compressed.{valuesOf}
+use Rattle.layout.proofs.Generators.Drawn.{column-length, afters-more}
+use Rattle.layout.proofs.Lists.Starts.{length-written}
 use Rattle.generator.proofs.Columns.{entries-more, starts-more, rows-more, values-more, column-fits, starts-many, first-stored, starts-cover}
 use Rattle.generator.proofs.write_columns.Statement.{statement}
 use Rattle.generator.proofs.write_columns.Tie as tie

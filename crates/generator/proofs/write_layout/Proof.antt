@@ -4,9 +4,9 @@ use mathlib.Core.Path.{_≡_, sym, ap, subst, _∙_}
 use borrow.Author.Needs.{needs}
 use lib.ListN.{length, replicate, take, length-replicate}
 use lib.Seq.{length-take-le}
-use Rattle.layout.specs.Lists.{written}
-use Rattle.layout.specs.Patterns.{patternWordsOf}
-use Rattle.layout.specs.Generator.{drawnOrdering, band}
+use Rattle.layout.specs.General.Lists.{written}
+use Rattle.layout.specs.Problems.Patterns.{patternWordsOf}
+use Rattle.layout.specs.Calls.Generate.{drawnOrdering, band}
 use Rattle.generator.proofs.write_layout.Statement.{statement}
 use Rattle.generator.proofs.write_layout.Tie as tie
 

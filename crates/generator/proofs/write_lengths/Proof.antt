@@ -5,7 +5,7 @@ use native.Mathlib.Omega.{arith}
 use mathlib.Core.Path.{_≡_, ap₂, _∙_}
 use mathlib.Core.List.{[], _∷_}
 use borrow.Author.Needs.{needs}
-use Rattle.layout.specs.Lists.{written}
+use Rattle.layout.specs.General.Lists.{written}
 use Rattle.generator.proofs.write_lengths.Statement.{statement}
 use Rattle.generator.proofs.write_lengths.Tie as tie
 

@@ -3,9 +3,9 @@ use mathlib.Core.Path.{_≡_, sym, ap₂, subst, _∙_}
 use mathlib.Core.List.{List, [], _∷_}
 use borrow.Author.Needs.{needs}
 use lib.ListN.{length}
-use Rattle.layout.specs.Lists.{written}
-use Rattle.layout.specs.Patterns.{patternWordsOf}
-use Rattle.layout.specs.Generator.{band}
+use Rattle.layout.specs.General.Lists.{written}
+use Rattle.layout.specs.Problems.Patterns.{patternWordsOf}
+use Rattle.layout.specs.Calls.Generate.{band}
 use Rattle.generator.proofs.write_pattern.Statement.{statement}
 use Rattle.generator.proofs.write_pattern.Tie as tie
 

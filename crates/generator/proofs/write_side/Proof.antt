@@ -4,9 +4,9 @@ use mathlib.Core.Path.{_≡_, ap, _∙_}
 use borrow.Author.Needs.{needs}
 use lib.ListN.{length, replicate, length-replicate}
 use lib.Ieee.{ofBits}
-use Rattle.layout.specs.Lists.{Below}
-use Rattle.layout.specs.Problem.{zero64}
-use Rattle.layout.specs.Generator.{drawnSide}
+use Rattle.layout.specs.General.Lists.{Below}
+use Rattle.layout.specs.General.Floats.{zero64}
+use Rattle.layout.specs.Calls.Generate.{drawnSide}
 use Rattle.generator.proofs.Columns.{side-front}
 use Rattle.generator.proofs.write_side.Statement.{statement}
 use Rattle.generator.proofs.write_side.Tie as tie

@@ -1,11 +1,63 @@
--- The contract of the cut: its refusal number, and the contents of each output. Functions that write only some of the outputs have parts of it.
+-- The cut: the augmented problem with its cone map, the refusal number, and the contract. Functions that write only some of the outputs have
+-- parts of it.
 use Prim.Native.Nat.{ℕ}
+use mathlib.Core.Bool.{cond}
+use mathlib.Core.List.{List, [], _∷_, map}
 use mathlib.Core.Path.{_≡_}
-use mathlib.Core.List.{List}
-use lib.ListN.{getD, take}
+use lib.ListN.{length, getD, take}
 use lib.Ieee.{Float}
-use Rattle.layout.specs.Problem.{Problem, Csc, Route}
-use Rattle.layout.specs.Answers.{Augmented, lengths, output, onRoute, routeOf, augmented, sizes, cutRefusal}
+use Rattle.layout.specs.Problems.Problem.{Problem, Csc, Route, standard, compact}
+use Rattle.layout.specs.Checks.{layout, refusal}
+use Rattle.layout.specs.Cuts.Compact.{coneMap, mapWords, compactA, compactB, compactP, compactQ, compactCones}
+use Rattle.layout.specs.Cuts.Standard.{standardA, standardB, standardP, standardQ, standardCones}
+use Rattle.layout.specs.Calls.Answers.{output, orElse, roomy, onRoute, routeOf}
+
+pub record Augmented : Type 0 where
+  pub P : Csc
+  pub q : List Float
+  pub A : Csc
+  pub b : List Float
+  pub cones : List ℕ
+  pub alphas : List Float
+  pub map : List ℕ
+
+abbrev pub augmented : Route → Problem → Augmented
+augmented standard p = record {
+  P = standardP p;
+  q = standardQ p;
+  A = standardA p;
+  b = standardB p;
+  cones = standardCones p;
+  alphas = p .alphas;
+  map = [];
+}
+augmented compact p = record {
+  P = compactP p;
+  q = compactQ p;
+  A = compactA p;
+  b = compactB p;
+  cones = compactCones p;
+  alphas = p .alphas;
+  map = mapWords (coneMap (layout p));
+}
+
+-- the same results with another b
+abbrev pub augmentedWithB : Augmented → List Float → Augmented
+augmentedWithB a b = record { P = a .P; q = a .q; A = a .A; b = b; cones = a .cones; alphas = a .alphas; map = a .map }
+
+-- the length of each output, in the order of the outputs
+abbrev pub lengths : Augmented → List ℕ
+lengths a =
+    length (a .P .starts) ∷ length (a .P .rows) ∷ length (a .P .values) ∷ length (a .q)
+    ∷ length (a .A .starts) ∷ length (a .A .rows) ∷ length (a .A .values) ∷ length (a .b)
+    ∷ length (a .cones) ∷ length (a .alphas) ∷ length (a .map) ∷ []
+
+abbrev pub sizes : Route → Problem → List ℕ
+sizes route p = lengths (augmented route p)
+
+-- the refusal number of the cut; `rooms` has the length of each output, in the same order
+abbrev pub cutRefusal : Route → Problem → List ℕ → ℕ
+cutRefusal route p rooms = orElse (refusal route p) (cond (roomy (sizes route p) rooms) 0 11)
 
 -- ---- P, q and the exponents
 

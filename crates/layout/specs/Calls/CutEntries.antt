@@ -4,11 +4,11 @@ use mathlib.Core.Path.{_≡_}
 use mathlib.Core.List.{List, [], _∷_, map}
 use lib.ListN.{length}
 use lib.Ieee.{Float}
-use Rattle.layout.specs.Problem.{Problem, compact}
+use Rattle.layout.specs.Problems.Problem.{Problem, compact}
 use Rattle.layout.specs.Checks.{layout}
-use Rattle.layout.specs.Compact.{MapEntry, coneMap}
-use Rattle.layout.specs.Answers.{output, augmented, cutRefusal}
-use Rattle.layout.specs.Calls.Cut.{Objective, objective, objectiveOf, HoldsObjective, Constrained, constrained, constrainedOf, HoldsConstrained}
+use Rattle.layout.specs.Cuts.Compact.{MapEntry, coneMap}
+use Rattle.layout.specs.Calls.Answers.{output}
+use Rattle.layout.specs.Calls.Cut.{augmented, cutRefusal, Objective, objective, objectiveOf, HoldsObjective, Constrained, constrained, constrainedOf, HoldsConstrained}
 
 -- the eleven outputs
 pub record EntryTables (E : Type 0) : Type 0 where

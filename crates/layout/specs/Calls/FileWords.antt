@@ -3,8 +3,8 @@ use Prim.Native.Nat.{ℕ}
 use mathlib.Core.Path.{_≡_}
 use mathlib.Core.List.{List}
 use lib.ListN.{length}
-use Rattle.layout.specs.Answers.{output, roomRefusal}
-use Rattle.layout.specs.FileWords.{fileWords}
+use Rattle.layout.specs.Files.FileWords.{fileWords}
+use Rattle.layout.specs.Calls.Answers.{output, roomRefusal}
 
 pub record FileWords (file before after : List ℕ) (r : ℕ) : Type 0 where
   pub number : r ≡ roomRefusal (length (fileWords file)) (length before)

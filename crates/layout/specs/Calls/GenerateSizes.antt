@@ -3,9 +3,9 @@ use Prim.Native.Nat.{ℕ}
 use mathlib.Core.Path.{_≡_}
 use mathlib.Core.List.{List}
 use lib.ListN.{length}
-use Rattle.layout.specs.Problem.{tableLengths}
-use Rattle.layout.specs.Answers.{output}
-use Rattle.layout.specs.Generator.{generated, generateSizesRefusal}
+use Rattle.layout.specs.Problems.Problem.{tableLengths}
+use Rattle.layout.specs.Calls.Answers.{output}
+use Rattle.layout.specs.Calls.Generate.{generated, generateSizesRefusal}
 
 pub record GenerateSizes (seed v w n : ℕ) (before after : List ℕ) (r : ℕ) : Type 0 where
   pub number : r ≡ generateSizesRefusal seed v w n (length before)

@@ -4,11 +4,11 @@ use mathlib.Core.Path.{_≡_}
 use mathlib.Core.Bool.{Bool, false, cond, _&&_}
 use mathlib.Core.List.{List, [], _∷_}
 use lib.Dec.{eqb}
-use Rattle.layout.specs.Lists.{sameBy}
-use Rattle.layout.specs.Problem.{Solution, compact}
-use Rattle.layout.specs.Compact.{MapEntry, wholeCone, blockOf, coneMap}
-use Rattle.layout.specs.Answers.{orElse, roomy, joinedParts, joinChecks, solutionFits, joined}
-use Rattle.layout.specs.Calls.Join.{Rejoined, rejoinedOf, rejoinedRooms, HoldsRejoined}
+use Rattle.layout.specs.General.Lists.{sameBy}
+use Rattle.layout.specs.Problems.Problem.{Solution, compact}
+use Rattle.layout.specs.Cuts.Compact.{MapEntry, wholeCone, blockOf, coneMap}
+use Rattle.layout.specs.Calls.Answers.{orElse, roomy}
+use Rattle.layout.specs.Calls.Join.{joinedParts, joinChecks, solutionFits, joined, Rejoined, rejoinedOf, rejoinedRooms, HoldsRejoined}
 
 abbrev pub sameEntry : MapEntry → MapEntry → Bool
 sameEntry (wholeCone i first rows) (wholeCone j other count) = eqb i j && (eqb first other && eqb rows count)

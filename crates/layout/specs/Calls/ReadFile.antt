@@ -3,9 +3,9 @@ use Prim.Native.Nat.{ℕ}
 use mathlib.Core.Path.{_≡_}
 use mathlib.Core.List.{List, [], _∷_}
 use lib.ListN.{length}
-use Rattle.layout.specs.Answers.{output}
-use Rattle.layout.specs.File.{HeaderCounts, countWords, countsIn, BitTables}
-use Rattle.layout.specs.FileWords.{wordTables, readWordsRefusal}
+use Rattle.layout.specs.Files.File.{HeaderCounts, countWords, countsIn, BitTables}
+use Rattle.layout.specs.Files.FileWords.{wordTables, readWordsRefusal}
+use Rattle.layout.specs.Calls.Answers.{output}
 
 -- the twelve outputs: the eight counts of the header, then the tables in the file's order
 pub record FileOutputs : Type 0 where

@@ -4,8 +4,8 @@ use mathlib.Core.Path.{_≡_}
 use mathlib.Core.List.{List, [], _∷_}
 use lib.ListN.{length, take}
 use lib.Ieee.{Float}
-use Rattle.layout.specs.Problem.{Problem, Csc}
-use Rattle.layout.specs.Answers.{output}
+use Rattle.layout.specs.Problems.Problem.{Problem, Csc}
+use Rattle.layout.specs.Calls.Answers.{output}
 use Rattle.layout.specs.Calls.Cut.{Objective, HoldsObjective, Constrained, HoldsConstrained}
 
 pub record Tables : Type 0 where

@@ -2,13 +2,13 @@ use mathlib.Core.Path.{_≡_, refl, sym, ap, _∙_}
 use mathlib.Core.List.{List}
 use Prim.Native.Nat.{ℕ}
 use lib.Ieee.{Float}
-use Rattle.layout.specs.Lists.{written}
-use Rattle.layout.specs.Problem.{Problem, problem}
-use Rattle.layout.specs.Pool.{pool, poolRefusal}
+use Rattle.layout.specs.General.Lists.{written}
+use Rattle.layout.specs.Problems.Problem.{Problem, problem}
+use Rattle.layout.specs.Calls.Pool.{pool, poolRefusal}
 use Rattle.layout.specs.Calls.Tables.{Tables, tables, tablesOf, tableRooms}
 use Rattle.layout.proofs.Promises.{tables-kept}
-use Rattle.layout.proofs.Accepted.{sound-cone-count}
-use Rattle.layout.proofs.PoolTables.{Pooled, pooled}
+use Rattle.layout.proofs.Checks.Accepted.{sound-cone-count}
+use Rattle.layout.proofs.Pools.PoolTables.{Pooled, pooled}
 use Rattle.pool.proofs.Tables.{pool-fits, pool-count, pool-starts-of, pool-sums-fit, pool-raisable, pool-words-end, pool-origins, starts-written, rows-written, values-written}
 use Rattle.pool.proofs.pool.Statement.{statement}
 use Rattle.pool.proofs.pool.Tie as tie

@@ -3,7 +3,7 @@ use native.Mathlib.Omega.{arith}
 use mathlib.Core.Path.{ap₂}
 use lib.ListN.{length}
 use lib.Dec.{leb}
-use Rattle.layout.specs.Cones.{records}
+use Rattle.layout.specs.Problems.Cones.{records}
 use Rattle.pool_refusals.proofs.Refusals.{many-rows, many-entries, by-cones}
 use Rattle.pool_refusals.proofs.bounded.Statement.{statement}
 use Rattle.pool_refusals.proofs.bounded.Tie as tie

@@ -2,11 +2,11 @@ use Prim.Native.Nat.{ℕ}
 use mathlib.Core.Path.{_≡_, refl}
 use mathlib.Core.Bool.{cond}
 use lib.Dec.{eqb}
-use Rattle.layout.specs.Problem.{Problem, problem}
-use Rattle.layout.specs.Answers.{problemRefusal}
-use Rattle.agreement.proofs.Alike.{unchecked}
+use Rattle.layout.specs.Problems.Problem.{Problem, problem}
+use Rattle.layout.specs.Calls.Answers.{problemRefusal}
+use Rattle.same_tables.proofs.Alike.{unchecked}
 use Rattle.pool_refusals.specs.Refusals.{secondRefusal, bothRefusal}
-use Rattle.checks.proofs.Order.{first-refused, next-given}
+use Rattle.check_problem.proofs.Order.{first-refused, next-given}
 use Rattle.pool_refusals.proofs.check_both.Statement.{statement}
 use Rattle.pool_refusals.proofs.check_both.Tie as tie
 

@@ -1,8 +1,8 @@
 use mathlib.Core.Bool.{cond}
 use lib.Dec.{eqb}
-use Rattle.layout.specs.Problem.{Problem, problem}
-use Rattle.layout.specs.Answers.{problemRefusal}
-use Rattle.checks.proofs.Order.{first-refused, next-given}
+use Rattle.layout.specs.Problems.Problem.{Problem, problem}
+use Rattle.layout.specs.Calls.Answers.{problemRefusal}
+use Rattle.check_problem.proofs.Order.{first-refused, next-given}
 use Rattle.pool_refusals.proofs.check_second.Statement.{statement}
 use Rattle.pool_refusals.proofs.check_second.Tie as tie
 

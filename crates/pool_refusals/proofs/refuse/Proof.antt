@@ -1,8 +1,8 @@
 use mathlib.Core.Path.{_≡_, refl, sym, _∙_}
 use borrow.Author.Tests.{not-true, not-false}
-use Rattle.layout.specs.Problem.{Problem, problem}
+use Rattle.layout.specs.Problems.Problem.{Problem, problem}
 use Rattle.layout.specs.Checks.{Checked}
-use Rattle.layout.proofs.Accepted.{sound-cone-count}
+use Rattle.layout.proofs.Checks.Accepted.{sound-cone-count}
 use Rattle.pool_refusals.specs.Refusals.{bothRefusal}
 use Rattle.pool_refusals.proofs.Refusals.{both-refused, both-checked, too-large, by-room, needs-given}
 use Rattle.pool_refusals.proofs.refuse.Statement.{statement}

@@ -3,7 +3,7 @@ use Prim.Native.Nat.{_+_}
 use mathlib.Core.Path.{refl}
 use lib.ListN.{length, length-map}
 use borrow.Author.Needs.{needs}
-use Rattle.layout.proofs.Buffers.{written-after}
+use Rattle.layout.proofs.Lists.Buffers.{written-after}
 use Rattle.pool_tables.specs.Stacked.{raised}
 use Rattle.pool_tables.proofs.append_raised.Statement.{statement}
 use Rattle.pool_tables.proofs.append_raised.Tie as tie

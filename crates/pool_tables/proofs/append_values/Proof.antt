@@ -1,7 +1,7 @@
 use mathlib.Core.Path.{refl}
 use lib.ListN.{length}
 use borrow.Author.Needs.{needs}
-use Rattle.layout.proofs.Buffers.{written-after}
+use Rattle.layout.proofs.Lists.Buffers.{written-after}
 use Rattle.pool_tables.proofs.append_values.Statement.{statement}
 use Rattle.pool_tables.proofs.append_values.Tie as tie
 

@@ -2,8 +2,8 @@ use Prim.Native.Nat.{ℕ, _+_, _-_}
 use mathlib.Core.Path.{ap, _∙_}
 use mathlib.Core.List.{List, _++_}
 use lib.ListN.{length, take, drop, length-append, length-map}
-use Rattle.layout.specs.Lists.{part, written}
-use Rattle.layout.proofs.Buffers.{length-tail}
+use Rattle.layout.specs.General.Lists.{part, written}
+use Rattle.layout.proofs.Lists.Buffers.{length-tail}
 use Rattle.pool_tables.specs.Stacked.{raised}
 use Rattle.pool_tables.proofs.Columns.{part-length, part-raised, part-raisable, put-after}
 use native.Mathlib.Omega.{arith}

@@ -1,8 +1,8 @@
 use Prim.Native.Nat.{_+_}
 use mathlib.Core.List.{_++_}
 use lib.ListN.{length-append}
-use Rattle.layout.specs.Lists.{part}
-use Rattle.layout.proofs.Buffers.{length-tail}
+use Rattle.layout.specs.General.Lists.{part}
+use Rattle.layout.proofs.Lists.Buffers.{length-tail}
 use Rattle.pool_tables.proofs.Columns.{part-length, put-after}
 use native.Mathlib.Omega.{arith}
 use borrow.Author.Needs.{needs}

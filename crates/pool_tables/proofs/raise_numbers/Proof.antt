@@ -1,9 +1,9 @@
 use Prim.Native.Nat.{ℕ, _≤_, _-_, _+_}
 use mathlib.Core.Path.{_≡_, sym, ap, _∙_}
 use lib.ListN.{length, take, set, length-set, length-map}
-use Rattle.layout.specs.Lists.{written}
-use Rattle.layout.proofs.Buffers.{copy-more, copy-done}
-use Rattle.layout.proofs.Members.{getD-map}
+use Rattle.layout.specs.General.Lists.{written}
+use Rattle.layout.proofs.Lists.Buffers.{copy-more, copy-done}
+use Rattle.layout.proofs.Lists.Members.{getD-map}
 use Rattle.pool_tables.specs.Stacked.{raised}
 use native.Mathlib.Omega.{arith}
 use borrow.Author.Needs.{needs}

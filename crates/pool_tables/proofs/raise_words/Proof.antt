@@ -1,8 +1,8 @@
 use Prim.Native.Nat.{ℕ, _<_}
 use mathlib.Core.Path.{_≡_, refl}
 use lib.ListN.{length, length-set}
-use Rattle.layout.specs.Patterns.{patterns}
-use Rattle.layout.specs.Pool.{raisedWords}
+use Rattle.layout.specs.Problems.Patterns.{patterns}
+use Rattle.layout.specs.Calls.Pool.{raisedWords}
 use Rattle.pool_tables.proofs.Words.{raised-length, copy-stands, over-copy, Raising, raising-starts, raising-done, pattern-whole, inside, raisable, raising-more}
 use native.Mathlib.Omega.{arith}
 use borrow.Author.Needs.{needs}

@@ -2,8 +2,8 @@ use Prim.Native.Nat.{ℕ, suc, _≤_, _-_, _+_}
 use mathlib.Core.Path.{_≡_}
 use mathlib.Core.List.{List, map}
 use lib.ListN.{length, getD, length-set}
-use Rattle.layout.specs.Lists.{below, written}
-use Rattle.layout.proofs.Buffers.{mapped-more}
+use Rattle.layout.specs.General.Lists.{below, written}
+use Rattle.layout.proofs.Lists.Buffers.{mapped-more}
 use native.Mathlib.Omega.{arith}
 use borrow.Author.Needs.{needs}
 use Rattle.pool_tables.proofs.stack_starts.Statement.{statement}

@@ -2,9 +2,9 @@ use Prim.Native.Nat.{ℕ}
 use mathlib.Core.Path.{ap, _∙_}
 use mathlib.Core.List.{_++_}
 use borrow.Author.Needs.{needs}
-use Rattle.layout.specs.Lists.{written}
-use Rattle.layout.specs.Patterns.{patterns}
-use Rattle.layout.specs.Pool.{raisedWords}
+use Rattle.layout.specs.General.Lists.{written}
+use Rattle.layout.specs.Problems.Patterns.{patterns}
+use Rattle.layout.specs.Calls.Pool.{raisedWords}
 use Rattle.pool_tables.proofs.write_layout.Statement.{statement}
 use Rattle.pool_tables.proofs.write_layout.Tie as tie
 

@@ -2,9 +2,9 @@ use native.Mathlib.Omega.{arith}
 use mathlib.Core.Path.{refl}
 use lib.ListN.{length}
 use borrow.Author.Needs.{needs}
-use Rattle.layout.specs.Patterns.{patterns}
-use Rattle.layout.specs.Pool.{raisedWords}
-use Rattle.layout.proofs.Buffers.{written-after, length-tail}
+use Rattle.layout.specs.Problems.Patterns.{patterns}
+use Rattle.layout.specs.Calls.Pool.{raisedWords}
+use Rattle.layout.proofs.Lists.Buffers.{written-after, length-tail}
 use Rattle.pool_tables.proofs.Words.{raised-length}
 use Rattle.pool_tables.proofs.write_words.Statement.{statement}
 use Rattle.pool_tables.proofs.write_words.Tie as tie

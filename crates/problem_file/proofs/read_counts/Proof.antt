@@ -4,7 +4,7 @@ use mathlib.Core.Path.{_≡_, sym, ap, _∙_}
 use mathlib.Core.List.{List}
 use lib.ListN.{length, take}
 use lib.Seq.{length-take-le}
-use Rattle.layout.specs.Lists.{written}
+use Rattle.layout.specs.General.Lists.{written}
 use Rattle.file_shape.proofs.Parts.{stands-long, counts-front}
 use borrow.Author.Needs.{needs}
 use Rattle.problem_file.proofs.read_counts.Statement.{statement}

@@ -1,6 +1,6 @@
 use mathlib.Core.Path.{_≡_, refl, sym, _∙_}
-use Rattle.layout.specs.File.{countsIn}
-use Rattle.layout.specs.FileWords.{wordTables, readWordsRefusal}
+use Rattle.layout.specs.Files.File.{countsIn}
+use Rattle.layout.specs.Files.FileWords.{wordTables, readWordsRefusal}
 use Rattle.layout.specs.Calls.ReadFile.{FileOutputs, fileOutputs, fileRooms, outputsOf}
 use Rattle.file_shape.specs.Parts.{WellShaped}
 use Rattle.file_tables.proofs.Rooms.{file-kept, RoomsFit, read-taken}

@@ -3,10 +3,10 @@ use mathlib.Core.Path.{_≡_, refl, ap, sym, _∙_}
 use mathlib.Core.List.{map}
 use lib.ListN.{length, take, set, length-set, length-map}
 use lib.Ieee.{nan, add, binary64, ofBits}
-use Rattle.layout.specs.Lists.{written}
-use Rattle.layout.specs.Problem.{zero64}
-use Rattle.layout.proofs.Members.{getD-map}
-use Rattle.layout.proofs.Buffers.{copy-more, copy-done, written-whole}
+use Rattle.layout.specs.General.Lists.{written}
+use Rattle.layout.specs.General.Floats.{zero64}
+use Rattle.layout.proofs.Lists.Members.{getD-map}
+use Rattle.layout.proofs.Lists.Buffers.{copy-more, copy-done, written-whole}
 use native.Mathlib.Omega.{arith}
 use Rattle.reverse_standard.proofs.sum_rows.Statement.{statement}
 use Rattle.reverse_standard.proofs.sum_rows.Tie as tie

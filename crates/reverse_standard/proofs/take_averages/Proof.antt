@@ -4,9 +4,9 @@ use mathlib.Core.Path.{_≡_, refl, ap, ap₂, subst, _∙_}
 use mathlib.Core.List.{List, map}
 use lib.ListN.{length, getD, set, length-set}
 use lib.Ieee.{Float, nan}
-use Rattle.layout.specs.Lists.{below, written}
+use Rattle.layout.specs.General.Lists.{below, written}
 use Rattle.reverse_standard.specs.Averages.{averagedBy, shared, Clears}
-use Rattle.layout.proofs.Buffers.{mapped-more, mapped-done}
+use Rattle.layout.proofs.Lists.Buffers.{mapped-more, mapped-done}
 use Rattle.reverse_standard.proofs.Laws.{mapped-next, clears-more}
 use native.Mathlib.Omega.{arith}
 use borrow.Author.Needs.{needs}

@@ -3,12 +3,13 @@ use mathlib.Core.Path.{_≡_, refl, sym, ap, _∙_}
 use mathlib.Core.Bool.{Bool, cond}
 use lib.ListN.{length-set}
 use borrow.Author.Tests.{not-false}
-use Rattle.layout.specs.Problem.{Problem, problem}
+use Rattle.layout.specs.Problems.Problem.{Problem, problem}
 use mathlib.Core.Logic.{⊎-elim}
-use Rattle.layout.specs.Answers.{orElse, problemRefusal, sameLayout}
-use Rattle.agreement.proofs.Alike.{unchecked}
+use Rattle.layout.specs.Calls.Answers.{orElse, problemRefusal}
+use Rattle.layout.specs.Calls.SameLayout.{sameLayout}
+use Rattle.same_tables.proofs.Alike.{unchecked}
 use Rattle.same_layout.proofs.Agreement.{refused, no-room, answered}
-use Rattle.checks.proofs.Order.{first-refused, next-given}
+use Rattle.check_problem.proofs.Order.{first-refused, next-given}
 use Rattle.same_layout.proofs.same_layout.Statement.{statement}
 use Rattle.same_layout.proofs.same_layout.Tie as tie
 

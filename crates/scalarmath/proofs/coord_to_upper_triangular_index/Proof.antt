@@ -2,8 +2,8 @@ use Prim.Native.Nat.{ℕ, _≤_}
 use native.Mathlib.Omega.{arith}
 use mathlib.Core.Path.{sym}
 use borrow.Author.Needs.{needs}
-use Rattle.layout.specs.Triangle.{triangle}
-use Rattle.layout.proofs.Triangles.{triangle-mono, pairIndex-le, pairIndex-gt}
+use Rattle.layout.specs.General.Triangle.{triangle}
+use Rattle.layout.proofs.Numbers.Triangles.{triangle-mono, pairIndex-le, pairIndex-gt}
 use Rattle.scalarmath.proofs.coord_to_upper_triangular_index.Statement.{statement}
 use Rattle.scalarmath.proofs.coord_to_upper_triangular_index.Tie as tie
 

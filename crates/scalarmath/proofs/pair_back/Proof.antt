@@ -6,9 +6,9 @@ use mathlib.Core.List.{List, [], _∷_}
 use lib.ListN.{length, set, length-set}
 use lib.Dec.{lit≤}
 use borrow.Author.Tests.{le-leb, lt-leb}
-use Rattle.layout.specs.Lists.{written}
-use Rattle.layout.specs.Triangle.{indexRow, indexColumn}
-use Rattle.layout.proofs.Buffers.{set-written}
+use Rattle.layout.specs.General.Lists.{written}
+use Rattle.layout.specs.General.Triangle.{indexRow, indexColumn}
+use Rattle.layout.proofs.Lists.Buffers.{set-written}
 use Rattle.scalarmath.proofs.pair_back.Statement.{statement}
 use Rattle.scalarmath.proofs.pair_back.Tie as tie
 

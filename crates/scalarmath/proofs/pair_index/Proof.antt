@@ -4,7 +4,7 @@ use mathlib.Core.List.{[]}
 use mathlib.Core.Path.{refl}
 use lib.ListN.{length, length-set}
 use borrow.Author.Tests.{le-leb, lt-leb}
-use Rattle.layout.proofs.Buffers.{set-written}
+use Rattle.layout.proofs.Lists.Buffers.{set-written}
 use Rattle.scalarmath.proofs.pair_index.Statement.{statement}
 use Rattle.scalarmath.proofs.pair_index.Tie as tie
 

@@ -2,8 +2,8 @@ use Prim.Native.Nat.{_-_, _≤_}
 use mathlib.Core.Path.{_≡_, sym, _∙_}
 use lib.ListN.{length, drop}
 use lib.Ieee.{nan, le}
-use Rattle.layout.specs.Lists.{sameBy}
-use Rattle.layout.proofs.Walks.{same-lengths, same-step, same-miss, same-done}
+use Rattle.layout.specs.General.Lists.{sameBy}
+use Rattle.layout.proofs.Lists.Walks.{same-lengths, same-step, same-miss, same-done}
 use native.Mathlib.Omega.{arith}
 use borrow.Author.Needs.{needs}
 use Rattle.side_numbers.proofs.at_most.Statement.{statement}

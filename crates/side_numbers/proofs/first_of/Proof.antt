@@ -1,5 +1,5 @@
 use mathlib.Core.Path.{sym}
-use Rattle.checks.proofs.Order.{first-given}
+use Rattle.check_problem.proofs.Order.{first-given}
 use borrow.Author.Needs.{needs}
 use Rattle.side_numbers.proofs.first_of.Statement.{statement}
 use Rattle.side_numbers.proofs.first_of.Tie as tie

@@ -1,7 +1,7 @@
 use Prim.Native.Nat.{ℕ, _*_, _≤_}
 use native.Mathlib.Nat.{mul-le-mul}
 use mathlib.Core.Path.{_≡_, sym, _∙_}
-use Rattle.checks.proofs.Order.{first-given}
+use Rattle.check_problem.proofs.Order.{first-given}
 use Rattle.side_numbers.proofs.Laws.{sides-length, sides-late}
 use native.Mathlib.Omega.{arith}
 use Rattle.side_numbers.proofs.refuse_lengths.Statement.{statement}

@@ -1,7 +1,7 @@
 use Prim.Native.Nat.{ℕ}
 use mathlib.Core.Path.{_≡_, sym, ap, _∙_}
-use Rattle.layout.specs.Answers.{orElse}
-use Rattle.checks.proofs.Order.{first-given}
+use Rattle.layout.specs.Calls.Answers.{orElse}
+use Rattle.check_problem.proofs.Order.{first-given}
 use Rattle.side_numbers.proofs.Laws.{limits-length, limits-late}
 use Rattle.side_numbers.proofs.refuse_limits.Statement.{statement}
 use Rattle.side_numbers.proofs.refuse_limits.Tie as tie

@@ -3,9 +3,9 @@ use native.Mathlib.Nat.{le-trans}
 use mathlib.Core.Path.{_≡_, sym, ap, subst, _∙_}
 use lib.ListN.{length}
 use lib.Dec.{lit≤}
-use Rattle.layout.specs.Lists.{written}
-use Rattle.layout.specs.Problem.{compact}
-use Rattle.layout.proofs.Accepted.{fits-u32}
+use Rattle.layout.specs.General.Lists.{written}
+use Rattle.layout.specs.Problems.Problem.{compact}
+use Rattle.layout.proofs.Checks.Accepted.{fits-u32}
 use Rattle.chordal_info.specs.Sizes.{routeSizes, Fitting}
 use Rattle.side_refusals.proofs.cut_needs.Statement.{statement}
 use Rattle.side_refusals.proofs.cut_needs.Tie as tie

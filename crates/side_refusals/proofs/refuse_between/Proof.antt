@@ -4,12 +4,13 @@ use mathlib.Core.Bool.{Bool, cond, _&&_}
 use mathlib.Core.List.{List, [], _∷_}
 use lib.ListN.{length, replicate}
 use lib.Dec.{lit≤}
-use Rattle.layout.specs.Problem.{Problem, problem, compact}
+use Rattle.layout.specs.Problems.Problem.{Problem, problem, compact}
 use Rattle.layout.specs.Checks.{Checked, layout, check9, check10, check, firstFailing}
-use Rattle.layout.specs.Answers.{orElse, problemRefusal, sizes}
-use Rattle.layout.specs.Between.{limitsFailing}
-use Rattle.layout.proofs.OtherSide.{covers}
-use Rattle.layout.proofs.Between.{limits-iff}
+use Rattle.layout.specs.Calls.Answers.{orElse, problemRefusal}
+use Rattle.layout.specs.Calls.Cut.{sizes}
+use Rattle.layout.specs.Calls.CutBetween.{limitsFailing}
+use Rattle.layout.proofs.Columns.OtherSide.{covers}
+use Rattle.layout.proofs.Theorems.Between.{limits-iff}
 use Rattle.chordal_info.proofs.Routes.{counted-rows}
 use Rattle.decomp.proofs.Refusals.{counts-fit, sizes-written}
 use Rattle.side_numbers.specs.Order.{withAnother, limitsOrder}
@@ -18,7 +19,7 @@ use Rattle.side_numbers.proofs.Laws.{limits-passed}
 use Rattle.side_refusals.proofs.Limits.{nines, only-covers, stopped-early, stopped-late, accepted-limits, by-rooms}
 use native.Mathlib.Omega.{arith}
 use borrow.Author.Needs.{needs}
-use Rattle.layout.proofs.Accepted.{problem-checked}
+use Rattle.layout.proofs.Checks.Accepted.{problem-checked}
 use Rattle.side_refusals.proofs.refuse_between.Statement.{statement}
 use Rattle.side_refusals.proofs.refuse_between.Tie as tie
 

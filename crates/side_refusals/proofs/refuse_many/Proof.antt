@@ -2,8 +2,8 @@ use Prim.Native.Nat.{_≤_}
 use mathlib.Core.Path.{_≡_, sym, _∙_}
 use lib.ListN.{length, take}
 use lib.Seq.{length-take-le}
-use Rattle.layout.specs.Problem.{Problem, problem}
-use Rattle.layout.specs.Sides.{side}
+use Rattle.layout.specs.Problems.Problem.{Problem, problem}
+use Rattle.layout.specs.Calls.CutMany.{side}
 use Rattle.side_refusals.proofs.Many.{first-front, stopped-count, count-right}
 use Rattle.side_refusals.proofs.refuse_many.Statement.{statement}
 use Rattle.side_refusals.proofs.refuse_many.Tie as tie

@@ -5,11 +5,12 @@ use mathlib.Core.List.{List}
 use lib.ListN.{length, getD, replicate}
 use lib.Dec.{lit≤}
 use lib.Ieee.{Float}
-use Rattle.layout.specs.Problem.{Problem, problem, compact}
+use Rattle.layout.specs.Problems.Problem.{Problem, problem, compact}
 use Rattle.layout.specs.Checks.{Checked, layout, check9, check10, routeChecks, firstFailing, refusal}
-use Rattle.layout.specs.Answers.{orElse, problemRefusal, sizes}
-use Rattle.layout.specs.Sides.{withSide}
-use Rattle.covered_rows.specs.Covered.{entriesRight}
+use Rattle.layout.specs.Calls.Answers.{orElse, problemRefusal}
+use Rattle.layout.specs.Calls.Cut.{sizes}
+use Rattle.layout.specs.Calls.CutMany.{withSide}
+use Rattle.check_covered.specs.Covered.{entriesRight}
 use Rattle.chordal_info.specs.Sizes.{entriesKept, Fitting}
 use Rattle.chordal_info.proofs.Routes.{counted-rows}
 use Rattle.decomp.proofs.Refusals.{counts-fit, sizes-written}
@@ -19,7 +20,7 @@ use Rattle.side_numbers.proofs.Laws.{sides-passed}
 use Rattle.side_refusals.proofs.Many.{nine-ten, further-covers, sides-few, stopped-early, stopped-late, accepted-first, by-others}
 use native.Mathlib.Omega.{arith}
 use borrow.Author.Needs.{needs}
-use Rattle.layout.proofs.Accepted.{problem-checked}
+use Rattle.layout.proofs.Checks.Accepted.{problem-checked}
 use Rattle.side_refusals.proofs.refuse_sides.Statement.{statement}
 use Rattle.side_refusals.proofs.refuse_sides.Tie as tie
 

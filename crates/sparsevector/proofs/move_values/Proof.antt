@@ -5,9 +5,9 @@ use mathlib.Core.List.{map}
 use lib.ListN.{length, getD, take, length-set, length-map}
 use lib.Ieee.{Float, nan}
 use borrow.Author.Needs.{needs}
-use Rattle.layout.specs.Lists.{written}
-use Rattle.layout.proofs.Members.{getD-map}
-use Rattle.layout.proofs.Buffers.{copy-more, copy-done}
+use Rattle.layout.specs.General.Lists.{written}
+use Rattle.layout.proofs.Lists.Members.{getD-map}
+use Rattle.layout.proofs.Lists.Buffers.{copy-more, copy-done}
 use Rattle.sparsevector.specs.Values.{codeValue}
 use Rattle.sparsevector.proofs.move_values.Statement.{statement}
 use Rattle.sparsevector.proofs.move_values.Tie as tie

@@ -1,13 +1,14 @@
 use mathlib.Core.Bool.{true, false, _&&_}
 use mathlib.Core.Path.{_≡_, refl, sym, _∙_}
 use borrow.Author.Tests.{not-true, not-false}
-use Rattle.layout.specs.Lists.{all}
-use Rattle.layout.specs.Cones.{records}
-use Rattle.layout.specs.Patterns.{patterns, readPatterns, endsRight}
-use Rattle.layout.specs.Checks.{patternsRead, namesItsCone, originsRise, orderingsRight, isPermutation}
+use Rattle.layout.specs.General.Lists.{all, isPermutation}
+use Rattle.layout.specs.Problems.Cones.{records}
+use Rattle.layout.specs.Problems.Patterns.{patterns, readPatterns, endsRight}
+use Rattle.layout.specs.Checks.{namesItsCone, orderingsRight}
 use Rattle.supernode_tree.proofs.Tests.{four-tests}
-use Rattle.layout.proofs.Walks.{all-both}
+use Rattle.layout.proofs.Lists.Walks.{all-both}
 use borrow.Author.Needs.{needs}
+use Rattle.sparsity_pattern.specs.Sparsity.{originsRiseFrom, patternsReadFrom}
 use Rattle.sparsity_pattern.proofs.check_patterns.Statement.{statement}
 use Rattle.sparsity_pattern.proofs.check_patterns.Tie as tie
 
@@ -15,13 +16,14 @@ use Rattle.sparsity_pattern.proofs.check_patterns.Tie as tie
 tests : (s : tie.Start) → let ws = s .args .words .now in
     let ps = patterns (s .args .count) ws in
     let a = endsRight (readPatterns (s .args .count) ws) in
-    let x = patternsRead (s .args .cones .now) (s .args .count) ws in
-    (a ≡ false → x ≡ false) × (a ≡ true → originsRise ps ≡ false → x ≡ false)
-    × (a ≡ true → originsRise ps ≡ true → x ≡ (all (namesItsCone (records (s .args .cones .now))) ps && orderingsRight ps))
+    let o = originsRiseFrom (s .args .least) ps in
+    let x = patternsReadFrom (s .args .cones .now) (s .args .least) (s .args .count) ws in
+    (a ≡ false → x ≡ false) × (a ≡ true → o ≡ false → x ≡ false)
+    × (a ≡ true → o ≡ true → x ≡ (all (namesItsCone (records (s .args .cones .now))) ps && orderingsRight ps))
 tests s =
     let ws = s .args .words .now in
     let ps = patterns (s .args .count) ws in
-    four-tests (endsRight (readPatterns (s .args .count) ws)) (originsRise ps) (all (namesItsCone (records (s .args .cones .now))) ps) (orderingsRight ps) _ refl
+    four-tests (endsRight (readPatterns (s .args .count) ws)) (originsRiseFrom (s .args .least) ps) (all (namesItsCone (records (s .args .cones .now))) ps) (orderingsRight ps) _ refl
 
 ends : (c : tie.Else1) → let s = c .before .before .before .before in endsRight (readPatterns (s .args .count) (s .args .words .now)) ≡ true
 ends c = sym (c .before .patterns-end .ensures) ∙ not-false _ (c .if1 .left)

@@ -1,16 +1,15 @@
-use Prim.Native.Nat.{ℕ, suc, _+_, _-_, _≤_}
+use Prim.Native.Nat.{ℕ, suc, _+_, _-_}
 use mathlib.Core.Path.{_≡_, sym, ap, _∙_}
 use mathlib.Core.Bool.{true}
 use mathlib.Core.List.{List, map}
 use lib.ListN.{drop}
 use borrow.Author.Tests.{le-leb, lt-leb}
-use Rattle.layout.specs.Patterns.{Pattern, patterns, readPattern}
-use Rattle.layout.specs.Checks.{originsRise}
-use Rattle.layout.proofs.Tests.{and-true, and-false}
+use Rattle.layout.specs.Problems.Patterns.{Pattern, patterns, readPattern}
+use Rattle.layout.proofs.Lists.Tests.{and-true, and-false}
 use Rattle.supernode_tree.specs.Reads.{isWhole, patternAt, headOf}
 use Rattle.supernode_tree.proofs.Cliques.{head-of-whole, pattern-head}
 use Rattle.supernode_tree.proofs.Patterns.{patternsFrom, WholePatterns, patterns-whole, patterns-start, patterns-none, pattern-first, patterns-first, whole-later, patterns-next}
-use Rattle.sparsity_pattern.proofs.Sparsity.{risesFrom, rises-start}
+use Rattle.sparsity_pattern.specs.Sparsity.{risesFrom, originsRiseFrom}
 use native.Mathlib.Omega.{arith}
 use borrow.Author.Needs.{needs}
 use Rattle.sparsity_pattern.proofs.origins_rise.Statement.{statement}
@@ -20,12 +19,11 @@ abbrev origin : Pattern → ℕ
 origin p = p .origIndex
 
 abbrev Inv-loop : tie.InvT-loop
-Inv-loop count words least₀ at₀ left₀ least at left =
-    WholePatterns words at left × (originsRise (patterns count words) ≡ risesFrom least (map origin (patternsFrom words at left)))
-    × (least ≤ 4294967296)
+Inv-loop first count words least₀ at₀ left₀ least at left =
+    WholePatterns words at left × (originsRiseFrom first (patterns count words) ≡ risesFrom least (map origin (patternsFrom words at left)))
 
 abbrev μ-loop : tie.MeasureT-loop
-μ-loop count words least₀ at₀ left₀ least at left = left
+μ-loop first count words least₀ at₀ left₀ least at left = left
 
 -- a pattern is left, and its words are complete
 here-at : (c : tie.In-loop Inv-loop μ-loop) → isWhole (readPattern (drop (c .before .loop .at) (c .before .before .before .args .words .now))) ≡ true
@@ -43,11 +41,8 @@ origin-at c =
 loop-holds : tie.Need-loop-holds Inv-loop μ-loop
 loop-holds c =
     let s = c .before in
-    let ws = s .args .words .now in (
-      patterns-whole ws (s .args .count) (s .pre),
-      ap originsRise (patterns-start ws (s .args .count) (s .pre)) ∙ rises-start (map origin (patternsFrom ws 0 (s .args .count))),
-      omega arith,
-    )
+    let ws = s .args .words .now in
+    (patterns-whole ws (s .args .count) (s .pre), ap (originsRiseFrom (s .args .first)) (patterns-start ws (s .args .count) (s .pre)))
 
 here-requires : tie.Need-here-requires Inv-loop μ-loop
 here-requires c κs = head-of-whole (drop (c .before .loop .at) (c .before .before .before .args .words .now)) (here-at c)
@@ -91,7 +86,6 @@ loop-again c =
           ∙ ap (λ (ps : List Pattern). risesFrom least (map origin ps)) (patterns-next ws (l .loop .at) (l .loop .left) more (l .loop .inv .0) next (c .pattern-next .ensures))
           ∙ and-true _ _ (le-leb least o (omega (arith, origin-at h)))
           ∙ ap (λ (n : ℕ). risesFrom n (map origin (patternsFrom ws next (l .loop .left - 1)))) e,
-      omega (arith, c .before .before .struct-known .given),
     )
 
 returns-2 : tie.Need-returns-2 Inv-loop μ-loop

@@ -3,8 +3,8 @@ use mathlib.Core.Bool.{_&&_}
 use mathlib.Core.Path.{_≡_, sym, ap, _∙_}
 use lib.ListN.{take, drop}
 use borrow.Author.Tests.{not-true, not-false}
-use Rattle.layout.specs.Checks.{isPermutation}
-use Rattle.layout.proofs.Tests.{and-true, and-false}
+use Rattle.layout.specs.General.Lists.{isPermutation}
+use Rattle.layout.proofs.Lists.Tests.{and-true, and-false}
 use Rattle.supernode_tree.specs.Reads.{patternAt, headOf}
 use Rattle.supernode_tree.proofs.Cliques.{head-of-whole, pattern-head}
 use Rattle.supportedcone.specs.Ranges.{isPsdOf}

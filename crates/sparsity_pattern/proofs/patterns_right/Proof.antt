@@ -1,7 +1,7 @@
 use mathlib.Core.Path.{_≡_, sym, ap, _∙_}
 use borrow.Author.Tests.{not-true, not-false}
-use Rattle.layout.specs.Lists.{all}
-use Rattle.layout.specs.Patterns.{patterns}
+use Rattle.layout.specs.General.Lists.{all}
+use Rattle.layout.specs.Problems.Patterns.{patterns}
 use Rattle.sparsity_pattern.specs.Sparsity.{patternRight}
 use Rattle.supernode_tree.proofs.Patterns.{patternsFrom, WholePatterns, patterns-whole, patterns-start, patterns-none, pattern-first, whole-later, all-stops, all-goes}
 use borrow.Author.Needs.{needs}

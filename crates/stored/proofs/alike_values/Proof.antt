@@ -1,5 +1,5 @@
 use mathlib.Core.Path.{sym, _∙_}
-use Rattle.layout.proofs.Nans.{ne-self}
+use Rattle.layout.proofs.Floats.Nans.{ne-self}
 use Rattle.stored.proofs.alike_values.Statement.{statement}
 use Rattle.stored.proofs.alike_values.Tie as tie
 

@@ -6,7 +6,7 @@ use lib.Ieee.{nan}
 use borrow.Author.Tests.{not-true, not-false}
 use Rattle.stored.specs.Same.{alikeValues}
 use borrow.Author.Needs.{needs}
-use Rattle.layout.specs.Lists.{sameBy}
+use Rattle.layout.specs.General.Lists.{sameBy}
 use Rattle.stored.proofs.Fronts.{front-short, front-step, front-miss, front-done}
 use Rattle.stored.proofs.same_values.Statement.{statement}
 use Rattle.stored.proofs.same_values.Tie as tie

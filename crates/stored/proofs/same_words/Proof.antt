@@ -5,7 +5,7 @@ use lib.ListN.{length, take, drop}
 use lib.Dec.{eqb}
 use borrow.Author.Tests.{eq-eqb, ne-eqb}
 use borrow.Author.Needs.{needs}
-use Rattle.layout.specs.Lists.{sameBy}
+use Rattle.layout.specs.General.Lists.{sameBy}
 use Rattle.stored.proofs.Fronts.{front-short, front-step, front-miss, front-done}
 use Rattle.stored.proofs.same_words.Statement.{statement}
 use Rattle.stored.proofs.same_words.Tie as tie

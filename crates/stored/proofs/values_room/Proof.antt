@@ -6,9 +6,9 @@ use lib.ListN.{length, length-set}
 use lib.Ieee.{neg, ofBits}
 use lib.Seq.{length-take-le}
 use borrow.Author.Needs.{needs}
-use Rattle.layout.specs.Lists.{below, written}
+use Rattle.layout.specs.General.Lists.{below, written}
 use Rattle.stored.specs.Lists.{valueBefore}
-use Rattle.layout.proofs.Buffers.{mapped-more, mapped-done}
+use Rattle.layout.proofs.Lists.Buffers.{mapped-more, mapped-done}
 use Rattle.stored.proofs.Fronts.{front-least}
 use Rattle.stored.proofs.values_room.Statement.{statement}
 use Rattle.stored.proofs.values_room.Tie as tie

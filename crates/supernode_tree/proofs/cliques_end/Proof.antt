@@ -1,6 +1,6 @@
 use Rattle.supernode_tree.proofs.Many.{ended-short, ended-next, ended-none, not-whole}
 use Rattle.supernode_tree.specs.Reads.{ended}
-use Rattle.layout.specs.Patterns.{readClique, readCliques}
+use Rattle.layout.specs.Problems.Patterns.{readClique, readCliques}
 use lib.ListN.{drop}
 use borrow.Author.Tests.{not-true, not-false}
 use mathlib.Core.Path.{_≡_, refl, sym, ap, _∙_}

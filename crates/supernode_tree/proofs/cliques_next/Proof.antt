@@ -1,7 +1,7 @@
 use native.Mathlib.Omega.{arith}
 use mathlib.Core.Path.{_≡_, refl, sym, _∙_}
 use lib.ListN.{drop}
-use Rattle.layout.specs.Patterns.{readCliques}
+use Rattle.layout.specs.Problems.Patterns.{readCliques}
 use Rattle.supernode_tree.specs.Reads.{Whole, rest}
 use Rattle.supernode_tree.proofs.Cliques.{first-whole, whole-next, rest-next, rest-none}
 use Rattle.supernode_tree.proofs.cliques_next.Statement.{statement}

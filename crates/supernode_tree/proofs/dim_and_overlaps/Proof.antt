@@ -4,10 +4,10 @@ use mathlib.Core.Bool.{true}
 use mathlib.Core.List.{_∷_, map}
 use lib.ListN.{length}
 use lib.Dec.{leb→le}
-use Rattle.layout.specs.Lists.{all, sum}
-use Rattle.layout.specs.Triangle.{triangle}
-use Rattle.layout.specs.Patterns.{blockSize}
-use Rattle.layout.proofs.Tests.{passes}
+use Rattle.layout.specs.General.Lists.{all, sum}
+use Rattle.layout.specs.General.Triangle.{triangle}
+use Rattle.layout.specs.Problems.Patterns.{blockSize}
+use Rattle.layout.proofs.Lists.Tests.{passes}
 use Rattle.supernode_tree.specs.Reads.{Whole, cliquesFrom, cliqueOf}
 use Rattle.supernode_tree.proofs.Cliques.{first-whole, whole-next, from-next, from-none, separator-size, block-size}
 use Rattle.supernode_tree.specs.Sizes.{blockAtMost, dimOf, overlapsOf}

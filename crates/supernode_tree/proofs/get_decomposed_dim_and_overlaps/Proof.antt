@@ -1,7 +1,7 @@
 use mathlib.Core.Path.{_≡_, sym, ap, _∙_}
-use Rattle.layout.specs.Lists.{all}
-use Rattle.layout.specs.Patterns.{Pattern, withCliques}
-use Rattle.layout.specs.Blocks.{blockRows, overlapRows}
+use Rattle.layout.specs.General.Lists.{all}
+use Rattle.layout.specs.Problems.Patterns.{Pattern, withCliques}
+use Rattle.layout.specs.Rows.Blocks.{blockRows, overlapRows}
 use Rattle.supernode_tree.specs.Reads.{patternAt, headOf, Whole, cliquesFrom}
 use Rattle.supernode_tree.proofs.Cliques.{right-head, right-whole, pattern-whole}
 use Rattle.supernode_tree.specs.Sizes.{blockAtMost}

@@ -2,7 +2,7 @@ use native.Mathlib.Nat.{div-le-self, div-mul-le-self, lt-of-mul-lt-mul-right}
 use Prim.Native.Nat.{_+_, _-_, _*_, _/_, _≤_, _<_}
 use mathlib.Core.Path.{_≡_, sym, ap, _∙_}
 use lib.ListN.{length, getD, drop, List·getD-eq-default}
-use Rattle.layout.specs.Patterns.{noClique, members, readClique}
+use Rattle.layout.specs.Problems.Patterns.{noClique, members, readClique}
 use Rattle.supernode_tree.specs.Reads.{valueOr, cliquesFrom}
 use Rattle.supernode_tree.proofs.Many.{many-length}
 use Rattle.supernode_tree.proofs.Cliques.{first-whole, members-part}

@@ -2,7 +2,7 @@ use native.Mathlib.Omega.{arith}
 use Rattle.supernode_tree.proofs.Many.{ended-ends, ended-short, ended-next, ended-none}
 use Rattle.supernode_tree.proofs.Words.{ends-at}
 use Rattle.supernode_tree.specs.Reads.{endRead, ended}
-use Rattle.layout.specs.Patterns.{readPattern, readPatterns, endsRight}
+use Rattle.layout.specs.Problems.Patterns.{readPattern, readPatterns, endsRight}
 use lib.ListN.{drop}
 use mathlib.Core.Path.{_≡_, sym, ap, _∙_}
 use borrow.Author.Needs.{needs}

@@ -4,10 +4,10 @@ use Prim.Native.Nat.{ℕ, _+_, _-_, _≤_}
 use lib.Dec.{eqb}
 use lib.ListN.{length, take, drop}
 use borrow.Author.Tests.{ne-eqb}
-use Rattle.layout.specs.Lists.{sum}
+use Rattle.layout.specs.General.Lists.{sum}
 use Rattle.layout.specs.Checks.{noCone}
-use Rattle.layout.specs.Cones.{records, reads, alphaCount}
-use Rattle.layout.proofs.Buffers.{length-tail}
+use Rattle.layout.specs.Problems.Cones.{records, reads, alphaCount}
+use Rattle.layout.proofs.Lists.Buffers.{length-tail}
 use Rattle.supportedcone.specs.Cases.{told, recordAt}
 use Rattle.supportedcone.proofs.Steps.{total-more, total-done, total-le}
 use Rattle.supportedcone.proofs.Reading.{bad-with, is-with}

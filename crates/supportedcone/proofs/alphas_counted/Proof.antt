@@ -5,11 +5,11 @@ use lib.Dec.{eqb}
 use lib.Ieee.{nan}
 use lib.ListN.{length, take, length-replicate}
 use borrow.Author.Tests.{ne-eqb}
-use Rattle.layout.specs.Lists.{sum}
+use Rattle.layout.specs.General.Lists.{sum}
 use Rattle.layout.specs.Checks.{noCone}
-use Rattle.layout.specs.Cones.{records, reads, alphaCount}
-use Rattle.layout.specs.FileWords.{unvalued}
-use Rattle.layout.proofs.Tests.{differ}
+use Rattle.layout.specs.Problems.Cones.{records, reads, alphaCount}
+use Rattle.layout.specs.Files.FileWords.{unvalued}
+use Rattle.layout.proofs.Lists.Tests.{differ}
 use Rattle.supportedcone.specs.Cases.{told, recordAt}
 use Rattle.supportedcone.proofs.Steps.{total-more, total-done, total-le}
 use Rattle.supportedcone.proofs.Reading.{told-is, told-bad}

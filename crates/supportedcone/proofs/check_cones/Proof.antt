@@ -4,13 +4,13 @@ use Prim.Native.Nat.{ℕ, _*_, _-_, _≤_}
 use lib.Dec.{eqb}
 use lib.ListN.{length, take, drop}
 use borrow.Author.Tests.{eq-eqb, ne-eqb}
-use Rattle.layout.proofs.Records.{record-count}
-use Rattle.layout.specs.Lists.{all}
+use Rattle.layout.proofs.Patterns.Records.{record-count}
+use Rattle.layout.specs.General.Lists.{all}
 use Rattle.layout.specs.Checks.{noCone, sizesBounded, conesRead}
-use Rattle.layout.specs.Cones.{records, reads, rowCount}
+use Rattle.layout.specs.Problems.Cones.{records, reads, rowCount}
 use Rattle.supportedcone.specs.Ranges.{rowTotal}
 use Rattle.supportedcone.specs.Cases.{told, recordOf, recordAt}
-use Rattle.layout.proofs.Walks.{all-step, all-fails, all-done}
+use Rattle.layout.proofs.Lists.Walks.{all-step, all-fails, all-done}
 use Rattle.supportedcone.proofs.Steps.{total-more, total-done}
 use Rattle.supportedcone.proofs.Bounds.{rows-bounded}
 use Rattle.supportedcone.proofs.Reading.{told-is, told-bad}

@@ -1,7 +1,7 @@
 use mathlib.Core.Path.{sym, ap, _∙_}
 use Prim.Native.Nat.{_+_, _*_, _≤_}
 use lib.ListN.{length}
-use Rattle.layout.specs.Cones.{Cone}
+use Rattle.layout.specs.Problems.Cones.{Cone}
 use Rattle.supportedcone.specs.Cases.{readsAs}
 use Rattle.supportedcone.proofs.Records.{inside, record-in, record-out}
 use native.Mathlib.Omega.{arith}

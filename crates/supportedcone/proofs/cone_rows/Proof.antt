@@ -1,6 +1,6 @@
 use mathlib.Core.Path.{_≡_, sym, ap, _∙_}
 use Rattle.layout.specs.Checks.{sizesBounded}
-use Rattle.layout.specs.Cones.{rowCount}
+use Rattle.layout.specs.Problems.Cones.{rowCount}
 use Rattle.supportedcone.specs.Cases.{told, recordOf, recordAt}
 use Rattle.supportedcone.proofs.Reading.{told-is, told-bad}
 use Rattle.supportedcone.proofs.Records.{bounded-at, unread-rows}

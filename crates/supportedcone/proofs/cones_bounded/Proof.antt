@@ -2,11 +2,11 @@ use mathlib.Core.Path.{_≡_, sym, ap, _∙_}
 use Prim.Native.Nat.{_+_, _*_, _-_, _≤_}
 use lib.ListN.{length, drop}
 use borrow.Author.Tests.{le-leb, lt-leb, not-true, not-false}
-use Rattle.layout.specs.Lists.{all}
+use Rattle.layout.specs.General.Lists.{all}
 use Rattle.layout.specs.Checks.{noCone, sizesBounded, conesBounded}
-use Rattle.layout.specs.Cones.{records}
+use Rattle.layout.specs.Problems.Cones.{records}
 use Rattle.supportedcone.specs.Cases.{recordAt}
-use Rattle.layout.proofs.Walks.{all-step, all-fails, all-done}
+use Rattle.layout.proofs.Lists.Walks.{all-step, all-fails, all-done}
 use Rattle.supportedcone.proofs.Records.{inside, record-in}
 use native.Mathlib.Omega.{arith}
 use borrow.Author.Needs.{needs}

@@ -4,7 +4,7 @@ use lib.ListN.{length, getD}
 use mathlib.Core.Path.{sym, ap, _∙_}
 use Prim.Native.Nat.{_+_, _*_, _≤_}
 use borrow.Author.Tests.{le-ltb, eq-eqb, ne-eqb}
-use Rattle.layout.specs.Cones.{records}
+use Rattle.layout.specs.Problems.Cones.{records}
 use Rattle.supportedcone.proofs.Records.{inside, psd-in}
 use native.Mathlib.Omega.{arith}
 use borrow.Author.Needs.{needs}

@@ -2,9 +2,9 @@ use mathlib.Core.Path.{_≡_, sym, ap, _∙_}
 use mathlib.Core.Logic.{⊎-elim}
 use lib.Ieee.{nan, ofBits}
 use lib.ListN.{getD, List·getD-eq-default}
-use Rattle.layout.proofs.Members.{getD-default}
-use Rattle.layout.specs.Problem.{zero64}
-use Rattle.layout.specs.Cones.{alphaCount}
+use Rattle.layout.proofs.Lists.Members.{getD-default}
+use Rattle.layout.specs.General.Floats.{zero64}
+use Rattle.layout.specs.Problems.Cones.{alphaCount}
 use Rattle.supportedcone.specs.declared.ReadCone.the-variants.{Is}
 use Rattle.supportedcone.specs.Cases.{told, recordAt, readsAs}
 use Rattle.supportedcone.proofs.Reading.{told-is, told-bad, unread-with, too-few, enough}

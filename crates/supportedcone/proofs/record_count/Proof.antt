@@ -1,4 +1,4 @@
-use Rattle.layout.proofs.Records.{record-count}
+use Rattle.layout.proofs.Patterns.Records.{record-count}
 use native.Mathlib.Omega.{arith}
 use Rattle.supportedcone.proofs.record_count.Statement.{statement}
 use Rattle.supportedcone.proofs.record_count.Tie as tie

@@ -1,6 +1,6 @@
 use mathlib.Core.Path.{sym, _∙_}
 use borrow.Author.Needs.{needs}
-use Rattle.layout.proofs.Nans.{ne-self}
+use Rattle.layout.proofs.Floats.Nans.{ne-self}
 use Rattle.test_load.proofs.bits.Statement.{statement}
 use Rattle.test_load.proofs.bits.Tie as tie
 

@@ -1,5 +1,5 @@
-use Rattle.layout.proofs.Buffers.{fill-more, filled}
-use Rattle.layout.specs.Lists.{written}
+use Rattle.layout.proofs.Lists.Buffers.{fill-more, filled}
+use Rattle.layout.specs.General.Lists.{written}
 use lib.ListN.{length, replicate, length-set}
 use Prim.Native.Nat.{_-_, _≤_}
 use mathlib.Core.Path.{_≡_, _∙_}

@@ -1,7 +1,7 @@
 use Rattle.utils.proofs.Windows.{marked-out, marked-in, skip-more, new-more, old-more, within-before, within-after, within-in, take-more, split-more, take-none}
-use Rattle.layout.proofs.Tests.{passed, differ}
+use Rattle.layout.proofs.Lists.Tests.{passed, differ}
 use Rattle.utils.specs.Windows.{within, Marked}
-use Rattle.layout.specs.Lists.{has, keep, distinct}
+use Rattle.layout.specs.General.Lists.{has, keep, distinct}
 use lib.Seq.{take-all}
 use lib.ListN.{length, take, drop, getD, length-set}
 use lib.Dec.{T}

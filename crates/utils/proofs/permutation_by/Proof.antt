@@ -1,6 +1,6 @@
 use Rattle.utils.proofs.Windows.{marked-none, window-none, window-more, repeats-within, windows-all}
-use Rattle.layout.proofs.Tests.{passes, and-true, and-false, and-right}
-use Rattle.layout.specs.Lists.{all, keep, distinct}
+use Rattle.layout.proofs.Lists.Tests.{passes, and-true, and-false, and-right}
+use Rattle.layout.specs.General.Lists.{all, keep, distinct}
 use Rattle.utils.specs.Windows.{within}
 use mathlib.Core.List.{[]}
 use lib.ListN.{length}

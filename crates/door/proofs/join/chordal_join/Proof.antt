@@ -1,4 +1,4 @@
--- `door::chordal_join` returns and writes what `decomp_reverse::join` does: each fact is the callee's.
+-- `door::chordal_join` returns and writes what `join_on_route::join` does: each fact is the callee's.
 use Rattle.door.proofs.join.chordal_join.Statement.{statement}
 use Rattle.door.proofs.join.chordal_join.Tie as tie
 

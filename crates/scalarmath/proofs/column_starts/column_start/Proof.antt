@@ -4,9 +4,9 @@ use mathlib.Core.Path.{_≡_, refl, ap, _∙_}
 use mathlib.Core.List.{List, map}
 use borrow.Author.Needs.{needs}
 use lib.ListN.{getD}
-use Rattle.layout.specs.Lists.{below}
-use Rattle.layout.specs.Triangle.{triangle}
-use Rattle.layout.proofs.Members.{getD-map, length-below, getD-below}
+use Rattle.layout.specs.General.Lists.{below}
+use Rattle.layout.specs.General.Triangle.{triangle}
+use Rattle.layout.proofs.Lists.Members.{getD-map, length-below, getD-below}
 use Rattle.scalarmath.proofs.column_starts.column_start.Statement.{statement}
 use Rattle.scalarmath.proofs.column_starts.column_start.Tie as tie
 

@@ -7,7 +7,7 @@ use types.Run.{OneOf}
 use denote.Enum.Declared.{tagOf}
 use native.Mathlib.Omega.{arith}
 use borrow.Author.Needs.{needs}
-use Rattle.layout.specs.Cones.{alphaCount}
+use Rattle.layout.specs.Problems.Cones.{alphaCount}
 use Rattle.supportedcone.specs.declared.SupportedCone.{SupportedCone}
 use Rattle.supportedcone.specs.declared.SupportedCone.the-variants.{ZeroConeT, NonnegativeConeT, SecondOrderConeT, ExponentialConeT, PowerConeT, GenPowerConeT, PSDTriangleConeT}
 use Rattle.supportedcone.specs.Cases.{recordOf}

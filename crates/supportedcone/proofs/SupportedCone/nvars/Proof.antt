@@ -2,7 +2,7 @@ use Rattle.supportedcone.proofs.Bounds.{first-bounded, second-bounded, 
 use Rattle.supportedcone.specs.Cases.{recordOf}
 use Rattle.supportedcone.specs.declared.SupportedCone.{SupportedCone}
 use Rattle.supportedcone.specs.declared.SupportedCone.the-variants.{GenPowerConeT}
-use Rattle.layout.specs.Cones.{rowCount}
+use Rattle.layout.specs.Problems.Cones.{rowCount}
 use Rattle.layout.specs.Checks.{sizesBounded}
 use Prim.Native.Nat.{_+_, _*_, _≤_}
 use native.Mathlib.Nat.{mul-le-mul}

@@ -1,0 +1,4 @@
+pub mod Order
+pub mod Checked
+pub mod Counts
+pub mod Left

@@ -1,3 +1,0 @@
-pub mod Order
-pub mod Checked
-pub mod Counts

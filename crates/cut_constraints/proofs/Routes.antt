@@ -1,0 +1,42 @@
+-- A route given by its number: the preconditions and results of the writers on each.
+use Prim.Native.Nat.{ℕ, suc, _+_, _≤_}
+use native.Mathlib.Omega.{arith}
+use mathlib.Core.Path.{_≡_, refl, sym, ap, subst, _∙_}
+use mathlib.Core.List.{List}
+use lib.ListN.{length}
+use Rattle.layout.specs.General.Lists.{written}
+use Rattle.layout.specs.Problems.Problem.{Problem, Route, compact}
+use Rattle.layout.specs.Rows.Blocks.{Part, blockRowCount}
+use Rattle.layout.specs.Checks.{layout}
+use Rattle.layout.specs.Calls.Cut.{augmented, Constrained, constrainedOf, HoldsConstrained}
+use Rattle.layout.specs.Calls.Join.{addedCount}
+use Rattle.augment_standard.specs.Constraints.{Accepted}
+use Rattle.cut_standard.specs.Fits.{ConstrainedFits}
+use Rattle.cut_compact.proofs.Laws.{few-rows}
+
+-- the number of columns that a route adds
+pub added-on : (ps : List Part) {route other : Route} → route ≡ other → addedCount other ps ≡ addedCount route ps
+added-on ps e = ap (λ (r : Route). addedCount r ps) (sym e)
+
+-- a precondition for a route holds for an equal one
+pub fits-on : {p : Problem} {k : ℕ} {out : Constrained} {route other : Route} → route ≡ other → ConstrainedFits route p k out → ConstrainedFits other p k out
+fits-on {p} {k} {out} e h = subst (λ (r : Route). ConstrainedFits r p k out) e h
+
+module _ (p : Problem) {route other : Route} (e : route ≡ other) where
+  -- on the compact route there are at most 262144 block rows
+  pub few-on : {k : ℕ} {out : Constrained} → other ≡ compact → ConstrainedFits route p k out → blockRowCount (layout p) ≤ 262144
+  few-on c h = few-rows (subst (λ (r : Route). Accepted r p) (e ∙ c) (h .accepted)) refl
+
+  -- the map output is long enough, and what was written
+  pub map-fits-on : (room : ℕ) → length (augmented route p .map) ≤ room → length (augmented other p .map) ≤ room
+  map-fits-on room h = subst (λ (r : Route). length (augmented r p .map) ≤ room) e h
+
+  pub constrained-on : {before after : Constrained} → HoldsConstrained 0 (constrainedOf (augmented other p)) before after → HoldsConstrained 0 (constrainedOf (augmented route p)) before after
+  constrained-on {before} {after} h = subst (λ (r : Route). HoldsConstrained 0 (constrainedOf (augmented r p)) before after) (sym e) h
+
+  pub map-on : {after : List ℕ} (before : List ℕ) → after ≡ written (augmented other p .map) before → after ≡ written (augmented route p .map) before
+  map-on {after} before h = subst (λ (r : Route). after ≡ written (augmented r p .map) before) (sym e) h
+
+-- the outputs are long enough for the starts
+pub room-starts : (n k : ℕ) {room : ℕ} → suc (n + k) ≤ room → suc n + k ≤ room
+room-starts n k r = omega arith

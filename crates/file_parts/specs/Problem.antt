@@ -1,9 +1,0 @@
--- The part of a file's problem that decides its cut. Definitions only.
-use Rattle.layout.specs.Problem.{Problem}
-use Rattle.layout.specs.File.{BitTables, floats}
-use Rattle.augment_standard.specs.Constraints.{constraints}
-
--- the constraints of the file's problem: they decide A, b and the cones of the compact problem
-abbrev pub constraintsOf : BitTables → Problem
-constraintsOf t =
-    constraints (t .n) (t .m) (t .aStarts) (t .aRows) (floats (t .aValues)) (floats (t .b)) (t .cones) (t .patternCount) (t .patternWords)

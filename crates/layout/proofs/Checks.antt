@@ -1,0 +1,4 @@
+pub mod Order
+pub mod Accepted
+pub mod Routes
+pub mod Rooms

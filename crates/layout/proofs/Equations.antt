@@ -1,0 +1,9 @@
+pub mod Added
+pub mod Links
+pub mod Solve
+pub mod Elimination
+pub mod RowSums
+pub mod Slacks
+pub mod Totals
+pub mod RowTerms
+pub mod BlockSums

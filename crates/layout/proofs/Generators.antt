@@ -1,0 +1,4 @@
+pub mod Orderings
+pub mod Band
+pub mod BandRows
+pub mod Drawn

@@ -1,0 +1,10 @@
+pub mod Tests
+pub mod Members
+pub mod Distinct
+pub mod Rising
+pub mod Joins
+pub mod Starts
+pub mod Counting
+pub mod Walks
+pub mod Keeps
+pub mod Buffers

@@ -1,0 +1,5 @@
+pub mod Integers
+pub mod Sums
+pub mod OnRow
+pub mod Bytes
+pub mod Triangles

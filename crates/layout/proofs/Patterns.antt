@@ -1,0 +1,10 @@
+pub mod Reading
+pub mod PatternWords
+pub mod Records
+pub mod WordCounts
+pub mod Tree
+pub mod Subtree
+pub mod Owners
+pub mod Originals
+pub mod Cliques
+pub mod Pairs

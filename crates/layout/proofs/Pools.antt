@@ -1,0 +1,3 @@
+pub mod Pool
+pub mod PoolChecks
+pub mod PoolTables

@@ -1,0 +1,10 @@
+pub mod Demand3
+pub mod SameLayout
+pub mod ChangeRoute
+pub mod BothRoutes
+pub mod Between
+pub mod Sides
+pub mod PoolCuts
+pub mod Generated
+pub mod File
+pub mod Program

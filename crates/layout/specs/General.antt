@@ -1,0 +1,4 @@
+pub mod Lists
+pub mod Bytes
+pub mod Floats
+pub mod Triangle

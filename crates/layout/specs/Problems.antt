@@ -1,0 +1,4 @@
+pub mod Problem
+pub mod Cones
+pub mod Patterns
+pub mod CliqueTree

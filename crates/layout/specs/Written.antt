@@ -1,0 +1,5 @@
+pub mod SameWritten
+pub mod BetweenWritten
+pub mod SidesWritten
+pub mod PoolWritten
+pub mod FileWritten
