@@ -67,7 +67,7 @@ column-from es r (x ∷ R) h =
     ∙ sym (join-later (λ i. moved (getD (map cutCode (x ∷ R)) i 0) (r + i) es) (λ i. moved (getD (map cutCode R) i 0) (suc r + i) es) 0 (length R)
     (λ i. let e : r + suc i ≡ suc r + i = omega arith in ap (λ (k : ℕ). moved (getD (map cutCode R) i 0) k es) e)))
 
-pub column-coded : (es : List Entry) (R : List Row) → Originals es → augmentedColumn es 0 R ≡ codedColumn (map cutCode R) es
+column-coded : (es : List Entry) (R : List Row) → Originals es → augmentedColumn es 0 R ≡ codedColumn (map cutCode R) es
 column-coded es R h =
     column-from es 0 R h
     ∙ join-same (λ i. moved (getD (map cutCode R) i 0) (0 + i) es) (λ i. moved (getD (map cutCode R) i 0) i es) (below (length R))

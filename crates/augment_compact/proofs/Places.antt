@@ -32,7 +32,7 @@ choice-length : (b : Bool) (t : List ℕ) (c r : ℕ) → length (cond b (set t 
 choice-length true t c r = length-set t c r
 choice-length false t c r = refl
 
-pub length-placed : (r : ℕ) (cs t : List ℕ) → length (rowTable r cs t) ≡ length t
+length-placed : (r : ℕ) (cs t : List ℕ) → length (rowTable r cs t) ≡ length t
 length-placed r [] t = refl
 length-placed r (c ∷ cs) t =
     length-placed (suc r) cs (cond (ltb c 65536) (set t c r) t) ∙ choice-length (ltb c 65536) t c r
@@ -94,7 +94,7 @@ module _ (m : ℕ) (few : m ≤ 65536) (R : List Row) (right : RightRows 0 0 m R
       let ms = moved-small (rowAt R s) (omega (arith, es, e, small)) in
       right .once s r ls lr ms mr (sym (code-moved (rowAt R s) ms) ∙ sym es ∙ e ∙ er ∙ code-moved (rowAt R r) mr)
 
-  pub places-own : (t : List ℕ) → m ≤ length t → (r : ℕ) → r < length (map cutCode R) → getD (map cutCode R) r 0 < 65536
+  places-own : (t : List ℕ) → m ≤ length t → (r : ℕ) → r < length (map cutCode R) → getD (map cutCode R) r 0 < 65536
       → getD (rowTable 0 (map cutCode R) t) (getD (map cutCode R) r 0) 0 ≡ r
   places-own t b r l s =
       placed-here 0 codes t r l s (rows-inside (length t) R (λ j k. omega (arith, right .inside j k .1)) r l s) (λ j k e. code-once r j l k e s) ∙ zero-add r
@@ -105,7 +105,7 @@ module _ (m : ℕ) (few : m ≤ 65536) (R : List Row) (right : RightRows 0 0 m R
   code-small r l (owned o) e i = omega arith
   code-small r l (overlap o q) e i = let (s, k, f, g) = right .tied r o q l e in omega arith
 
-  pub codes-small : (r : ℕ) → r < length (map cutCode R) → getD (map cutCode R) r 0 < 65536 + length R
+  codes-small : (r : ℕ) → r < length (map cutCode R) → getD (map cutCode R) r 0 < 65536 + length R
   codes-small r l =
       let k : r < length R = omega (arith, size) in
       rw (code-at r k) (code-small r k (rowAt R r) refl (right .inside r k .1))
@@ -118,7 +118,7 @@ module _ (m : ℕ) (few : m ≤ 65536) (R : List Row) (right : RightRows 0 0 m R
       let ls : s < length R = omega arith in
       (s, omega (arith, size), code-at s ls ∙ code-moved (rowAt R s) moves ∙ f ∙ sym e)
 
-  pub rows-placing : (t rows : List ℕ) → m ≤ length t → length R ≤ 262144 → length rows ≤ 262144 → Below m rows
+  rows-placing : (t rows : List ℕ) → m ≤ length t → length R ≤ 262144 → length rows ≤ 262144 → Below m rows
       → ((k : ℕ) → k < length rows → T (has (getD rows k 0) (map originalRow R))) → Placing (map cutCode R) (rowTable 0 (map cutCode R) t) rows
   rows-placing t rows b few-rows short known covered = record {
     few = omega (arith, size);

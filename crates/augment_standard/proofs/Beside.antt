@@ -29,7 +29,7 @@ columns-values : (r : ℕ) (os : List ℕ) → csc (blockColumns r os) .values �
 columns-values r [] = refl
 columns-values r (o ∷ os) = ap (λ (l : List Float). one64 ∷ minusOne64 ∷ l) (columns-values (suc r) os)
 
-pub beside-columns : (n : ℕ) (A : Csc) → T (startsRight n A) → (m : ℕ) (os : List ℕ)
+beside-columns : (n : ℕ) (A : Csc) → T (startsRight n A) → (m : ℕ) (os : List ℕ)
     → besideH A m os ≡ csc (map (column A) (below n) ++ blockColumns m os)
 beside-columns n A h m os = sym (λ i. record { starts = starts i; rows = rows i; values = values i })
   where

@@ -52,7 +52,7 @@ mark-one marks o r h = go (eqb r o) refl
         getD-set-other marks o r true false (λ same. differ (eqb r o) (eq-eqb r o same) e)
         ∙ sym (ap (λ (b : Bool). getD marks r false || b) e ∙ or-false (getD marks r false))
 
-pub marked-at : (os : List ℕ) (marks : List Bool) (r : ℕ) → r < length marks
+marked-at : (os : List ℕ) (marks : List Bool) (r : ℕ) → r < length marks
     → getD (marked true os marks) r false ≡ (getD marks r false || has r os)
 unfolding marked
 marked-at [] marks r h = sym (or-false (getD marks r false))
@@ -61,7 +61,7 @@ marked-at (o ∷ os) marks r h =
     ∙ rw (mark-one marks o r h) (or-assoc (getD marks r false) (eqb r o) (has r os))
 
 -- in a table that was all false, the marked rows are exactly the given rows
-pub cleared-at : (n : ℕ) (os : List ℕ) (r : ℕ) → r < n → getD (marked true os (replicate n false)) r false ≡ has r os
+cleared-at : (n : ℕ) (os : List ℕ) (r : ℕ) → r < n → getD (marked true os (replicate n false)) r false ≡ has r os
 cleared-at n os r h =
     marked-at os (replicate n false) r (omega (arith, length-replicate {A = Bool} n false))
     ∙ ap (λ (b : Bool). b || has r os) (getD-replicate n r false false h)

@@ -63,7 +63,7 @@ abbrev made : ℕ → ℕ → ℕ → ℕ → ℕ → PatternAt
 made o v k a c = record { «orig_index» = o; «vertex_count» = v; «clique_count» = k; ordering = a; cliques = c }
 
 -- two patterns read at one offset with the same head are equal
-pub same-pattern : (ws : List ℕ) (at : ℕ) (p r : PatternAt) → patternRead ws (FoundPattern p) ≡ patternRead ws (FoundPattern r)
+same-pattern : (ws : List ℕ) (at : ℕ) (p r : PatternAt) → patternRead ws (FoundPattern p) ≡ patternRead ws (FoundPattern r)
     → PatternInside (length ws) at (FoundPattern p) → PatternInside (length ws) at (FoundPattern r) → p ≡ r
 same-pattern ws at p r e f g =
     let h : headOf ws p ≡ headOf ws r = ap (valueOr noHead) e in
@@ -216,7 +216,7 @@ module _ (cones : List ℕ) (least : ℕ) (l : List ℕ) (h : Head) (left : List
   stands-whole : isWhole (readPattern l) ≡ true
   stands-whole = and-parts (isWhole (readPattern l)) _ t .0
 
-  pub cliques-whole : isWhole (readCliques (h .cliqueCount) left) ≡ true
+  cliques-whole : isWhole (readCliques (h .cliqueCount) left) ≡ true
   cliques-whole = cliques-of-whole l h left e stands-whole
 
   is-made : valueOr noPattern (readPattern l) ≡ withCliques h itsCliques
@@ -226,7 +226,7 @@ module _ (cones : List ℕ) (least : ℕ) (l : List ℕ) (h : Head) (left : List
       go (read cs end) w = refl
       go short w = absurd (differ false w refl)
 
-  pub opened : Opened cones least h itsCliques
+  opened : Opened cones least h itsCliques
   opened =
       let p = withCliques h itsCliques in
       let tests : (leb least (p .origIndex) && (patternRight cones p && (treeRight p && cliquesRight p))) ≡ true =
@@ -243,7 +243,7 @@ module _ (cones : List ℕ) (least : ℕ) (l : List ℕ) (h : Head) (left : List
       record { rises = rises; psd = psd; ordering = ordering; tree-whole = tree; some = some; tree = from; snodes = snodes; separators = separators }
 
   module _ (b : conesBounded cones ≡ true) where
-    pub holds-vertices : verticesRight cones least (readHead l) ≡ true
+    holds-vertices : verticesRight cones least (readHead l) ≡ true
     holds-vertices =
         let o = opened in
         let (counts, permutation) = and-parts (all filled itsCliques && eqb (length (snodesOf itsCliques)) (h .vertexCount)) (isPermutation (snodesOf itsCliques)) (o .snodes) in

@@ -59,7 +59,7 @@ module _ {A : Type 0} (one : List ℕ → Read A) where
           ap (λ (r : Read (List A)). andThen r (λ more end. read (a ∷ more) end)) (others left) ∙ second a (readMany one c left)
       go short others = refl
 
-  pub many-last : (c : ℕ) (ws left end : List ℕ) (front : List A) (a : A) → readMany one c ws ≡ read front left → one left ≡ read a end
+  many-last : (c : ℕ) (ws left end : List ℕ) (front : List A) (a : A) → readMany one c ws ≡ read front left → one left ≡ read a end
       → readMany one (c + 1) ws ≡ read (front ++ (a ∷ [])) end
   unfolding last
   many-last c ws left end front a e f = rw add-one (many-suc c ws ∙ ap (λ (r : Read (List A)). andThen r last) e ∙ ap (λ (r : Read A). andThen r (λ a end. read (front ++ (a ∷ [])) end)) f)
@@ -104,7 +104,7 @@ pub record Later (k n c : ℕ) (met : List ℕ) (r : Read (List Clique)) : Type 
   pub many : length met + length (snodesOf (valueOr [] r)) ≡ n
   pub once : onceBelow n (met ++ snodesOf (valueOr [] r)) ≡ true
 
-pub later-start : (k n : ℕ) (r : Read (List Clique)) → snodesRight k n r ≡ true → Later k n 0 [] r
+later-start : (k n : ℕ) (r : Read (List Clique)) → snodesRight k n r ≡ true → Later k n 0 [] r
 later-start k n r h =
     let cs = valueOr [] r in
     let (stand, others) = and-parts (isWhole r) (treeFrom k 0 cs && snodesOk n cs) h in
@@ -143,13 +143,13 @@ module _ (ws : List ℕ) (k n c at left : ℕ) (met : List ℕ) (more : 0 < left
   once-opened = sym (ap (onceBelow n) snodes-opened) ∙ h .once
 
   -- the first of the cliques left passes
-  pub later-first : (cliqueRight k c (readClique (drop at ws)) && onceBelow n (met ++ cliqueHere ws at .snode)) ≡ true
+  later-first : (cliqueRight k c (readClique (drop at ws)) && onceBelow n (met ++ cliqueHere ws at .snode)) ≡ true
   later-first =
       let right : cliqueRight k c (readClique (drop at ws)) ≡ true = ap (cliqueRight k c) first-read ∙ rw (fulls .0, trees .0) in
       rw (right, once-front n (met ++ cliqueHere ws at .snode) (snodesOf (valueOr [] others)) once-opened)
 
   -- the cliques after the first pass
-  pub later-next : (next : ℕ) (us : List ℕ) → rest (readClique (drop at ws)) ≡ drop next ws → cliqueHere ws at .snode ≡ us
+  later-next : (next : ℕ) (us : List ℕ) → rest (readClique (drop at ws)) ≡ drop next ws → cliqueHere ws at .snode ≡ us
       → Later k n (c + 1) (met ++ us) (readCliques (left - 1) (drop next ws))
   later-next next us e f =
       subst (λ (vs : List ℕ). Later k n (c + 1) (met ++ vs) (readCliques (left - 1) (drop next ws))) f

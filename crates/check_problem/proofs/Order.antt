@@ -40,7 +40,7 @@ alphas-apart p x = go (conesRead (p .m) (p .cones)) (alphasAsMany (p .cones) (p 
     go true false true true = refl
 
 -- checks 1 to 7 in their groups
-pub in-groups : (p : Problem)
+in-groups : (p : Problem)
     → problemRefusal p
     ≡ orElse (tablesRefusal (p .n) (p .m) (p .P) (p .q) (p .A) (p .b) (p .cones))
     (orElse (cond (alphasAsMany (p .cones) (p .alphas)) 0 4) (patternsRefusal (p .cones) (p .patternCount) (p .patternWords)))
@@ -96,7 +96,7 @@ refused true k h = absurd (h refl)
 refused false k h = refl
 
 -- a test whose number is 0 passed
-pub not-refused : (b : Bool) (k : ℕ) → cond b 0 (suc k) ≡ 0 → b ≡ true
+not-refused : (b : Bool) (k : ℕ) → cond b 0 (suc k) ≡ 0 → b ≡ true
 not-refused true k e = refl
 not-refused false k e = absurd (omega arith)
 

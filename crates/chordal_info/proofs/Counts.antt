@@ -50,7 +50,7 @@ cones-few row (whole i c r ∷ ps) h = omega (arith, cones-few (row + rowCount c
 cones-few row (cut i r k p ∷ ps) h =
     omega (arith, clique-rows (p .cliques) (cliques-right p (h .1 .cliques) .nonempty), cones-few (row + triangle (p .vertexCount)) ps (h .2))
 
-pub sound-cones : {m : ℕ} {cones : List ℕ} {count : ℕ} {words : List ℕ} → Sound m cones count words
+sound-cones : {m : ℕ} {cones : List ℕ} {count : ℕ} {words : List ℕ} → Sound m cones count words
     → let ps = parts (records cones) (patterns count words) in coneCount ps ≤ 1024 + blockRowCount ps
 sound-cones {m} {cones} {count} {words} h =
     let ps = parts (records cones) (patterns count words) in

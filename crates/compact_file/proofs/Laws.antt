@@ -56,7 +56,7 @@ orElse-nothing (suc r) = refl
 pub sized-number : (q : Problem) {after : List ℕ} {r : ℕ} → Sizes 1 q (replicate 11 0) after r → r ≡ refusal compact q
 sized-number q h = h .number ∙ orElse-nothing (refusal compact q)
 
-pub sized-lengths : (q : Problem) {after : List ℕ} {r : ℕ} → Sizes 1 q (replicate 11 0) after r → r ≡ 0 → set after 10 0 ≡ take 10 (sizes compact q) ++ (0 ∷ [])
+sized-lengths : (q : Problem) {after : List ℕ} {r : ℕ} → Sizes 1 q (replicate 11 0) after r → r ≡ 0 → set after 10 0 ≡ take 10 (sizes compact q) ++ (0 ∷ [])
 sized-lengths q h z = ap (λ (l : List ℕ). set l 10 0) (h .out ∙ ap (λ (k : ℕ). output k (sizes compact q) (replicate 11 0)) z)
 
 -- the end of the compact file, from the sizes

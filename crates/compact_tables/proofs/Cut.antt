@@ -51,22 +51,22 @@ module _ (t : BitTables) (lengths : List ℕ) (w : Writes t lengths) where
   pub columns-is : getD lengths 3 0 ≡ t .n + overlapCount (layout (problemOf t))
   columns-is = given 3 ∙ ap (λ (l : List ℕ). getD l 3 0) (compact-sizes p ok)
 
-  pub starts-is : suc (getD lengths 3 0) ≡ length (augmented compact (problemOf t) .A .starts)
+  starts-is : suc (getD lengths 3 0) ≡ length (augmented compact (problemOf t) .A .starts)
   starts-is = ap suc columns-is ∙ sym (ap (λ (l : List ℕ). getD l 4 0) (compact-sizes p ok))
 
-  pub entries-is : getD lengths 5 0 ≡ length (augmented compact (problemOf t) .A .rows)
+  entries-is : getD lengths 5 0 ≡ length (augmented compact (problemOf t) .A .rows)
   entries-is = given 5
 
-  pub values-is : getD lengths 5 0 ≡ length (augmented compact (problemOf t) .A .values)
+  values-is : getD lengths 5 0 ≡ length (augmented compact (problemOf t) .A .values)
   values-is = given 5 ∙ ap (λ (l : List ℕ). getD l 5 0) (compact-sizes p ok) ∙ sym (ap (λ (l : List ℕ). getD l 6 0) (compact-sizes p ok))
 
-  pub side-is : getD lengths 7 0 ≡ length (augmented compact (problemOf t) .b)
+  side-is : getD lengths 7 0 ≡ length (augmented compact (problemOf t) .b)
   side-is = given 7
 
   pub rows-is : getD lengths 7 0 ≡ blockRowCount (layout (problemOf t))
   rows-is = given 7 ∙ ap (λ (l : List ℕ). getD l 7 0) (compact-sizes p ok)
 
-  pub cones-is : getD lengths 8 0 ≡ length (augmented compact (problemOf t) .cones)
+  cones-is : getD lengths 8 0 ≡ length (augmented compact (problemOf t) .cones)
   cones-is = given 8
 
   -- the buffers are long enough for these lengths

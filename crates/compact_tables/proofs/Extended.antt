@@ -9,9 +9,9 @@ use lib.ListN.{length, getD, take, replicate, length-append, length-replicate}
 use lib.Dec.{lit<}
 use Rattle.layout.specs.General.Lists.{written}
 use Rattle.layout.specs.Calls.Answers.{orElse, roomRefusal, output, problemRefusal}
-use Rattle.layout.specs.Files.File.{bitTables, BitTables, problemOf, fileOf, writeRefusal}
+use Rattle.layout.specs.Files.File.{bitTables, BitTables, problemOf, fileOf}
 use Rattle.layout.specs.Files.FileWords.{pairsOf, wordsAt, wordTables}
-use Rattle.layout.specs.Calls.WriteFile.{WriteFile}
+use Rattle.layout.specs.Calls.WriteFile.{WriteFile, writeRefusal}
 use Rattle.layout.proofs.Lists.Buffers.{take-none}
 use Rattle.layout.proofs.Files.FileWalks.{length-words-at, length-pairs}
 use Rattle.file_shape.specs.Parts.{WellShaped}

@@ -33,7 +33,7 @@ columns-inside n M h =
     (le-of-eq (sym (right .count)), λ c l. (right .rise c l, right .inside (suc c) l))
 
 module _ (n : ℕ) (M : Csc) (right : RightStarts n M) where
-  pub own-count : sum (map length (map (column M) (below n))) ≡ length (M .values)
+  own-count : sum (map length (map (column M) (below n))) ≡ length (M .values)
   own-count = ap sum (map-map length (column M) (below n)) ∙ columns-sum n M right n (le-refl n) ∙ right .last ∙ right .even
 
   -- the starts of the matrix with columns ds after its own

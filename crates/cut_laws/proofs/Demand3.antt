@@ -18,7 +18,7 @@ use Rattle.layout.proofs.Columns.Sizes.{compact-sizes}
 use Rattle.layout.proofs.Promises.{taken}
 use Rattle.cut_laws.specs.Equations.{writtenA, writtenB, SameSolutionsAs}
 
-pub matrix-same : (M N : Csc) → M .starts ≡ N .starts → M .rows ≡ N .rows → M .values ≡ N .values → M ≡ N
+matrix-same : (M N : Csc) → M .starts ≡ N .starts → M .rows ≡ N .rows → M .values ≡ N .values → M ≡ N
 matrix-same M N e f g = λ i. record { starts = e i; rows = f i; values = g i }
 
 -- the statement for the A and b that the definition of the cut gives

@@ -1,7 +1,8 @@
 // The refusals of the file reader (Q-2) in order, computed from the words of the file.
 ghost use mathlib.Core.Path.{_≡_};
 ghost use Rattle.layout.specs.Calls.Answers.{problemRefusal};
-ghost use Rattle.layout.specs.Files.FileWords.{wordsFailing, unvaluedProblem, readWordsRefusal};
+ghost use Rattle.layout.specs.Files.FileWords.{wordsFailing, unvaluedProblem};
+ghost use Rattle.layout.specs.Calls.ReadFile.{readWordsRefusal};
 ghost use Rattle.file_shape.specs.Parts.{WellShaped};
 use constants::file_table;
 use constants::header;

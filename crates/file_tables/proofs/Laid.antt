@@ -67,11 +67,11 @@ end-done a ks i l = ap (endFrom a) (drop-of-length-le ks {i = i} l)
 
 -- ---- tables followed by further tables
 
-pub end-then : (a : ℕ) (ts us : List (List ℕ)) → endFrom a (map length (ts ++ us)) ≡ endFrom (endFrom a (map length ts)) (map length us)
+end-then : (a : ℕ) (ts us : List (List ℕ)) → endFrom a (map length (ts ++ us)) ≡ endFrom (endFrom a (map length ts)) (map length us)
 end-then a [] us = refl
 end-then a (t ∷ ts) us = end-then (aligned a + length t) ts us
 
-pub laid-then : (a : ℕ) (ts us : List (List ℕ)) → laidFrom a (ts ++ us) ≡ laidFrom a ts ++ laidFrom (endFrom a (map length ts)) us
+laid-then : (a : ℕ) (ts us : List (List ℕ)) → laidFrom a (ts ++ us) ≡ laidFrom a ts ++ laidFrom (endFrom a (map length ts)) us
 laid-then a [] us = refl
 laid-then a (t ∷ ts) us =
     let gap : List ℕ = replicate (aligned a - a) 0 in

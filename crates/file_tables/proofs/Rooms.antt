@@ -6,8 +6,8 @@ use mathlib.Core.List.{List, _∷_}
 use lib.ListN.{length}
 use Rattle.layout.specs.Calls.Answers.{roomy}
 use Rattle.layout.specs.Files.File.{countsIn, countedLengths}
-use Rattle.layout.specs.Files.FileWords.{wordsFailing, readWordsRefusal}
-use Rattle.layout.specs.Calls.ReadFile.{FileOutputs, fileRooms, HoldsFile}
+use Rattle.layout.specs.Files.FileWords.{wordsFailing}
+use Rattle.layout.specs.Calls.ReadFile.{FileOutputs, fileRooms, HoldsFile, readWordsRefusal}
 use Rattle.layout.proofs.Lists.Tests.{and-iff, leb-iff}
 use Rattle.layout.proofs.Promises.{output-kept, none-refused}
 use Rattle.file_shape.specs.Parts.{WellShaped}

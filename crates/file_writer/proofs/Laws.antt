@@ -10,7 +10,8 @@ use borrow.Author.Tests.{lt-leb, le-leb}
 use Rattle.layout.specs.General.Lists.{written}
 use Rattle.layout.specs.General.Bytes.{tableBytes}
 use Rattle.layout.specs.Calls.Answers.{orElse, problemRefusal}
-use Rattle.layout.specs.Files.File.{headerOf, endFrom, laidFrom, BitTables, problemOf, countsOf, tablesBytes, fileOf, writeRefusal}
+use Rattle.layout.specs.Files.File.{headerOf, endFrom, laidFrom, BitTables, problemOf, countsOf, tablesBytes, fileOf}
+use Rattle.layout.specs.Calls.WriteFile.{writeRefusal}
 use Rattle.layout.proofs.Lists.Buffers.{written-whole, written-after, length-tail}
 use Rattle.layout.proofs.Numbers.Bytes.{length-table}
 use Rattle.layout.proofs.Files.Offsets.{end-from, length-laid}

@@ -72,7 +72,7 @@ entries-few s rs zero = omega arith
 entries-few s rs (suc c) = omega (arith, column-length s rs, entries-few (afterColumn s rs) rs c)
 
 module _ (s : ℕ) (rs : List ℕ) where
-  pub entries-up : (c d : ℕ) → sum (map length (drawnColumns s rs c)) ≤ sum (map length (drawnColumns s rs (c + d)))
+  entries-up : (c d : ℕ) → sum (map length (drawnColumns s rs c)) ≤ sum (map length (drawnColumns s rs (c + d)))
   entries-up c zero = rw (add-zero c) (omega arith)
   entries-up c (suc d) =
       let e : c + suc d ≡ c + d + 1 = omega arith in

@@ -47,7 +47,7 @@ module _ (seed v : ℕ) (some : 0 < v) (os ps old : List ℕ) (drawn : os ≡ dr
   permuted : T (isPermutation os) × (length os ≡ v)
   permuted = permutes seed v some os drawn
 
-  pub places-are : ps ≡ inverse os
+  places-are : ps ≡ inverse os
   places-are =
       put ∙ scattered-inverse os old (permuted .0) (omega (arith, permuted .1))
       ∙ written-whole (inverse os) old (omega (arith, permuted .1, length-inverse os))

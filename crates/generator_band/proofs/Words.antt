@@ -18,7 +18,7 @@ abbrev pub cliquesTo : ℕ → ℕ → List ℕ
 cliquesTo w c = join cliqueWords (map (bandClique w) (below c))
 
 module _ (w c : ℕ) where
-  pub clique-words : cliqueWords (bandClique w c) ≡ (c + 1) ∷ 1 ∷ w ∷ upFrom c (1 + w)
+  clique-words : cliqueWords (bandClique w c) ≡ (c + 1) ∷ 1 ∷ w ∷ upFrom c (1 + w)
   clique-words =
       let e : suc w ≡ 1 + w = omega arith in
       ap₂ (λ (p k : ℕ). p ∷ 1 ∷ k ∷ upFrom c (suc w)) (sym (add-one c)) (length-upFrom (suc c) w)

@@ -75,7 +75,7 @@ pub counts-none : (standard : Bool) (counts : List ℕ) → Counts standard [] c
 counts-none true counts = λ o l. omega arith
 counts-none false counts = tt
 
-pub counts-more : (standard : Bool) (xs ys a b c : List ℕ) → length c ≤ length b → Counts standard xs a b → Counts standard ys b c
+counts-more : (standard : Bool) (xs ys a b c : List ℕ) → length c ≤ length b → Counts standard xs a b → Counts standard ys b c
     → Counts standard (xs ++ ys) a c
 counts-more true xs ys a b c n h g = λ o l. omega (arith, h o (omega arith), g o l, count-append (eqb o) xs ys)
 counts-more false xs ys a b c n h g = tt

@@ -47,7 +47,7 @@ fits-count b h r = fits-le h (record { fits = r .0 })
 pub fits-next : {i n : ℕ} (b : ℕ) → i < n → Room b n → Fits w64 (i + 1)
 fits-next b h r = fits-count b (one-more h) r
 
-pub fits-bytes : {i n : ℕ} (b : ℕ) → i ≤ n → Room b n → Fits w64 (i * b)
+fits-bytes : {i n : ℕ} (b : ℕ) → i ≤ n → Room b n → Fits w64 (i * b)
 fits-bytes b h r = fits-le (mul-le-mul-right b h) (record { fits = lt-trans (r .1) (lit< tt) })
 
 -- an f64 has 8 bytes, a u32 4

@@ -23,7 +23,7 @@ use Rattle.join_cones.proofs.Inside.{no-column}
 -- ---- slices of buffers
 
 -- a call replaced the n values from index `at` on
-pub replaced : (ys old : List Float) (at n : ℕ) → length ys ≡ n → take at old ++ (ys ++ drop n (drop at old)) ≡ writtenAt at ys old
+replaced : (ys old : List Float) (at n : ℕ) → length ys ≡ n → take at old ++ (ys ++ drop n (drop at old)) ≡ writtenAt at ys old
 replaced ys old at n e = ap (λ (k : ℕ). take at old ++ (ys ++ drop k (drop at old))) (sym e)
 
 -- the slice from m to the end is the suffix from m on

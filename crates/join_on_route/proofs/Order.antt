@@ -59,16 +59,16 @@ module _ (route : Route) (n m : ℕ) (cones : List ℕ) (count : ℕ) (words : L
   abbrev later : ℕ
   later = cond (check10 route m (joinedParts cones count words)) 0 10
 
-  pub seven-refused : (joinedRefusal n m cones count words ≡ 0 → ⊥) → joinedRefusal n m cones count words ≡ joinChecks route n m cones count words
+  seven-refused : (joinedRefusal n m cones count words ≡ 0 → ⊥) → joinedRefusal n m cones count words ≡ joinChecks route n m cones count words
   seven-refused h = sym (joined-then-route route n m cones count words ∙ first-given (joinedRefusal n m cones count words) later h)
 
-  pub seven-passed : joinedRefusal n m cones count words ≡ 0 → later ≡ joinChecks route n m cones count words
+  seven-passed : joinedRefusal n m cones count words ≡ 0 → later ≡ joinChecks route n m cones count words
   seven-passed e = sym (joined-then-route route n m cones count words ∙ ap (λ (k : ℕ). orElse k later) e)
 
 -- ---- from counts and lengths
 
 module _ (route : Route) (n m rows overlaps : ℕ) (ps : List Part) (h : Counted ps rows overlaps) where
-  pub counted-fits : (x s z : ℕ) → lengthsFit route n m rows overlaps x s z ≡ fitsBy route n m ps x s z
+  counted-fits : (x s z : ℕ) → lengthsFit route n m rows overlaps x s z ≡ fitsBy route n m ps x s z
   counted-fits x s z = rw (h .0, h .1) (on route)
     where
       on : (rt : Route) → lengthsFit rt n m (blockRowCount ps) (overlapCount ps) x s z ≡ fitsBy rt n m ps x s z

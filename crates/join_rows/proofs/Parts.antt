@@ -107,7 +107,7 @@ pub s-size : (standard : Bool) (x : Part) (vs : List Float) → partRows x ≤ l
 s-size standard (whole i c row) vs h = length-whole standard (take (rowCount c) vs) ∙ length-take-le (rowCount c) vs h
 s-size standard (cut i row k p) vs h = length-s-cut standard p vs
 
-pub z-size : (standard : Bool) (x : Part) (vs : List Float) → partRows x ≤ length vs → length (zPart standard x vs) ≡ coneRows x
+z-size : (standard : Bool) (x : Part) (vs : List Float) → partRows x ≤ length vs → length (zPart standard x vs) ≡ coneRows x
 z-size standard (whole i c row) vs h = length-whole standard (take (rowCount c) vs) ∙ length-take-le (rowCount c) vs h
 z-size standard (cut i row k p) vs h = length-z-cut standard p vs
 

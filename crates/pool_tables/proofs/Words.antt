@@ -25,7 +25,7 @@ replaced : (xs : List ℕ) (y v : ℕ) (ys zs : List ℕ) → set ((xs ++ (y ∷
 replaced [] y v ys zs = refl
 replaced (x ∷ xs) y v ys zs = ap (λ (r : List ℕ). x ∷ r) (replaced xs y v ys zs)
 
-pub word-replaced : (xs : List ℕ) (y v : ℕ) (ys old : List ℕ) → set (written (xs ++ (y ∷ ys)) old) (length xs) v ≡ written (xs ++ (v ∷ ys)) old
+word-replaced : (xs : List ℕ) (y v : ℕ) (ys old : List ℕ) → set (written (xs ++ (y ∷ ys)) old) (length xs) v ≡ written (xs ++ (v ∷ ys)) old
 word-replaced xs y v ys old =
     let k = length (xs ++ (y ∷ ys)) in
     let e : k ≡ length (xs ++ (v ∷ ys)) = length-append xs (y ∷ ys) ∙ sym (length-append xs (v ∷ ys)) in

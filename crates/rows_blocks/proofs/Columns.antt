@@ -25,7 +25,7 @@ rises-le vs i j h l m = elim (eq-or-lt-of-le l) [
 ]
 
 -- the index of a pair, as the code computes it
-pub pair-index-at : (vs : List ℕ) (j i : ℕ) → T (rises vs) → i ≤ j → j < length vs
+pair-index-at : (vs : List ℕ) (j i : ℕ) → T (rises vs) → i ≤ j → j < length vs
     → pairIndex (getD vs i 0) (getD vs j 0) ≡ getD vs j 0 * (getD vs j 0 + 1) / 2 + getD vs i 0
 pair-index-at vs j i h l m = pairIndex-le (getD vs i 0) (getD vs j 0) (rises-le vs i j h l m) ∙ rw add-one
 

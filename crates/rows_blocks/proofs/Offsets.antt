@@ -124,7 +124,7 @@ module _ (ws : List ℕ) (at : ℕ) (r : PatternRead) (ok : RightPattern (patter
     pub pattern-here : patternAt ws at ≡ withCliques (headOf ws q) cs
     pattern-here = pattern-whole ws at (headOf ws q) (q .cliques) head-here cliques-here
 
-    pub count-here : length cs ≡ k
+    count-here : length cs ≡ k
     count-here = go (readCliques k (drop (q .cliques) ws)) (many-count readClique k (drop (q .cliques) ws)) cliques-here
       where
         go : (r : Read (List Clique)) → Reads (λ cs. length cs ≡ k) r → isWhole r ≡ true → length (valueOr [] r) ≡ k

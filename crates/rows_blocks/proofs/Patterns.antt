@@ -29,7 +29,7 @@ down-same {B} f g (suc k) h =
     ∙ ap (join g) (sym (reverse-below k))
 
 module _ (p : Pattern) (ok : RightPattern p) where
-  pub ordering-below : Below (length (p .ordering)) (p .ordering)
+  ordering-below : Below (length (p .ordering)) (p .ordering)
   ordering-below k l = permutation-has (p .ordering) (ok .ordered .permutation) (getD (p .ordering) k 0) .0 (has-getD (p .ordering) k 0 l)
 
   pub clique-sortable : p .vertexCount ≤ 256 → (c : ℕ) → c < cliqueCount p → Sortable (p .ordering) (members (cliqueAt p c))

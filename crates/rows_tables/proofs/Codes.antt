@@ -82,7 +82,7 @@ module _ (table : Table) (first i row k : ℕ) (p : Pattern) where
 
 -- ---- one more part of a table
 
-pub codes-part : (table : Table) (first : ℕ) (x : Part) (ps : List Part)
+codes-part : (table : Table) (first : ℕ) (x : Part) (ps : List Part)
     → codesFrom table first (x ∷ ps) ≡ partCodes table first x ++ codesFrom table (first + partRows x) ps
 unfolding codesFrom
 codes-part table first x ps = refl

@@ -43,13 +43,13 @@ module _ {A : Type 0} (o : List A) (t : ℕ) (u v w : A) (h : t + 3 ≤ length o
       ∙ ap (λ (n : ℕ). (take t o ++ (u ∷ v ∷ w ∷ [])) ++ drop n o) after
 
   -- the list up to the three words, after them, and from them on
-  pub stored-front : take (t + 3) stored ≡ take t o ++ (u ∷ v ∷ w ∷ [])
+  stored-front : take (t + 3) stored ≡ take t o ++ (u ∷ v ∷ w ∷ [])
   stored-front = ap (take (t + 3)) three-set ∙ take-at (take t o ++ (u ∷ v ∷ w ∷ [])) (drop (t + 3) o) (t + 3) after
 
-  pub stored-rest : drop (t + 3) stored ≡ drop (t + 3) o
+  stored-rest : drop (t + 3) stored ≡ drop (t + 3) o
   stored-rest = ap (drop (t + 3)) three-set ∙ drop-at (take t o ++ (u ∷ v ∷ w ∷ [])) (drop (t + 3) o) (t + 3) after
 
-  pub stored-from : drop t stored ≡ u ∷ v ∷ w ∷ drop (t + 3) o
+  stored-from : drop t stored ≡ u ∷ v ∷ w ∷ drop (t + 3) o
   stored-from =
       ap (drop t) (three-set ∙ append-assoc (take t o) (u ∷ v ∷ w ∷ []) (drop (t + 3) o))
       ∙ drop-at (take t o) (u ∷ v ∷ w ∷ drop (t + 3) o) t size

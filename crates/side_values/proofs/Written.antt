@@ -132,7 +132,7 @@ module _ (count : ℕ) (p : Problem) (out : Augmented) (done : sidesRefusal p co
   both : (sidesFailing p count (p .b) ≡ 0) × (sidesRoom ≡ 0)
   both = orElse-zero (sidesFailing p count (p .b)) sidesRoom .0 done
 
-  pub fit : SidesFit (p .m) count (p .b)
+  fit : SidesFit (p .m) count (p .b)
   fit = sides-iff p count (p .b) .0 (both .0) .0
 
   each : (k : ℕ) → k < count → refusal compact (withSide p (p .b) k) ≡ 0

@@ -75,7 +75,7 @@ module _ (ws : List ℕ) (at : ℕ) (q : CliqueAt) (in-words : CliqueInside (len
 -- ---- the pattern at an offset, from its head and its cliques
 
 module _ (ws : List ℕ) (at : ℕ) where
-  pub no-head : readHead (drop at ws) ≡ short → patternAt ws at ≡ noPattern
+  no-head : readHead (drop at ws) ≡ short → patternAt ws at ≡ noPattern
   no-head e = rw e
 
   -- a pattern that passes check 6 has a complete head

@@ -32,13 +32,13 @@ module _ (ws : List ℕ) (first k : ℕ) (h : Whole ws first k) where
     pub after-whole : Whole ws at (k - a)
     after-whole = ap (λ (x : List ℕ). isWhole (readCliques (k - a) x)) e ∙ back-whole readClique a (k - a) (drop first ws) split
 
-    pub after-from : cliquesFrom ws at (k - a) ≡ drop a (cliquesFrom ws first k)
+    after-from : cliquesFrom ws at (k - a) ≡ drop a (cliquesFrom ws first k)
     after-from =
         let q : a + (k - a) ≡ k = omega arith in
         ap (λ (x : List ℕ). valueOr [] (readCliques (k - a) x)) e ∙ back-value readClique a (k - a) (drop first ws) split
         ∙ ap (λ (n : ℕ). drop a (cliquesFrom ws first n)) q
 
-    pub after-at : (c : ℕ) → a ≤ c → getD (cliquesFrom ws first k) c noClique ≡ getD (cliquesFrom ws at (k - a)) (c - a) noClique
+    after-at : (c : ℕ) → a ≤ c → getD (cliquesFrom ws first k) c noClique ≡ getD (cliquesFrom ws at (k - a)) (c - a) noClique
     after-at c m =
         let q : a + (c - a) ≡ c = omega arith in
         sym (ap (λ (cs : List Clique). getD cs (c - a) noClique) after-from ∙ getD-drop a (cliquesFrom ws first k) (c - a) noClique

@@ -23,18 +23,18 @@ use Rattle.supernode_tree.specs.declared.PatternRead.the-variants.{Patte
 pub drop-next : (ws : List ℕ) (at next : ℕ) → at + 1 ≡ next → at < length ws → drop at ws ≡ getD ws at 0 ∷ drop next ws
 drop-next ws at next e h = rw (← e, add-one, drop-cons ws at 0)
 
-pub drop-three : (ws : List ℕ) (at : ℕ) → at + 3 ≤ length ws
+drop-three : (ws : List ℕ) (at : ℕ) → at + 3 ≤ length ws
     → drop at ws ≡ getD ws at 0 ∷ getD ws (at + 1) 0 ∷ getD ws (at + 2) 0 ∷ drop (at + 3) ws
 drop-three ws at h =
     drop-next ws at (at + 1) refl (omega arith)
     ∙ ap (λ (l : List ℕ). getD ws at 0 ∷ l) (drop-next ws (at + 1) (at + 2) (omega arith) (omega arith)
     ∙ ap (λ (l : List ℕ). getD ws (at + 1) 0 ∷ l) (drop-next ws (at + 2) (at + 3) (omega arith) (omega arith)))
 
-pub members-read : (k at : ℕ) (ws : List ℕ) → at + k ≤ length ws
+members-read : (k at : ℕ) (ws : List ℕ) → at + k ≤ length ws
     → readMembers k (drop at ws) ≡ read (take k (drop at ws)) (drop (at + k) ws)
 members-read k at ws h = rw (length-drop at ws, le-leb k (length ws - at) (omega arith), drop-drop k at ws)
 
-pub members-short : (k at : ℕ) (ws : List ℕ) → length ws - at < k → readMembers k (drop at ws) ≡ short
+members-short : (k at : ℕ) (ws : List ℕ) → length ws - at < k → readMembers k (drop at ws) ≡ short
 members-short k at ws h = rw (length-drop at ws, lt-leb k (length ws - at) h)
 
 few-words : (ws : List ℕ) → length ws < 3 → readClique ws ≡ short
@@ -43,14 +43,14 @@ few-words (p ∷ []) h = refl
 few-words (p ∷ a ∷ []) h = refl
 few-words (p ∷ a ∷ e ∷ ws) h = absurd (omega arith)
 
-pub clique-short : (ws : List ℕ) (at : ℕ) → length ws < at + 3 → readClique (drop at ws) ≡ short
+clique-short : (ws : List ℕ) (at : ℕ) → length ws < at + 3 → readClique (drop at ws) ≡ short
 clique-short ws at h = few-words (drop at ws) (omega (arith, length-drop at ws))
 
-pub clique-short-snode : (ws : List ℕ) (at : ℕ) → at + 3 ≤ length ws → length ws - (at + 3) < getD ws (at + 1) 0
+clique-short-snode : (ws : List ℕ) (at : ℕ) → at + 3 ≤ length ws → length ws - (at + 3) < getD ws (at + 1) 0
     → readClique (drop at ws) ≡ short
 clique-short-snode ws at h s = rw (drop-three ws at h, members-short (getD ws (at + 1) 0) (at + 3) ws s)
 
-pub clique-short-separator : (ws : List ℕ) (at : ℕ) → at + 3 + getD ws (at + 1) 0 ≤ length ws
+clique-short-separator : (ws : List ℕ) (at : ℕ) → at + 3 + getD ws (at + 1) 0 ≤ length ws
     → length ws - (at + 3 + getD ws (at + 1) 0) < getD ws (at + 2) 0 → readClique (drop at ws) ≡ short
 clique-short-separator ws at h s =
     rw (
@@ -59,7 +59,7 @@ clique-short-separator ws at h s =
       members-short (getD ws (at + 2) 0) (at + 3 + getD ws (at + 1) 0) ws s,
     )
 
-pub clique-whole : (ws : List ℕ) (at : ℕ) → at + 3 + getD ws (at + 1) 0 + getD ws (at + 2) 0 ≤ length ws
+clique-whole : (ws : List ℕ) (at : ℕ) → at + 3 + getD ws (at + 1) 0 + getD ws (at + 2) 0 ≤ length ws
     → readClique (drop at ws) ≡ read (record {
       parent = getD ws at 0;
       snode = take (getD ws (at + 1) 0) (drop (at + 3) ws);
@@ -80,14 +80,14 @@ few-head-words (p ∷ []) h = refl
 few-head-words (p ∷ a ∷ []) h = refl
 few-head-words (p ∷ a ∷ e ∷ ws) h = absurd (omega arith)
 
-pub head-short : (ws : List ℕ) (at : ℕ) → length ws < at + 3 → readHead (drop at ws) ≡ short
+head-short : (ws : List ℕ) (at : ℕ) → length ws < at + 3 → readHead (drop at ws) ≡ short
 head-short ws at h = few-head-words (drop at ws) (omega (arith, length-drop at ws))
 
-pub head-short-ordering : (ws : List ℕ) (at : ℕ) → at + 3 ≤ length ws → length ws - (at + 3) < getD ws (at + 1) 0
+head-short-ordering : (ws : List ℕ) (at : ℕ) → at + 3 ≤ length ws → length ws - (at + 3) < getD ws (at + 1) 0
     → readHead (drop at ws) ≡ short
 head-short-ordering ws at h s = rw (drop-three ws at h, members-short (getD ws (at + 1) 0) (at + 3) ws s)
 
-pub head-whole : (ws : List ℕ) (at : ℕ) → at + 3 + getD ws (at + 1) 0 ≤ length ws
+head-whole : (ws : List ℕ) (at : ℕ) → at + 3 + getD ws (at + 1) 0 ≤ length ws
     → readHead (drop at ws) ≡ read (record {
       origIndex = getD ws at 0;
       vertexCount = getD ws (at + 1) 0;
@@ -98,7 +98,7 @@ head-whole ws at h = rw (drop-three ws at (omega arith), members-read (getD ws (
 
 -- ---- complete cliques and heads
 
-pub clique-short-parts : (ws : List ℕ) (at : ℕ) → at + 3 ≤ length ws → length ws < at + 3 + getD ws (at + 1) 0 + getD ws (at + 2) 0
+clique-short-parts : (ws : List ℕ) (at : ℕ) → at + 3 ≤ length ws → length ws < at + 3 + getD ws (at + 1) 0 + getD ws (at + 2) 0
     → readClique (drop at ws) ≡ short
 clique-short-parts ws at h l = elim (lt-or-le (length ws) (at + 3 + getD ws (at + 1) 0)) [
   | inl m ↦ clique-short-snode ws at h (omega arith)

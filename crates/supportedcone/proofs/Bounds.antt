@@ -24,7 +24,7 @@ module _ (c : Cone) (h : sizesBounded c ≡ true) where
 pub psd-bounded : (a c : ℕ) → sizesBounded (coneRecord 6 a c) ≡ true → a ≤ 256
 psd-bounded a c h = leb→le a 256 (and-iff (leb a 65536 && leb c 65536) (leb a 256) .0 (passes (sizesBounded (coneRecord 6 a c)) h) .1)
 
-pub triangle-bounded : (a c : ℕ) → sizesBounded (coneRecord 6 a c) ≡ true → triangle a ≤ 32896
+triangle-bounded : (a c : ℕ) → sizesBounded (coneRecord 6 a c) ≡ true → triangle a ≤ 32896
 triangle-bounded a c h = triangle-mono a 256 (psd-bounded a c h)
 
 pub rows-bounded : (c : Cone) → sizesBounded c ≡ true → rowCount c ≤ 131072

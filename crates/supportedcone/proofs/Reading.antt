@@ -53,7 +53,7 @@ no-kind (suc (suc (suc (suc (suc zero))))) a c n h l = absurd (n .3 refl)
 no-kind (suc (suc (suc (suc (suc (suc zero)))))) a c n h l = absurd (n .4 refl)
 no-kind (suc (suc (suc (suc (suc (suc (suc k))))))) a c n h l = refl
 
-pub unread : (c : Cone) (α : Float) → reads c ≡ false → readsAs c α ≡ refused 4
+unread : (c : Cone) (α : Float) → reads c ≡ false → readsAs c α ≡ refused 4
 unread c α e = ap (λ b. cond b (cone c (cond (eqb (c .kind) 4) (α ∷ []) [])) (refused 4)) e
 
 pub unread-second : (k a c : ℕ) (α : Float) → (k ≡ 5 → ⊥) → (c ≡ 0 → ⊥) → readsAs (coneRecord k a c) α ≡ refused 4

@@ -27,7 +27,7 @@ has-rest w x xs n h = elim (has-cons w x xs .0 h) [ inl e ↦ absurd (n e) | inr
 
 -- ---- one number at a time
 
-pub length-scattered : (k : ℕ) (xs old : List ℕ) → length (scattered k xs old) ≡ length old
+length-scattered : (k : ℕ) (xs old : List ℕ) → length (scattered k xs old) ≡ length old
 length-scattered k [] old = refl
 length-scattered k (x ∷ xs) old = length-scattered (suc k) xs (set old x k) ∙ length-set old x k
 
@@ -41,14 +41,14 @@ scattered-done xs old i h = rw (drop-of-length-le xs h)
 -- ---- the result
 
 -- an index that is not in the list is unchanged
-pub scattered-other : (k : ℕ) (xs old : List ℕ) (w d : ℕ) → (T (has w xs) → ⊥) → getD (scattered k xs old) w d ≡ getD old w d
+scattered-other : (k : ℕ) (xs old : List ℕ) (w d : ℕ) → (T (has w xs) → ⊥) → getD (scattered k xs old) w d ≡ getD old w d
 scattered-other k [] old w d out = refl
 scattered-other k (x ∷ xs) old w d out =
     scattered-other (suc k) xs (set old x k) w d (λ h. out (has-cons w x xs .1 (inr h)))
     ∙ getD-set-other old x w k d (λ e. out (has-cons w x xs .1 (inl e)))
 
 -- for a duplicate-free list, the number at a member is k plus the member's position
-pub scattered-at : (k : ℕ) (xs old : List ℕ) (w d : ℕ) → T (distinct xs) → T (has w xs) → w < length old
+scattered-at : (k : ℕ) (xs old : List ℕ) (w d : ℕ) → T (distinct xs) → T (has w xs) → w < length old
     → getD (scattered k xs old) w d ≡ k + placeOf w xs
 scattered-at k [] old w d once h l = absurd h
 scattered-at k (x ∷ xs) old w d once h l =

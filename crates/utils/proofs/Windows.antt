@@ -119,7 +119,7 @@ pub within-in : (low size x : ℕ) → low ≤ x → x - low < size → within l
 within-in low size x h l = rw (le-leb low x h, lt-ltb (x - low) size l)
 
 -- if the numbers with p and those with q are duplicate-free, so are those with r, where r implies p or q
-pub distinct-either : (p q r : ℕ → Bool) (xs : List ℕ) → ((x : ℕ) → T (r x) → T (p x) ⊎ T (q x))
+distinct-either : (p q r : ℕ → Bool) (xs : List ℕ) → ((x : ℕ) → T (r x) → T (p x) ⊎ T (q x))
     → T (distinct (keep p xs)) → T (distinct (keep q xs)) → T (distinct (keep r xs))
 distinct-either p q r [] sub d e = tt
 distinct-either p q r (x ∷ xs) sub d e = go (tested (r x)) (distinct-either p q r xs sub (tail p d) (tail q e))

@@ -23,7 +23,7 @@ use Rattle.layout.proofs.Patterns.Tree.{cliqueTree}
 use Rattle.layout.proofs.Patterns.Subtree.{induced-subtree}
 use Rattle.layout.proofs.Patterns.Reading.{orderingFits, patterns-fit}
 
-pub right-patterns : (d : Pattern) (cones : List ℕ) (count : ℕ) (ws : List ℕ) → T (patternsRead cones count ws)
+right-patterns : (d : Pattern) (cones : List ℕ) (count : ℕ) (ws : List ℕ) → T (patternsRead cones count ws)
     → T (all treeRight (patterns count ws)) → T (all cliquesRight (patterns count ws))
     → EveryAt d RightPattern (patterns count ws)
 right-patterns d cones count ws reads trees right i l =
@@ -38,7 +38,7 @@ right-patterns d cones count ws reads trees right i l =
     }
 
 -- a problem that passes checks 1 to 7 is `Checked`
-pub checks-say : (p : Problem) → T (check1 p) → T (check2 p) → T (check3 p) → T (check4 p)
+checks-say : (p : Problem) → T (check1 p) → T (check2 p) → T (check3 p) → T (check4 p)
     → T (patternsRead (p .cones) (p .patternCount) (p .patternWords))
     → T (all treeRight (patterns (p .patternCount) (p .patternWords)))
     → T (all cliquesRight (patterns (p .patternCount) (p .patternWords))) → Checked p

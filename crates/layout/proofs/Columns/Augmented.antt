@@ -183,7 +183,7 @@ module _ (p : Problem) (ok : refusal compact p ≡ 0) where
           )
 
   -- row indices strictly increase in A's columns
-  pub first-rise : (c : ℕ) → c < p .n → T (rises (rowsOf (augmentedColumn (summed (column (p .A) c)) 0 (compactRows (layout p)))))
+  first-rise : (c : ℕ) → c < p .n → T (rises (rowsOf (augmentedColumn (summed (column (p .A) c)) 0 (compactRows (layout p)))))
   first-rise c l = column-rises (summed (column (p .A) c)) 0 R
       (subst (λ (es : List Entry). T (distinct (rowsOf es))) (summed-column p c l)
       (rises-distinct (rowsOf (column (summedA p) c)) (rows-rise (p .m) (p .n) (summedA p) (right-summed p) (rows-summed p compact ok) c l))) .0

@@ -97,7 +97,7 @@ pub runs-rise : (rs : List ℕ) → T (neverFalls rs) → T (rises (runs rs))
 runs-rise [] h = tt
 runs-rise (r ∷ rs) h = from-rises r rs h
 
-pub summed-rises : (es : List Entry) → T (neverFalls (rowsOf es)) → T (rises (rowsOf (summed es)))
+summed-rises : (es : List Entry) → T (neverFalls (rowsOf es)) → T (rises (rowsOf (summed es)))
 summed-rises es h = subst (λ (rs : List ℕ). T (rises rs)) (sym (summed-rows es)) (runs-rise (rowsOf es) h)
 
 -- a matrix that passes check 3's test of P also passes its test of A
@@ -154,7 +154,7 @@ from-all p e (f ∷ es) h k =
     go true i j = i
     go false i j = and-iff (p (e .row)) (all p (rowsOf (summedFrom f es))) .1 (h, j)
 
-pub summed-all : (p : ℕ → Bool) (es : List Entry) → T (all (λ (e : Entry). p (e .row)) es) → T (all p (rowsOf (summed es)))
+summed-all : (p : ℕ → Bool) (es : List Entry) → T (all (λ (e : Entry). p (e .row)) es) → T (all p (rowsOf (summed es)))
 summed-all p [] h = tt
 summed-all p (e ∷ es) h =
     let (here, rest) = and-iff (p (e .row)) (all (λ (e : Entry). p (e .row)) es) .0 h in
@@ -267,7 +267,7 @@ from-values o e (f ∷ es) h =
         ∙ ap leftSums (sym (values-cons o e (f ∷ es)))
 
 -- after summing, row o holds the sum of its run
-pub summed-values : (o : ℕ) (es : List Entry) → T (neverFalls (rowsOf es)) → valuesAt o (summed es) ≡ leftSums (valuesAt o es)
+summed-values : (o : ℕ) (es : List Entry) → T (neverFalls (rowsOf es)) → valuesAt o (summed es) ≡ leftSums (valuesAt o es)
 summed-values o [] h = refl
 summed-values o (e ∷ es) h = from-values o e es h
 
@@ -359,7 +359,7 @@ module _ (p : Problem) where
 
     -- without repeats, summing changes neither a column nor A
     module _ (alone : T (withoutRepeats p)) where
-      pub column-alone : (c : ℕ) → c < p .n → summed (column (p .A) c) ≡ column (p .A) c
+      column-alone : (c : ℕ) → c < p .n → summed (column (p .A) c) ≡ column (p .A) c
       column-alone c l = summed-alone (column (p .A) c)
           (subst (λ (rs : List ℕ). T (rises rs)) (sym (column-rows (p .n) (p .A) (right-A route p ok) c l))
           (all-has (λ c. rises (columnRows (p .A) c)) (below (p .n)) .0 alone c (has-below c (p .n) .1 l)))

@@ -120,7 +120,7 @@ returned-length : (m : ℕ) (ps : List Part) (s : List Float) → length (addRow
 returned-length m ps s = length-walk addRow row-length (compactRows ps) s (replicate m zero64) ∙ length-replicate m zero64
 
 -- it is in the output of a joining that refuses nothing
-pub returned-written : (n m : ℕ) (ps : List Part) (sol : Solution) (out old : List Float) (r o : ℕ) → r ≡ 0
+returned-written : (n m : ℕ) (ps : List Part) (sol : Solution) (out old : List Float) (r o : ℕ) → r ≡ 0
     → out ≡ output r (joined compact n m ps sol .s) old → o < m → getD out o nan ≡ returned m ps (sol .s) o
 returned-written n m ps sol out old r o e w l =
     let new : List Float = joined compact n m ps sol .s in
@@ -163,13 +163,13 @@ module _ (m : ℕ) (ps : List Part) where
 
   module _ (right : RightRows 0 0 m (compactRows ps)) where
     -- where a block adds to an original row, no row is copied to it
-    pub added-decomposed : (r o : ℕ) → r < length (compactRows ps) → T (adds o (rowAt (compactRows ps) r)) → T (decomposed o (compactRows ps))
+    added-decomposed : (r o : ℕ) → r < length (compactRows ps) → T (adds o (rowAt (compactRows ps) r)) → T (decomposed o (compactRows ps))
     added-decomposed r o l h = all-at (kept 0) (λ x. not (copies o x)) R .1 (λ q i. not-T (copies o (rowAt R q)) (λ c.
         let e = copies-there o (rowAt R q) c in
         let same = right .alone q r o i l e (adds-there o (rowAt R r) h) in
         subst (λ (x : Row). T (adds o x)) (ap (rowAt R) same ∙ e) h))
 
-    pub rounding-errors : (s : List Float) → length s ≡ length (compactRows ps) → Doubles s → RoundingErrors m ps s
+    rounding-errors : (s : List Float) → length s ≡ length (compactRows ps) → Doubles s → RoundingErrors m ps s
     rounding-errors s long doubles = record {
       blocks = λ o. blocks-counted o ps;
       bounded = returned-error s doubles;
@@ -217,7 +217,7 @@ pub record SummedRows (m : ℕ) (ps : List Part) (sol : Solution) (out : Rejoine
   pub errors : RoundingErrors m ps (sol .s)
   pub written : (o : ℕ) → o < m → getD (out .s) o nan ≡ returned m ps (sol .s) o
 
-pub rounding-written : (n m : ℕ) (cones : List ℕ) (count : ℕ) (words : List ℕ) (sol : Solution) (map : List ℕ) (before after : Rejoined)
+rounding-written : (n m : ℕ) (cones : List ℕ) (count : ℕ) (words : List ℕ) (sol : Solution) (map : List ℕ) (before after : Rejoined)
     → Join 1 n m cones count words sol map before after 0 → SummedRows m (joinedParts cones count words) sol after
 rounding-written n m cones count words sol map before after call =
     let ps = joinedParts cones count words in

@@ -72,7 +72,7 @@ abbrev pub Rising : ℕ → List Link → Type 0
 Rising i [] = Unit {0}
 Rising i (l ∷ L) = (i ≤ l .own) × (l .parent < l .own) × Rising (suc (l .own)) L
 
-pub rising-down : (i j : ℕ) (L : List Link) → i ≤ j → Rising j L → Rising i L
+rising-down : (i j : ℕ) (L : List Link) → i ≤ j → Rising j L → Rising i L
 rising-down i j [] h c = tt
 rising-down i j (l ∷ L) h c = (omega arith, c .1, c .2)
 

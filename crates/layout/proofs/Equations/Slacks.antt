@@ -22,7 +22,7 @@ exact-length (kept o) v ws = length-set ws o v
 exact-length (owned o) v ws = length-set ws o (at ws o +ℤ v)
 exact-length (overlap o q) v ws = length-set ws o (at ws o +ℤ v)
 
-pub slacks-length : (R : List Row) (vs ws : List ℤ) → length (addSlacks R vs ws) ≡ length ws
+slacks-length : (R : List Row) (vs ws : List ℤ) → length (addSlacks R vs ws) ≡ length ws
 slacks-length [] vs ws = refl
 slacks-length (x ∷ R) [] ws = refl
 slacks-length (x ∷ R) (v ∷ vs) ws = slacks-length R vs (addExact x v ws) ∙ exact-length x v ws

@@ -162,7 +162,7 @@ module _ (m : ℕ) (ps : List Part) (laid : Laid 0 ps) (right : RightRows 0 0 m 
       omega (arith, e, right .inside r l)
 
   -- the total at an original row on either route is the sum by row of the values for the columns of H
-  pub standard-total : (vs : List ℤ) (o : ℕ) → at (standardTotals m ps vs) o ≡ rowTotal (standardRows ps) vs o
+  standard-total : (vs : List ℤ) (o : ℕ) → at (standardTotals m ps vs) o ≡ rowTotal (standardRows ps) vs o
   standard-total vs o =
       walk-at os vs (replicate m (pos 0)) o (λ q h. omega (arith, h-inside q h, length-replicate m (pos 0)))
       ∙ ap (λ (z : ℤ). z +ℤ rowTotal os vs o) (at-zeros m o) ∙ +ℤ-idl (rowTotal os vs o)

@@ -64,7 +64,7 @@ module _ (n k : ℕ) (P : Csc) (h : T (startsRight n P)) where
         at-front i 0 (omega arith) ∙ ap (λ (j : ℕ). getD (P .starts) j 0) here ∙ starts-right n P h .last ∙ starts-right n P h .even
   ]
 
-  pub extended-starts : T (startsRight (n + k) (extendedP k P))
+  extended-starts : T (startsRight (n + k) (extendedP k P))
   extended-starts =
       let r = starts-right n P h in
       let tests = simp (and-iff, eqb-iff) at h in
@@ -90,7 +90,7 @@ module _ (n k : ℕ) (P : Csc) (h : T (startsRight n P)) where
       let none : e - e ≡ 0 = omega arith in
       subst (λ (j : ℕ). T (rises (take j (drop e (P .rows))))) (sym none) tt
 
-  pub extended-rows : T (rowsRight n n P) → T (rowsRight (n + k) (n + k) (extendedP k P))
+  extended-rows : T (rowsRight n n P) → T (rowsRight (n + k) (n + k) (extendedP k P))
   extended-rows right =
       let (inside, rising) = and-iff (all (λ r. ltb r n) (P .rows)) (all (λ c. rises (columnRows P c)) (below n)) .0 right in
       and-iff (all (λ r. ltb r (n + k)) (P .rows)) (all (λ c. rises (columnRows M c)) (below (n + k))) .1 (

@@ -239,11 +239,11 @@ abbrev pub halves : List ℕ → List ℕ
 halves [] = []
 halves (v ∷ vs) = v % 4294967296 ∷ v / 4294967296 ∷ halves vs
 
-pub length-halves : (vs : List ℕ) → length (halves vs) ≡ 2 * length vs
+length-halves : (vs : List ℕ) → length (halves vs) ≡ 2 * length vs
 length-halves [] = refl
 length-halves (v ∷ vs) = omega (arith, length-halves vs)
 
-pub halves-at : (vs : List ℕ) (i : ℕ) → i < length vs
+halves-at : (vs : List ℕ) (i : ℕ) → i < length vs
     → (getD (halves vs) (2 * i) 0 ≡ getD vs i 0 % 4294967296) × (getD (halves vs) (2 * i + 1) 0 ≡ getD vs i 0 / 4294967296)
 halves-at [] i l = absurd (omega arith)
 halves-at (v ∷ vs) zero l = (refl, refl)
@@ -259,7 +259,7 @@ halves-back (v ∷ vs) =
     let whole : v % 4294967296 + 4294967296 * (v / 4294967296) ≡ v = omega arith in
     ap₂ (λ (x : ℕ) (r : List ℕ). x ∷ r) whole (halves-back vs)
 
-pub halves-bytes : (vs : List ℕ) → tableBytes 8 vs ≡ tableBytes 4 (halves vs)
+halves-bytes : (vs : List ℕ) → tableBytes 8 vs ≡ tableBytes 4 (halves vs)
 halves-bytes [] = refl
 halves-bytes (v ∷ vs) =
     let low : ℕ = v % 4294967296 in
@@ -296,7 +296,7 @@ word-bytes bs i l = numbers-at 4 (length bs / 4) i bs 0 l ∙ u32-at bs (4 * i) 
 -- ---- checks 1 to 7 on the words
 
 -- they do not depend on the values
-pub words-checks : (ws : List ℕ) (n : ℕ) → wordShapeFailing ws n ≡ 0 → problemRefusal (problemOf (wordTables ws)) ≡ problemRefusal (unvaluedProblem ws)
+words-checks : (ws : List ℕ) (n : ℕ) → wordShapeFailing ws n ≡ 0 → problemRefusal (problemOf (wordTables ws)) ≡ problemRefusal (unvaluedProblem ws)
 words-checks ws n ok =
     let c = countsIn ws in
     let count : (i k : ℕ) → i < 11 → 8 * k ≡ getD (tableSizes c) i 0

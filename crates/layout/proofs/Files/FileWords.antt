@@ -13,7 +13,8 @@ use Rattle.layout.specs.General.Bytes.{numberOf, tableBytes, numbersOf, 
 use Rattle.layout.specs.Checks.{check, firstFailing, problemChecks}
 use Rattle.layout.specs.Calls.Answers.{orElse, roomy, problemRefusal}
 use Rattle.layout.specs.Files.File.{HeaderCounts, countsIn, countedLengths, aligned, offsetsFrom, endFrom, tableSizes, headerOf, BitTables, bitTables, problemOf, Fit, tablesBytes, laidFrom, fileOf, header, fileTables, countsOf, lengthRight, gapsZero, tablesRight, shapeChecks, shapeFailing, fileFailing, readRefusal}
-use Rattle.layout.specs.Files.FileWords.{fileWords, pairsOf, wordsAt, wordTables, wordsLengthRight, wordGapsZero, wordTablesRight, wordShapeChecks, wordShapeFailing, wordsFailing, readWordsRefusal}
+use Rattle.layout.specs.Files.FileWords.{fileWords, pairsOf, wordsAt, wordTables, wordsLengthRight, wordGapsZero, wordTablesRight, wordShapeChecks, wordShapeFailing, wordsFailing}
+use Rattle.layout.specs.Calls.ReadFile.{readWordsRefusal}
 use Rattle.layout.proofs.Lists.Tests.{and-iff, eqb-iff, same-tests, tested, failed, and-false}
 use Rattle.layout.proofs.Lists.Walks.{all-append, numbers-equal}
 use Rattle.layout.proofs.Checks.Order.{orElse-zero, orElse-same, passed, failing-append}
@@ -49,7 +50,7 @@ zero-words (suc k) bs =
     ∙ all-append (λ b. eqb b 0) (take 4 bs) (take (4 * k) (drop 4 bs)))
 
 -- pairs of u32 words are the u64 numbers of the same bytes
-pub pairs-numbers : (k : ℕ) (bs : List ℕ) → 8 * k ≤ length bs → pairsOf (numbersOf 4 (2 * k) bs) ≡ numbersOf 8 k bs
+pairs-numbers : (k : ℕ) (bs : List ℕ) → 8 * k ≤ length bs → pairsOf (numbersOf 4 (2 * k) bs) ≡ numbersOf 8 k bs
 pairs-numbers zero bs h = refl
 pairs-numbers (suc k) bs h =
     let e : 2 * suc k ≡ suc (suc (2 * k)) = omega arith in
@@ -75,7 +76,7 @@ fours-end a [] e h = e
 fours-end a (k ∷ ks) e h = fours-end (aligned a + k) ks (omega (arith, h .0)) (h .1)
 
 -- the end of every file, the size of each table and its offset are multiples of 4
-pub end-fours : (c : HeaderCounts) → endFrom 80 (tableSizes c) ≡ 4 * (endFrom 80 (tableSizes c) / 4)
+end-fours : (c : HeaderCounts) → endFrom 80 (tableSizes c) ≡ 4 * (endFrom 80 (tableSizes c) / 4)
 end-fours c = fours-end 80 (tableSizes c) refl (sizes-fours c)
 
 fours-at : (ks : List ℕ) (i : ℕ) → Fours ks → getD ks i 0 ≡ 4 * (getD ks i 0 / 4)
@@ -113,7 +114,7 @@ words-long ws n h =
     let (whole, long) = and-iff (eqb (length ws) (n / 4)) (leb 20 (length ws)) .0 front in
     (eqb→eq (length ws) (n / 4) whole, leb→le 20 (length ws) long, eqb→eq (getD ws 19 0) n last)
 
-pub long-words : (ws : List ℕ) (n : ℕ) → length ws ≡ n / 4 → 20 ≤ length ws → getD ws 19 0 ≡ n → T (wordsLengthRight ws n)
+long-words : (ws : List ℕ) (n : ℕ) → length ws ≡ n / 4 → 20 ≤ length ws → getD ws 19 0 ≡ n → T (wordsLengthRight ws n)
 long-words ws n whole long last =
     and-iff (eqb (length ws) (n / 4) && leb 20 (length ws)) (eqb (getD ws 19 0) n) .1 (
       and-iff (eqb (length ws) (n / 4)) (leb 20 (length ws)) .1 (eqb-iff (length ws) (n / 4) .1 whole, le→leb 20 (length ws) long),
@@ -287,7 +288,7 @@ laid-small a (t ∷ ts) h =
     below-append 256 (replicate (aligned a - a) 0) (t ++ rest) (zeros-small (aligned a - a))
     (below-append 256 t rest (h .0) (laid-small (aligned a + length t) ts (h .1)))
 
-pub file-bytes : (t : BitTables) → Below 256 (fileOf t)
+file-bytes : (t : BitTables) → Below 256 (fileOf t)
 file-bytes t =
     below-append 256 (tableBytes 4 (headerOf (countsOf t))) (laidFrom 80 (tablesBytes t)) (table-small 4 (headerOf (countsOf t)))
     (laid-small 80 (tablesBytes t) (
@@ -327,7 +328,7 @@ words-back t f ok =
     )
 
 -- words are read back from their bytes
-pub words-of-bytes : (ws : List ℕ) → U32s ws → fileWords (tableBytes 4 ws) ≡ ws
+words-of-bytes : (ws : List ℕ) → U32s ws → fileWords (tableBytes 4 ws) ≡ ws
 words-of-bytes ws fit =
     let size : length (tableBytes 4 ws) / 4 ≡ length ws = omega (arith, length-table 4 ws) in
     ap (λ (k : ℕ). numbersOf 4 k (tableBytes 4 ws)) size

@@ -17,7 +17,7 @@ use Rattle.layout.specs.Files.FileWords.{unvalued}
 abbrev matrix : List ℕ → List ℕ → List Float → Csc
 matrix starts rows values = record { starts = starts; rows = rows; values = values }
 
-pub starts-lengths : (n : ℕ) (starts rows : List ℕ) (vs us : List Float) → length vs ≡ length us
+starts-lengths : (n : ℕ) (starts rows : List ℕ) (vs us : List Float) → length vs ≡ length us
     → startsRight n (record { starts = starts; rows = rows; values = vs }) ≡ startsRight n (record { starts = starts; rows = rows; values = us })
 starts-lengths n starts rows vs us e =
     let M = matrix starts rows vs in

@@ -17,7 +17,7 @@ use Rattle.layout.proofs.Numbers.Bytes.{below-cons}
 pub aligned-up : (a : ℕ) → a ≤ aligned a
 aligned-up a = omega arith
 
-pub aligned-low : (a : ℕ) → aligned a ≤ a + 7
+aligned-low : (a : ℕ) → aligned a ≤ a + 7
 aligned-low a = omega arith
 
 -- ---- offsets and the end

@@ -102,7 +102,7 @@ unfolding eq
 zero-eq-finite s t n e d = rw (nothing (up e) (down d)) (zero-level s t n (n * up d * down e) (alike n d e))
 
 -- a zero is at most y exactly where y is at least zero
-pub zero-le-is : (z y : Float) → T (isZero z) → le z y ≡ nonNegative y
+zero-le-is : (z y : Float) → T (isZero z) → le z y ≡ nonNegative y
 unfolding le
 zero-le-is nan y h = absurd h
 zero-le-is (inf s) y h = absurd h
@@ -111,7 +111,7 @@ zero-le-is (fin s m e) (inf true) h = refl
 zero-le-is (fin s m e) (inf false) h = refl
 zero-le-is (fin s m e) (fin t n d) h = ap (λ (z : Float). le z (fin t n d)) (finite-zero s m e h) ∙ zero-le-finite s t n e d
 
-pub le-zero-is : (y z : Float) → T (isZero z) → le y z ≡ nonPositive y
+le-zero-is : (y z : Float) → T (isZero z) → le y z ≡ nonPositive y
 unfolding le
 le-zero-is y nan h = absurd h
 le-zero-is y (inf s) h = absurd h
@@ -121,7 +121,7 @@ le-zero-is (inf false) (fin s m e) h = refl
 le-zero-is (fin t n d) (fin s m e) h = ap (λ (z : Float). le (fin t n d) z) (finite-zero s m e h) ∙ finite-le-zero s t n e d
 
 -- and equals exactly the zeros
-pub zero-eq-is : (z y : Float) → T (isZero z) → (eq z y ≡ isZero y) × (eq y z ≡ isZero y)
+zero-eq-is : (z y : Float) → T (isZero z) → (eq z y ≡ isZero y) × (eq y z ≡ isZero y)
 unfolding eq
 zero-eq-is nan y h = absurd h
 zero-eq-is (inf s) y h = absurd h
@@ -139,7 +139,7 @@ abbrev pub plusZero : Float → Float
 plusZero x = cond (eq x zero64) zero64 x
 
 -- x is a zero and becomes +0.0, or x stays as it is
-pub plusZero-cases : (x : Float) → (T (isZero x) × (plusZero x ≡ zero64)) ⊎ (plusZero x ≡ x)
+plusZero-cases : (x : Float) → (T (isZero x) × (plusZero x ≡ zero64)) ⊎ (plusZero x ≡ x)
 plusZero-cases x = elim (tested (isZero x)) [
   | inl h ↦ inl (h, cond-passed (eq x zero64) zero64 x (subst T (sym (eq-zero x)) h))
   | inr h ↦ inr (cond-failed (eq x zero64) zero64 x (λ t. h (subst T (eq-zero x) t)))

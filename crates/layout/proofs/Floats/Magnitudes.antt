@@ -48,10 +48,10 @@ neg-sub : (a b : ℤ) → negℤ a -ℤ negℤ b ≡ negℤ (a -ℤ b)
 neg-sub a b = simp linear
 
 -- pos a - pos b by the difference of the naturals, for b ≤ a and for a ≤ b
-pub pos-sub : (a b : ℕ) → b ≤ a → pos a -ℤ pos b ≡ pos (a - b)
+pos-sub : (a b : ℕ) → b ≤ a → pos a -ℤ pos b ≡ pos (a - b)
 pos-sub a b h = let e : a ≡ b + (a - b) = omega arith in ap (λ (x : ℕ). pos x -ℤ pos b) e ∙ add-sub (pos b) (pos (a - b))
 
-pub pos-sub-neg : (a b : ℕ) → a ≤ b → pos a -ℤ pos b ≡ negℤ (pos (b - a))
+pos-sub-neg : (a b : ℕ) → a ≤ b → pos a -ℤ pos b ≡ negℤ (pos (b - a))
 pos-sub-neg a b h = let e : b ≡ a + (b - a) = omega arith in ap (λ (x : ℕ). pos a -ℤ pos x) e ∙ sub-add (pos a) (pos (b - a))
 
 pos-distance : (a b : ℕ) → magnitude (pos a -ℤ pos b) ≡ distance a b

@@ -29,11 +29,11 @@ nan-is (inf s) h = absurd h
 nan-is (fin s m e) h = absurd h
 
 -- if exactly one of x and y is NaN, their bits differ
-pub bits-differ : (x y : Float) → T (fits binary64 x) → T (fits binary64 y) → (isNan x ≡ isNan y → ⊥) → sameBits x y ≡ false
+bits-differ : (x y : Float) → T (fits binary64 x) → T (fits binary64 y) → (isNan x ≡ isNan y → ⊥) → sameBits x y ≡ false
 bits-differ x y f g h = failed (sameBits x y) (λ s. h (ap isNan (bits-equal x y f g s)))
 
 -- two NaNs have the same bits
-pub nans-agree : (x y : Float) → isNan x ≡ true → isNan y ≡ true → sameBits x y ≡ true
+nans-agree : (x y : Float) → isNan x ≡ true → isNan y ≡ true → sameBits x y ≡ true
 nans-agree x y e g =
     eq-eqb (toBits binary64 x) (toBits binary64 y) (ap (toBits binary64) (nan-is x (subst T (sym e) tt) ∙ sym (nan-is y (subst T (sym g) tt))))
 

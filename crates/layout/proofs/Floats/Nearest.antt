@@ -43,7 +43,7 @@ near q r b Ordering·eq c l = near-tie q (q % 2) b r (mod-lt q (omega arith)) c
 near q r b Ordering·gt c l = omega arith
 
 -- no multiple of b is nearer to a
-pub closest-nearest : (a b k : ℕ) → 0 < b → distance (closest a b * b) a ≤ distance (k * b) a
+closest-nearest : (a b k : ℕ) → 0 < b → distance (closest a b * b) a ≤ distance (k * b) a
 closest-nearest a b k h = subst (λ (x : ℕ). distance (closest a b * b) x ≤ distance (k * b) x) (div-add-mod' a b) (go (lt-or-le (a / b) k))
   where
     bounds : (distance (closest a b * b) (a / b * b + a % b) ≤ a % b) × (distance (closest a b * b) (a / b * b + a % b) ≤ b - a % b)
@@ -60,7 +60,7 @@ closest-nearest a b k h = subst (λ (x : ℕ). distance (closest a b * b) x ≤ 
         below x y r g = omega arith
 
 -- the rounding to a multiple of b changes a by at most half of b
-pub closest-half : (a b : ℕ) → 0 < b → distance (closest a b * b) a * 2 ≤ b
+closest-half : (a b : ℕ) → 0 < b → distance (closest a b * b) a * 2 ≤ b
 closest-half a b h =
     subst (λ (x : ℕ). distance (closest a b * b) x * 2 ≤ b) (div-add-mod' a b)
     (half (distance (closest a b * b) (a / b * b + a % b)) (a % b)
@@ -99,7 +99,7 @@ rounded-relative p w = go (dropped p w) refl
         few d h = omega (arith, two-pow-succ k)
 
 -- no number of p digits times a power of two is nearer
-pub rounded-nearest : (p w q j : ℕ) → 0 < p → q < 2 ^ p → distance (rounded p w) w ≤ distance (q * 2 ^ j) w
+rounded-nearest : (p w q j : ℕ) → 0 < p → q < 2 ^ p → distance (rounded p w) w ≤ distance (q * 2 ^ j) w
 rounded-nearest p w q j h l = go (lt-or-le j (dropped p w))
   where
     go : (j < dropped p w) ⊎ (dropped p w ≤ j) → distance (rounded p w) w ≤ distance (q * 2 ^ j) w

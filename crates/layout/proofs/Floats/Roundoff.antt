@@ -45,7 +45,7 @@ module _ (f : Format) where
       ∙ ap (λ (x : ℕ). units f s x k)
       (closest-same n (den * 2 ^ k) w (2 ^ k) (mul-pos d (pow-pos k)) (pow-pos k) (ap (λ (x : ℕ). x * 2 ^ k) e ∙ mul-assoc w den (2 ^ k)))
 
-  pub round-value : (s : Bool) (num den w : ℕ) → 0 < den → num * 2 ^ low f ≡ w * den → T (finite (round f s num den))
+  round-value : (s : Bool) (num den w : ℕ) → 0 < den → num * 2 ^ low f ≡ w * den → T (finite (round f s num den))
       → HasValue (round f s num den) s (rounded (prec f) w) (2 ^ low f)
   round-value s num den w d e h =
       let same = round-units s num den w d e in
@@ -113,7 +113,7 @@ module _ (f : Format) (a b c A B : ℕ) (h : 0 < c) (e : a * 2 ^ low f ≡ A * c
         second = inl (omega arith);
       }
 
-  pub rounded-sum : (s t : Bool) → T (finite (sum f s a t b c)) → RoundedSum f (sum f s a t b c) s A t B
+  rounded-sum : (s t : Bool) → T (finite (sum f s a t b c)) → RoundedSum f (sum f s a t b c) s A t B
   unfolding sum
   rounded-sum false false r = like-signs false r
   rounded-sum true true r = like-signs true r

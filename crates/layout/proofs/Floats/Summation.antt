@@ -92,7 +92,7 @@ more-terms k S a e (t ∷ ts) fit all-fit fin small off =
     (subst (λ (z : ℤ). Off (suc k + length ts) (S + T′ + magnitudes ts) (count (leftSum b ts)) z) (+ℤ-assoc e (count t) (exactSum ts)) rest)
 
 -- from +0.0, k terms give at most k - 1 units of roundoff, since the first addition is exact
-pub summation-sharp : (ts : List Float) → Doubles ts → T (finite (leftSum zero64 ts))
+summation-sharp : (ts : List Float) → Doubles ts → T (finite (leftSum zero64 ts))
     → 2 ^ 53 * magnitude (count (leftSum zero64 ts) -ℤ exactSum ts) ≤ (length ts - 1) * magnitudes ts
 summation-sharp [] fit fin = lit≤ tt
 summation-sharp (t ∷ ts) all-fit fin =

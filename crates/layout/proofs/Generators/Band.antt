@@ -53,16 +53,16 @@ module _ (os : List ℕ) (v w : ℕ) (l : w < v) where
   pub band-count : cliqueCount (band os v w) ≡ suc (v - suc w)
   band-count = length-append inner (lastClique v w ∷ []) ∙ omega (arith, length-inner)
 
-  pub band-inner : (c : ℕ) → c < v - suc w → cliqueAt (band os v w) c ≡ bandClique w c
+  band-inner : (c : ℕ) → c < v - suc w → cliqueAt (band os v w) c ≡ bandClique w c
   band-inner c m =
       List·getD-append inner (lastClique v w ∷ []) noClique c (omega (arith, length-inner))
       ∙ getD-map (bandClique w) (below k) c 0 noClique (omega (arith, length-below k)) ∙ ap (bandClique w) (getD-below k c 0 m)
 
-  pub band-last : (c : ℕ) → c ≡ v - suc w → cliqueAt (band os v w) c ≡ lastClique v w
+  band-last : (c : ℕ) → c ≡ v - suc w → cliqueAt (band os v w) c ≡ lastClique v w
   band-last c e = getD-at inner (lastClique v w) [] noClique c (length-inner ∙ sym e)
 
   -- clique c contains the vertices c to c + w
-  pub band-members : (c : ℕ) → c < cliqueCount (band os v w) → members (cliqueAt (band os v w) c) ≡ upFrom c (suc w)
+  band-members : (c : ℕ) → c < cliqueCount (band os v w) → members (cliqueAt (band os v w) c) ≡ upFrom c (suc w)
   band-members c m = elim (lt-or-le c k) [
     | inl h ↦ ap members (band-inner c h)
     | inr h ↦
@@ -74,14 +74,14 @@ module _ (os : List ℕ) (v w : ℕ) (l : w < v) where
   in-band c u m = rw (band-members c m) (has-upFrom u c (suc w))
 
   -- a clique has w + 1 vertices, and its separator at most w
-  pub band-sizes : (c : ℕ) → c < cliqueCount (band os v w)
+  band-sizes : (c : ℕ) → c < cliqueCount (band os v w)
       → (blockSize (cliqueAt (band os v w) c) ≡ suc w) × (length (cliqueAt (band os v w) c .separator) ≤ w)
   band-sizes c m = elim (lt-or-le c k) [
     | inl h ↦ rw (band-inner c h) (omega (arith, length-upFrom (suc c) w))
     | inr h ↦ rw (band-last c (omega (arith, band-count))) (omega (arith, length-upFrom k (suc w)))
   ]
 
-  pub band-snodes : snodes (band os v w) ≡ below v
+  band-snodes : snodes (band os v w) ≡ below v
   band-snodes =
       join-append (λ (c : Clique). c .snode) inner (lastClique v w ∷ [])
       ∙ ap₂ _++_ (snodes-joined w 0 k) (append-nil (upFrom k (suc w)))

@@ -37,11 +37,11 @@ inBandAt places w r = within w (getD places (indexRow r) 0) (getD places (indexC
 abbrev pub inBand : List ℕ → ℕ → ℕ → Bool
 inBand os w r = within w (placeOf (indexRow r) os) (placeOf (indexColumn r) os)
 
-pub within-iff : (w a b : ℕ) → T (within w a b) ↔ ((a ≤ b + w) × (b ≤ a + w))
+within-iff : (w a b : ℕ) → T (within w a b) ↔ ((a ≤ b + w) × (b ≤ a + w))
 within-iff w a b = simp (and-iff, leb-iff) Iff·rfl
 
 -- `inBand` at the row of the pair (i, j)
-pub band-pair : (os : List ℕ) (w i j : ℕ) → i ≤ j → j < 256 → inBand os w (triangle j + i) ≡ within w (placeOf i os) (placeOf j os)
+band-pair : (os : List ℕ) (w i j : ℕ) → i ≤ j → j < 256 → inBand os w (triangle j + i) ≡ within w (placeOf i os) (placeOf j os)
 band-pair os w i j le m = ap₂ (λ (a b : ℕ). within w (placeOf a os) (placeOf b os)) (index-row i j le m) (index-column i j le m)
 
 pub band-pair-at : (places : List ℕ) (w i j : ℕ) → i ≤ j → j < 256 → inBandAt places w (triangle j + i) ≡ within w (getD places i 0) (getD places j 0)
@@ -99,7 +99,7 @@ module _ (os : List ℕ) (v w : ℕ) (l : w < v) (permutes : T (isPermutation os
   )
 
   -- as an equation, which a loop over j and i can use
-  pub covered-test : (i j : ℕ) → i ≤ j → j < v
+  covered-test : (i j : ℕ) → i ≤ j → j < v
       → has (triangle j + i) (coveredRows (bandParts os v w)) ≡ within w (placeOf i os) (placeOf j os)
   covered-test i j le m = same-tests _ _ (covered-iff i j le m)
 
@@ -120,7 +120,7 @@ module _ (os : List ℕ) (v w : ℕ) (l : w < v) (permutes : T (isPermutation os
   band-rows-rise = rises-keep (λ q. has q (coveredRows (bandParts os v w))) (below (triangle v)) (rises-upFrom 0 (triangle v))
 
   -- they are the rows that pass `inBand`
-  pub band-rows-test : v ≤ 256 → bandRows os v w ≡ keep (inBand os w) (below (triangle v))
+  band-rows-test : v ≤ 256 → bandRows os v w ≡ keep (inBand os w) (below (triangle v))
   band-rows-test few = keep-same (λ r. has r (coveredRows (bandParts os v w))) (inBand os w) (below (triangle v)) (λ r h.
       let (i, j, le, m, e) = triangle-pair v r (has-below r (triangle v) .0 h) in
       ap (λ (x : ℕ). has x (coveredRows (bandParts os v w))) e ∙ covered-test i j le m

@@ -25,7 +25,7 @@ use Rattle.layout.proofs.Columns.Compressed.{valuesOf}
 -- ---- values
 
 -- a drawn value is finite
-pub value-finite : (d : ℕ) → T (finite (drawnValue d))
+value-finite : (d : ℕ) → T (finite (drawnValue d))
 unfolding ofInt
 value-finite d = all-has (λ t. finite (ofInt binary64 (pos t -ℤ pos 100))) (below 201) .0 tt (d % 201) (has-below (d % 201) 201 .1 (mod-lt d (zero-lt-suc 200)))
 
@@ -91,7 +91,7 @@ column-length s (r ∷ rs) =
     go true x es h = omega arith
     go false x es h = omega arith
 
-pub column-finite : (s : ℕ) (rs : List ℕ) → T (all finite (valuesOf (drawnColumn s rs)))
+column-finite : (s : ℕ) (rs : List ℕ) → T (all finite (valuesOf (drawnColumn s rs)))
 column-finite s [] = tt
 column-finite s (r ∷ rs) =
     go (isOdd (draw s)) (drawnValue (draw (draw s))) (drawnColumn (afterEntry s) rs)

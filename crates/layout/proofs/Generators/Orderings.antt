@@ -19,7 +19,7 @@ use Rattle.layout.proofs.Lists.Distinct.{ApartPlaces, permutation-by, p
 -- ---- an exchange
 
 module _ (i k : ℕ) (xs : List ℕ) (li : i < length xs) (lk : k < length xs) where
-  pub length-exchange : length (exchange i k xs) ≡ length xs
+  length-exchange : length (exchange i k xs) ≡ length xs
   length-exchange = length-set (set xs i (getD xs k 0)) k (getD xs i 0) ∙ length-set xs i (getD xs k 0)
 
   -- after the exchange, index j holds the entry that was at index o
@@ -61,7 +61,7 @@ module _ (i k : ℕ) (xs : List ℕ) (li : i < length xs) (lk : k < length xs) w
       second : getD (exchange i k xs) k 0 ≡ getD xs i 0
       second = getD-set-same (set xs i (getD xs k 0)) k (getD xs i 0) 0 (omega (arith, length-set xs i (getD xs k 0)))
 
-  pub exchange-permutes : T (isPermutation xs) → T (isPermutation (exchange i k xs))
+  exchange-permutes : T (isPermutation xs) → T (isPermutation (exchange i k xs))
   exchange-permutes h = permutation-by (exchange i k xs) small apart
     where
       inside : (j : ℕ) → j < length (exchange i k xs) → j < length xs
@@ -82,7 +82,7 @@ module _ (i k : ℕ) (xs : List ℕ) (li : i < length xs) (lk : k < length xs) w
 -- ---- the exchanges
 
 -- exchanging each entry from k down to 1 of a permutation with one at or before it gives a permutation of the same length
-pub exchanges-permute : (k s : ℕ) (xs : List ℕ) → k < length xs → T (isPermutation xs)
+exchanges-permute : (k s : ℕ) (xs : List ℕ) → k < length xs → T (isPermutation xs)
     → T (isPermutation (exchanges k s xs)) × (length (exchanges k s xs) ≡ length xs)
 exchanges-permute zero s xs l h = (h, refl)
 exchanges-permute (suc k) s xs l h =

@@ -134,7 +134,7 @@ length-keep p (x ∷ xs) =
     omega arith
 
 -- filtering out a member makes the list shorter
-pub length-keep-out : (p : ℕ → Bool) (x : ℕ) (xs : List ℕ) → T (has x xs) → (T (p x) → ⊥) → length (keep p xs) < length xs
+length-keep-out : (p : ℕ → Bool) (x : ℕ) (xs : List ℕ) → T (has x xs) → (T (p x) → ⊥) → length (keep p xs) < length xs
 length-keep-out p x [] h out = absurd h
 length-keep-out p x (y ∷ ys) h out = elim (has-cons x y ys .0 h) [
   | inl e ↦ here (p y) (λ k. out (subst (λ (z : ℕ). T (p z)) (sym e) k))
@@ -194,7 +194,7 @@ permutation-has xs h x = (λ k. bounded x k, λ l. elim (tested (has x xs)) [ in
 abbrev pub ApartPlaces : List ℕ → Type 0
 ApartPlaces xs = (i j : ℕ) → i < length xs → j < length xs → getD xs i 0 ≡ getD xs j 0 → i ≡ j
 
-pub distinct-by : (xs : List ℕ) → ApartPlaces xs → T (distinct xs)
+distinct-by : (xs : List ℕ) → ApartPlaces xs → T (distinct xs)
 distinct-by [] h = tt
 distinct-by (x ∷ xs) h = distinct-cons x xs .1 (
   λ k.

@@ -23,10 +23,10 @@ module _ {A : Type 0} where
   abbrev pub EveryAt : A → (A → Type 0) → List A → Type 0
   EveryAt d P xs = (i : ℕ) → i < length xs → P (getD xs i d)
 
-  pub some-nil : (d : A) (P : A → Type 0) → SomeAt d P [] ↔ ⊥
+  some-nil : (d : A) (P : A → Type 0) → SomeAt d P [] ↔ ⊥
   some-nil d P = (λ s. not-suc-le-zero (s .1), absurd)
 
-  pub some-cons : (d : A) (P : A → Type 0) (x : A) (xs : List A) → SomeAt d P (x ∷ xs) ↔ (P x ⊎ SomeAt d P xs)
+  some-cons : (d : A) (P : A → Type 0) (x : A) (xs : List A) → SomeAt d P (x ∷ xs) ↔ (P x ⊎ SomeAt d P xs)
   some-cons d P x xs = (
     λ s. from (s .0) (s .1) (s .2),
     ⊎-elim (λ h. (zero, suc-le-suc zero-le, h)) (λ s. (suc (s .0), suc-le-suc (s .1), s .2)),

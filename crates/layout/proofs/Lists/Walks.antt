@@ -26,7 +26,7 @@ pub same-le : {a b n : ℕ} → a ≡ b → b ≤ n → a ≤ n
 same-le {n = n} e h = subst (λ (x : ℕ). x ≤ n) (sym e) h
 
 module _ {A B S : Type 0} (f : A → B → S → S) where
-  pub walk-none : (xs : List A) (s : S) → walk f xs [] s ≡ s
+  walk-none : (xs : List A) (s : S) → walk f xs [] s ≡ s
   walk-none [] s = refl
   walk-none (x ∷ xs) s = refl
 

@@ -42,17 +42,17 @@ each-below n (x ∷ xs) h = below-cons n x xs (h .0) (each-below n xs (h .1))
 
 -- ---- one number
 
-pub length-bytes : (w v : ℕ) → length (bytesOf w v) ≡ w
+length-bytes : (w v : ℕ) → length (bytesOf w v) ≡ w
 length-bytes zero v = refl
 length-bytes (suc w) v = ap suc (length-bytes w (v / 256))
 
-pub number-back : (w v : ℕ) → v < 256 ^ w → numberOf (bytesOf w v) ≡ v
+number-back : (w v : ℕ) → v < 256 ^ w → numberOf (bytesOf w v) ≡ v
 number-back zero v h = omega arith
 number-back (suc w) v h =
     let k = rw pow-succ' at h in
     rw (number-back w (v / 256) (omega arith)) (omega arith)
 
-pub bytes-back : (bs : List ℕ) → Below 256 bs → bytesOf (length bs) (numberOf bs) ≡ bs
+bytes-back : (bs : List ℕ) → Below 256 bs → bytesOf (length bs) (numberOf bs) ≡ bs
 bytes-back [] h = refl
 bytes-back (b ∷ bs) h =
     let l = below-head 256 b bs h in
@@ -60,7 +60,7 @@ bytes-back (b ∷ bs) h =
     let high : (b + 256 * numberOf bs) / 256 ≡ numberOf bs = omega arith in
     rw (low, high) (ap (λ (l : List ℕ). b ∷ l) (bytes-back bs (below-tail 256 b bs h)))
 
-pub number-fits : (bs : List ℕ) → Below 256 bs → numberOf bs < 256 ^ length bs
+number-fits : (bs : List ℕ) → Below 256 bs → numberOf bs < 256 ^ length bs
 number-fits [] h = omega arith
 number-fits (b ∷ bs) h =
     let l = below-head 256 b bs h in

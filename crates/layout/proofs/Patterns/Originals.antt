@@ -43,7 +43,7 @@ module _ (p : Pattern) (o : Ordered p) where
   inside : (u : ℕ) → u < p .vertexCount → u < length (p .ordering)
   inside u l = omega (arith, o .vertices)
 
-  pub original-bounded : (u : ℕ) → u < p .vertexCount → original p u < p .vertexCount
+  original-bounded : (u : ℕ) → u < p .vertexCount → original p u < p .vertexCount
   original-bounded u l =
       let h : original p u < length (p .ordering) =
       permutation-has (p .ordering) (o .permutation) (original p u) .0 (has-getD (p .ordering) u 0 (inside u l)) in

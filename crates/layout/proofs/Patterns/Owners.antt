@@ -32,14 +32,14 @@ shared p c u v = elim (tested (has u (cliqueAt p c .separator))) [
 
 module _ (p : Pattern) (tree : T (treeRight p)) (right : T (cliquesRight p)) where
   -- a clique that holds a vertex does not come after the clique whose snode holds it
-  pub snode-least : (c a u : ℕ) → c < cliqueCount p → a < cliqueCount p → In p c u → InSnode p a u → c ≤ a
+  snode-least : (c a u : ℕ) → c < cliqueCount p → a < cliqueCount p → In p c u → InSnode p a u → c ≤ a
   snode-least c a u l m h k =
       let (e, high, low, s) = snode-above p tree right u c l h in
       let q : e ≡ a = snode-once p right e a u low m s k in
       omega arith
 
   -- the owner of u and v is the first of the two cliques whose snodes hold u and v
-  pub owner-first : (c a b u v : ℕ) → c < cliqueCount p → a < cliqueCount p → b < cliqueCount p
+  owner-first : (c a b u v : ℕ) → c < cliqueCount p → a < cliqueCount p → b < cliqueCount p
       → InSnode p a u → InSnode p b v → Owns p c u v → min a b ≡ c
   owner-first c a b u v l la lb sa sb owns =
       let ca : c ≤ a = snode-least c a u l la (owns .0 .0) sa in

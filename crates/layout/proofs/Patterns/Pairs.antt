@@ -72,7 +72,7 @@ length-pairs vs =
     let h : 0 + length (pairs vs) ≡ triangle (0 + length vs) = length-columns f 0 (length vs) in
     omega (arith, ap triangle e)
 
-pub pairs-at : (vs : List ℕ) (i j : ℕ) (d : Pair) → i ≤ j → j < length vs
+pairs-at : (vs : List ℕ) (i j : ℕ) (d : Pair) → i ≤ j → j < length vs
     → getD (pairs vs) (triangle j + i) d ≡ pair (getD vs i 0) (getD vs j 0)
 pairs-at vs i j d l m =
     columns-at (λ a b. pair (getD vs a 0) (getD vs b 0)) d 0 (length vs) i j (triangle j + i)

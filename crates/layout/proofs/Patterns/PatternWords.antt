@@ -21,13 +21,13 @@ module _ {A : Type 0} where
   After P short = Unit {0}
 
   -- if the words end with what was read, P holds of it with no words after it
-  pub after-wholly : (P : A → List ℕ → Type 0) (none : A) (r : Read A) → After P r → T (endsRight r) → P (wholly none r) []
+  after-wholly : (P : A → List ℕ → Type 0) (none : A) (r : Read A) → After P r → T (endsRight r) → P (wholly none r) []
   after-wholly P none (read a []) h e = h
   after-wholly P none (read a (w ∷ ws)) h e = absurd e
   after-wholly P none short h e = absurd e
 
 module _ {A B : Type 0} where
-  pub after-then : (P : A → List ℕ → Type 0) (Q : B → List ℕ → Type 0) (r : Read A) (f : A → List ℕ → Read B)
+  after-then : (P : A → List ℕ → Type 0) (Q : B → List ℕ → Type 0) (r : Read A) (f : A → List ℕ → Read B)
       → After P r → ((a : A) (left : List ℕ) → P a left → After Q (f a left)) → After Q (andThen r f)
   after-then P Q (read a left) f h k = k a left h
   after-then P Q short f h k = tt
@@ -35,7 +35,7 @@ module _ {A B : Type 0} where
 abbrev pub MembersOf : ℕ → List ℕ → List ℕ → List ℕ → Type 0
 MembersOf k ws xs left = (ws ≡ xs ++ left) × (length xs ≡ k)
 
-pub members-after : (k : ℕ) (ws : List ℕ) → After (MembersOf k ws) (readMembers k ws)
+members-after : (k : ℕ) (ws : List ℕ) → After (MembersOf k ws) (readMembers k ws)
 members-after k ws = pick (leb k (length ws)) (leb→le k (length ws))
   where
     pick : (b : Bool) → (T b → k ≤ length ws) → After (MembersOf k ws) (cond b (read (take k ws) (drop k ws)) short)
@@ -50,7 +50,7 @@ module _ {A : Type 0} (words : A → List ℕ) where
   abbrev pub ManyOf : ℕ → List ℕ → List A → List ℕ → Type 0
   ManyOf k ws xs left = (ws ≡ join words xs ++ left) × (length xs ≡ k)
 
-  pub many-after : (one : List ℕ → Read A) → ((ws : List ℕ) → After (OneOf ws) (one ws))
+  many-after : (one : List ℕ → Read A) → ((ws : List ℕ) → After (OneOf ws) (one ws))
       → (k : ℕ) (ws : List ℕ) → After (ManyOf k ws) (readMany one k ws)
   many-after one h zero ws = (refl, refl)
   many-after one h (suc k) ws =
@@ -59,14 +59,14 @@ module _ {A : Type 0} (words : A → List ℕ) where
       (e ∙ ap (λ (l : List ℕ). words a ++ l) (g .0) ∙ sym (append-assoc (words a) (join words xs) end), ap suc (g .1))))
 
   -- the words of a list, read as that many elements, give the list
-  pub many-read : (one : List ℕ → Read A) (fits : A → Bool) → ((a : A) (left : List ℕ) → T (fits a) → one (words a ++ left) ≡ read a left)
+  many-read : (one : List ℕ → Read A) (fits : A → Bool) → ((a : A) (left : List ℕ) → T (fits a) → one (words a ++ left) ≡ read a left)
       → (xs : List A) (left : List ℕ) → T (all fits xs) → readMany one (length xs) (join words xs ++ left) ≡ read xs left
   many-read one fits h [] left k = refl
   many-read one fits h (a ∷ xs) left k =
       let (here, rest) = and-iff (fits a) (all fits xs) .0 k in
       rw (append-assoc (words a) (join words xs) left, h a (join words xs ++ left) here, many-read one fits h xs left rest)
 
-pub clique-after : (ws : List ℕ) → After (OneOf cliqueWords ws) (readClique ws)
+clique-after : (ws : List ℕ) → After (OneOf cliqueWords ws) (readClique ws)
 clique-after [] = tt
 clique-after (p ∷ []) = tt
 clique-after (p ∷ a ∷ []) = tt
@@ -75,13 +75,13 @@ clique-after (p ∷ a ∷ e ∷ ws) =
     after-then (MembersOf e left) (OneOf cliqueWords (p ∷ a ∷ e ∷ ws)) (readMembers e left) _ (members-after e left) (λ ys end g.
     rw (h .1, g .1) (ap (λ (l : List ℕ). p ∷ a ∷ e ∷ l) (h .0 ∙ ap (λ (l : List ℕ). xs ++ l) (g .0) ∙ sym (append-assoc xs ys end)))))
 
-pub cliques-after : (k : ℕ) (ws : List ℕ) → After (ManyOf cliqueWords k ws) (readCliques k ws)
+cliques-after : (k : ℕ) (ws : List ℕ) → After (ManyOf cliqueWords k ws) (readCliques k ws)
 cliques-after k ws = many-after cliqueWords readClique clique-after k ws
 
 abbrev pub HeadOf : List ℕ → Head → List ℕ → Type 0
 HeadOf ws h left = (ws ≡ h .origIndex ∷ h .vertexCount ∷ h .cliqueCount ∷ (h .ordering ++ left)) × (length (h .ordering) ≡ h .vertexCount)
 
-pub head-after : (ws : List ℕ) → After (HeadOf ws) (readHead ws)
+head-after : (ws : List ℕ) → After (HeadOf ws) (readHead ws)
 head-after [] = tt
 head-after (o ∷ []) = tt
 head-after (o ∷ v ∷ []) = tt
@@ -108,12 +108,12 @@ words-of-patterns count ws e =
 
 -- ---- reading words back
 
-pub members-read : (xs left : List ℕ) → readMembers (length xs) (xs ++ left) ≡ read xs left
+members-read : (xs left : List ℕ) → readMembers (length xs) (xs ++ left) ≡ read xs left
 members-read xs left =
     cond-passed (leb (length xs) (length (xs ++ left))) _ _ (le→leb (length xs) (length (xs ++ left)) (omega (arith, length-append xs left)))
     ∙ ap₂ read (take-append-seam xs left) (drop-append-seam xs left)
 
-pub clique-read : (c : Clique) (left : List ℕ) → readClique (cliqueWords c ++ left) ≡ read c left
+clique-read : (c : Clique) (left : List ℕ) → readClique (cliqueWords c ++ left) ≡ read c left
 clique-read c left =
     rw (append-assoc (c .snode) (c .separator) left, members-read (c .snode) (c .separator ++ left), members-read (c .separator) left)
 
@@ -121,10 +121,10 @@ every-clique : (cs : List Clique) → T (all (λ c. true) cs)
 every-clique [] = tt
 every-clique (c ∷ cs) = every-clique cs
 
-pub cliques-read : (cs : List Clique) (left : List ℕ) → readCliques (length cs) (join cliqueWords cs ++ left) ≡ read cs left
+cliques-read : (cs : List Clique) (left : List ℕ) → readCliques (length cs) (join cliqueWords cs ++ left) ≡ read cs left
 cliques-read cs left = many-read cliqueWords readClique (λ c. true) (λ c rest _. clique-read c rest) cs left (every-clique cs)
 
-pub pattern-read : (p : Pattern) (left : List ℕ) → T (orderingFits p) → readPattern (patternWordsOf p ++ left) ≡ read p left
+pattern-read : (p : Pattern) (left : List ℕ) → T (orderingFits p) → readPattern (patternWordsOf p ++ left) ≡ read p left
 pattern-read p left fits =
     let e : length (p .ordering) ≡ p .vertexCount = eqb-iff (length (p .ordering)) (p .vertexCount) .0 fits in
     rw (

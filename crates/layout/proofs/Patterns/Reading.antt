@@ -20,7 +20,7 @@ module _ {A : Type 0} where
   reads-any (read a ws) = tt
   reads-any short = tt
 
-  pub reads-wholly : (P : A → Type 0) (a : A) (r : Read A) → P a → Reads P r → P (wholly a r)
+  reads-wholly : (P : A → Type 0) (a : A) (r : Read A) → P a → Reads P r → P (wholly a r)
   reads-wholly P a (read b []) h k = k
   reads-wholly P a (read b (w ∷ ws)) h k = h
   reads-wholly P a short h k = h
@@ -31,7 +31,7 @@ module _ {A B : Type 0} where
   reads-then P Q (read a ws) f h k = k a ws h
   reads-then P Q short f h k = tt
 
-pub reads-members : (k : ℕ) (ws : List ℕ) → Reads (λ xs. length xs ≡ k) (readMembers k ws)
+reads-members : (k : ℕ) (ws : List ℕ) → Reads (λ xs. length xs ≡ k) (readMembers k ws)
 reads-members k ws = pick (leb k (length ws)) (leb→le k (length ws))
   where
     pick : (b : Bool) → (T b → k ≤ length ws) → Reads (λ xs. length xs ≡ k) (cond b (read (take k ws) (drop k ws)) short)

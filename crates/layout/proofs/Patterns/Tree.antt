@@ -18,7 +18,7 @@ use Rattle.layout.proofs.Lists.Distinct.{distinct-join, permutation-has
 -- ---- what the checks say
 
 -- what check 6 says of each clique
-pub parent-right : (p : Pattern) → T (treeRight p) → (c : ℕ) → c < cliqueCount p → T (parentRight p c)
+parent-right : (p : Pattern) → T (treeRight p) → (c : ℕ) → c < cliqueCount p → T (parentRight p c)
 parent-right p tree c l =
     all-has (parentRight p) (below (cliqueCount p)) .0 ((simp and-iff at tree) .1) c (has-below c (cliqueCount p) .1 l)
 

@@ -44,7 +44,7 @@ module _ (p : Pattern) (ok : RightPattern p) where
         length-below v,
       )
 
-  pub pattern-most : p .vertexCount ≤ 256 → length (patternWordsOf p) ≤ 66563
+  pattern-most : p .vertexCount ≤ 256 → length (patternWordsOf p) ≤ 66563
   pattern-most few =
       omega (
         arith,
@@ -98,7 +98,7 @@ module _ {m : ℕ} {cones : List ℕ} {count : ℕ} {words : List ℕ} (h : Soun
       ]
 
   -- there are no more patterns than cones, as patterns name cones of strictly increasing number
-  pub patterns-few : length ps ≤ length cs
+  patterns-few : length ps ≤ length cs
   patterns-few =
       let origins : List ℕ = map (λ p. p .origIndex) ps in
       omega (

@@ -92,7 +92,7 @@ module _ (n k : ℕ) (M N : Csc) where
         column-length n N rightN c l,
       )
 
-  pub stacked-entries : RightStarts n M → RightStarts n N
+  stacked-entries : RightStarts n M → RightStarts n N
       → length (csc (stackedColumns n k M N) .values) ≡ length (M .values) + length (N .values)
   stacked-entries rightM rightN =
       omega (arith, stacked-starts rightM rightN n (le-refl n), stacked-right .last, stacked-right .even, rightM .last, rightM .even, rightN .last, rightN .even)
@@ -318,7 +318,7 @@ module _ (p q : Problem) (hp : Checked p) (hq : Checked q) (same : p .n ≡ q .n
   pub pool-entries : length (pool p q .A .values) ≡ length (p .A .values) + length (q .A .values)
   pool-entries = stacked-entries (p .n) (p .m) (p .A) (q .A) right-first right-second
 
-  pub pool-cone-count : length (records (pool p q .cones)) ≡ length (records (p .cones)) + length (records (q .cones))
+  pool-cone-count : length (records (pool p q .cones)) ≡ length (records (p .cones)) + length (records (q .cones))
   pool-cone-count = ap length (pool-records p q (hp .sound) (hq .sound)) ∙ length-append (records (p .cones)) (records (q .cones))
 
   -- of check 1 only three bounds can fail

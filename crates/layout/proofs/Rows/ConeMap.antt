@@ -106,7 +106,7 @@ blocksFrom first [] = []
 blocksFrom first (x ∷ ps) = partBlocks first x ++ blocksFrom (first + partRows x) ps
 
 -- joined one after the other they are the augmented rows
-pub blocks-joined : (first : ℕ) (ps : List Part) → join (λ R. R) (blocksFrom first ps) ≡ rowsFrom first ps
+blocks-joined : (first : ℕ) (ps : List Part) → join (λ R. R) (blocksFrom first ps) ≡ rowsFrom first ps
 blocks-joined first [] = refl
 blocks-joined first (whole i c row ∷ ps) =
     ap (λ (r : List Row). map kept (upFrom row (rowCount c)) ++ r) (blocks-joined (first + rowCount c) ps)
@@ -123,7 +123,7 @@ cliques-long i k row first p h (suc c) l =
     (ap₂ {C = List ℕ} (λ n ns. n ∷ ns) (length-map (block p c) (rowOf p row first c) ∙ block-length p h c l) (cliques-long i k row first p h c (omega arith)))
 
 -- each is as long as its entry's row count
-pub blocks-long : (first row : ℕ) (ps : List Part) → Laid row ps → map length (blocksFrom first ps) ≡ map entryRows (mapFrom first ps)
+blocks-long : (first row : ℕ) (ps : List Part) → Laid row ps → map length (blocksFrom first ps) ≡ map entryRows (mapFrom first ps)
 blocks-long first row [] h = refl
 blocks-long first row (whole i c r ∷ ps) h =
     ap₂ {C = List ℕ} (λ n ns. n ∷ ns) (length-map (upFrom r (rowCount c)) kept ∙ length-upFrom r (rowCount c))

@@ -35,7 +35,7 @@ after xs ys n k r e f =
     ap (rowAt (xs ++ ys)) g ∙ getD-append-add xs ys k (kept 0)
 
 -- the augmented row for row t of part j, an undecomposed cone, is kept
-pub whole-kept : (first start : ℕ) (ps : List Part) → Laid start ps → (j : ℕ) (d : Part) (i : ℕ) (c : Cone) (row t : ℕ) → j < length ps
+whole-kept : (first start : ℕ) (ps : List Part) → Laid start ps → (j : ℕ) (d : Part) (i : ℕ) (c : Cone) (row t : ℕ) → j < length ps
     → getD ps j d ≡ whole i c row → t < rowCount c → rowAt (rowsFrom first ps) (blockRowCount (take j ps) + t) ≡ kept (row + t)
 whole-kept first start [] laid j d i c row t l e m = absurd (not-suc-le-zero l)
 whole-kept first start (q ∷ ps) laid zero d i c row t l e m =
@@ -90,7 +90,7 @@ starts-after start (cut h r n b ∷ ps) laid (suc j) d i row k p l e =
     omega (arith, starts-after (start + triangle (b .vertexCount)) ps (laid .2) j d i row k p (le-of-suc-le-suc l) e)
 
 -- no augmented row is copied to original row o of part j, a decomposed cone
-pub cut-decomposed : (first start : ℕ) (ps : List Part) → Laid start ps → (j : ℕ) (d : Part) (i row k : ℕ) (p : Pattern) (o : ℕ) → j < length ps
+cut-decomposed : (first start : ℕ) (ps : List Part) → Laid start ps → (j : ℕ) (d : Part) (i row k : ℕ) (p : Pattern) (o : ℕ) → j < length ps
     → getD ps j d ≡ cut i row k p → row ≤ o → o < row + triangle (p .vertexCount) → T (decomposed o (rowsFrom first ps))
 cut-decomposed first start [] laid j d i row k p o l e low high = absurd (not-suc-le-zero l)
 cut-decomposed first start (q ∷ ps) laid zero d i row k p o l e low high =

@@ -298,7 +298,7 @@ module _ {A : Type 0} (f : Part → ℕ → List A) where
       ∙ sym (map-drop size noClique (p .cliques) 0 (cliqueCount p) (omega arith))
 
   -- the compact order of the values with cliques from first to last is the values with cliques from last to first
-  pub order-blocks : (ps : List Part) → Sized ps → compactOrder ps (join firstToLast ps) ≡ join lastToFirst ps
+  order-blocks : (ps : List Part) → Sized ps → compactOrder ps (join firstToLast ps) ≡ join lastToFirst ps
   order-blocks [] h = refl
   order-blocks (whole i c row ∷ ps) h =
       let x = f (whole i c row) 0 in

@@ -63,7 +63,7 @@ module _ (p : Pattern) (h : RightPattern p) where
       ∙ count-pairs (among p c) (cliqueVertices p c)
       ∙ ap triangle (separator-count c l)
 
-  pub pattern-overlaps : (base first : ℕ)
+  pattern-overlaps : (base first : ℕ)
       → countIf isOverlap (patternRows p base first) ≡ sum (map (λ q. triangle (length (q .separator))) (p .cliques))
   pattern-overlaps base first =
       let size : Clique → ℕ = λ q. triangle (length (q .separator)) in
@@ -74,7 +74,7 @@ module _ (p : Pattern) (h : RightPattern p) where
       (λ c k. clique-overlaps base first c (omega (arith, has-upFrom c 0 (cliqueCount p) .0 k)))
       ∙ sym (map-drop size noClique (p .cliques) 0 (cliqueCount p) (omega arith)))
 
-pub laid-overlaps : (first row : ℕ) (ps : List Part) → Laid row ps → countIf isOverlap (rowsFrom first ps) ≡ overlapCount ps
+laid-overlaps : (first row : ℕ) (ps : List Part) → Laid row ps → countIf isOverlap (rowsFrom first ps) ≡ overlapCount ps
 laid-overlaps first row [] h = refl
 laid-overlaps first row (whole i c r ∷ ps) h =
     omega (

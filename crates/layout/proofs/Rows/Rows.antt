@@ -35,12 +35,12 @@ blockRow p c i j = parentRow p 0 c (pair i j)
 -- ---- one row
 
 -- a pair in the clique's separator has an overlap row
-pub row-of-overlap : (p : Pattern) (base first c i j : ℕ) → T (inSeparator p c (pair i j))
+row-of-overlap : (p : Pattern) (base first c i j : ℕ) → T (inSeparator p c (pair i j))
     → rowOf p base first c (pair i j) ≡ overlap (base + pairIndex i j) (parentRow p first (parentOf p c) (pair i j))
 row-of-overlap p base first c i j h = cond-passed (inSeparator p c (pair i j)) _ _ h
 
 -- any other pair of the clique has an owned row
-pub row-of-owned : (p : Pattern) (base first c i j : ℕ) → T (not (inSeparator p c (pair i j)))
+row-of-owned : (p : Pattern) (base first c i j : ℕ) → T (not (inSeparator p c (pair i j)))
     → rowOf p base first c (pair i j) ≡ owned (base + pairIndex i j)
 row-of-owned p base first c i j h = cond-failed (inSeparator p c (pair i j)) _ _ (not-iff (inSeparator p c (pair i j)) .0 h)
 
@@ -57,7 +57,7 @@ isOwned (owned o) = true
 isOwned (overlap o r) = false
 
 -- only a pair that the clique owns has an owned row
-pub owned-row : (p : Pattern) (base first c i j o : ℕ) → rowOf p base first c (pair i j) ≡ owned o
+owned-row : (p : Pattern) (base first c i j o : ℕ) → rowOf p base first c (pair i j) ≡ owned o
     → T (not (inSeparator p c (pair i j)))
 owned-row p base first c i j o e = not-iff (inSeparator p c (pair i j)) .1
     (λ h. subst (λ (x : Row). T (isOwned x)) (sym e ∙ row-of-overlap p base first c i j h) tt)
@@ -69,7 +69,7 @@ tie (owned o) = 0
 tie (overlap o r) = r
 
 -- only a pair in the clique's separator has an overlap row, tied to the pair's row in the parent's block
-pub overlap-row : (p : Pattern) (base first c i j o q : ℕ) → rowOf p base first c (pair i j) ≡ overlap o q
+overlap-row : (p : Pattern) (base first c i j o q : ℕ) → rowOf p base first c (pair i j) ≡ overlap o q
     → T (inSeparator p c (pair i j)) × (q ≡ parentRow p first (parentOf p c) (pair i j))
 overlap-row p base first c i j o q e = elim (tested (inSeparator p c (pair i j))) [
   | inl h ↦ (h, ap tie (sym e ∙ row-of-overlap p base first c i j h))
@@ -84,7 +84,7 @@ module _ (p : Pattern) (ok : RightPattern p) where
   block-length c l = length-pairs (cliqueVertices p c) ∙ ap triangle (block-side p ok c l)
 
   -- the rows of a later clique come before those of an earlier one
-  pub row-before : (c d i j : ℕ) → c < d → d < cliqueCount p → HoldsPair p d i j → i ≤ j → blockRow p d i j < firstRow p 0 c
+  row-before : (c d i j : ℕ) → c < d → d < cliqueCount p → HoldsPair p d i j → i ≤ j → blockRow p d i j < firstRow p 0 c
   row-before c d i j l m h le =
       let vs = cliqueVertices p d in
       let size : Clique → ℕ = λ q. triangle (blockSize q) in
@@ -129,7 +129,7 @@ module _ (p : Pattern) (ok : RightPattern p) where
         ∙ getD-map (rowOf p base first c) (block p c) t d x (omega (arith, block-length c l))
 
     -- the row of the pair (i, j) of clique c is at index `blockRow p c i j`
-    pub pair-row : (c i j : ℕ) (x : Row) → c < cliqueCount p → HoldsPair p c i j → i ≤ j
+    pair-row : (c i j : ℕ) (x : Row) → c < cliqueCount p → HoldsPair p c i j → i ≤ j
         → getD (patternRows p base first) (blockRow p c i j) x ≡ rowOf p base first c (pair i j)
     pair-row c i j x l h le =
         let vs = cliqueVertices p c in
@@ -138,7 +138,7 @@ module _ (p : Pattern) (ok : RightPattern p) where
         ∙ ap (rowOf p base first c) e
 
     -- every row is the row of a pair that its clique holds
-    pub row-entry : (r : ℕ) (x : Row) → r < blockRows p
+    row-entry : (r : ℕ) (x : Row) → r < blockRows p
         → (c : ℕ) × (i : ℕ) × (j : ℕ) × (c < cliqueCount p) × HoldsPair p c i j × (i ≤ j) × (r ≡ blockRow p c i j)
         × (getD (patternRows p base first) r x ≡ rowOf p base first c (pair i j))
     row-entry r x l =

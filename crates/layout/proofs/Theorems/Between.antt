@@ -34,12 +34,12 @@ use Rattle.layout.proofs.Rows.Laid.{accepted-rows}
 -- ---- a row's value
 
 -- an augmented row that is not an overlap has b's value, a zero as +0.0; an overlap has +0.0
-pub moved-value : (b : List Float) (x : Row) → T (isMoved x) → rowValue b x ≡ plusZero (getD b (originalRow x) nan)
+moved-value : (b : List Float) (x : Row) → T (isMoved x) → rowValue b x ≡ plusZero (getD b (originalRow x) nan)
 moved-value b (kept o) h = refl
 moved-value b (owned o) h = refl
 moved-value b (overlap o q) h = absurd h
 
-pub overlap-value : (b : List Float) (x : Row) → (T (isMoved x) → ⊥) → rowValue b x ≡ zero64
+overlap-value : (b : List Float) (x : Row) → (T (isMoved x) → ⊥) → rowValue b x ≡ zero64
 overlap-value b (kept o) h = absurd (h tt)
 overlap-value b (owned o) h = absurd (h tt)
 overlap-value b (overlap o q) h = refl
@@ -129,7 +129,7 @@ module _ (p : Problem) (low high : List Float) where
   named = patternsRead (p .cones) (p .patternCount) (p .patternWords)
 
   -- Apart from check 16, only the length of high is read, in check 4, and its values, in check 9.
-  pub limits-checks : limitsChecks p low high
+  limits-checks : limitsChecks p low high
       ≡ tableChecks p
       ++ (check 4 (check4 (withB p low) && eqb (length high) (p .m)) ∷ check 16 (atMost low high)
       ∷ (patternChecks p

@@ -87,11 +87,11 @@ module _ (n m : ℕ) (cones : List ℕ) (count : ℕ) (words : List ℕ) (sol : 
   changed-sizes = λ i. x-long i ∷ s-long i ∷ z-long i ∷ 2 ∷ []
 
   -- and those that a compact joining of the same problem asks for
-  pub changed-fits : T (solutionFits compact n m (joinedParts cones count words) (changed n m (joinedParts cones count words) sol))
+  changed-fits : T (solutionFits compact n m (joinedParts cones count words) (changed n m (joinedParts cones count words) sol))
   changed-fits = simp (and-iff, eqb-iff) ((x-long, s-long), z-long)
 
   -- checks 1 to 10 of a compact joining pass
-  pub changed-taken : joinChecks compact n m cones count words ≡ 0
+  changed-taken : joinChecks compact n m cones count words ≡ 0
   changed-taken =
       none-fails (joinTests compact n m cones count words) (test 1, (test 4, (test 5, (test 6, (test 7, (change-checked .1, tt))))))
     where
@@ -99,7 +99,7 @@ module _ (n m : ℕ) (cones : List ℕ) (count : ℕ) (words : List ℕ) (sol : 
       test k = passed k (joinTests standard n m cones count words) tt (change-checked .0)
 
   -- a compact joining of the result is accepted, given the right cone map and long enough outputs
-  pub changed-joined : (entries rooms′ : List ℕ) → T (mapRight compact (joinedParts cones count words) entries)
+  changed-joined : (entries rooms′ : List ℕ) → T (mapRight compact (joinedParts cones count words) entries)
       → T (roomy (n ∷ m ∷ m ∷ 2 ∷ []) rooms′)
       → joinRefusal compact n m cones count words (changed n m (joinedParts cones count words) sol) entries rooms′ ≡ 0
   changed-joined entries rooms′ map′ room =
@@ -133,7 +133,7 @@ module _ (n m : ℕ) (cones : List ℕ) (count : ℕ) (words : List ℕ) (sol : 
       (length-map (drop m (sol .s)) count₆₄ ∙ after-s)
 
   -- what Q-12 asks to be proved
-  pub route-changed : RouteChanged n m (joinedParts cones count words) sol (changed n m (joinedParts cones count words) sol)
+  route-changed : RouteChanged n m (joinedParts cones count words) sol (changed n m (joinedParts cones count words) sol)
   route-changed = record {
     fits = changed-fits;
     unknowns = refl;
@@ -157,7 +157,7 @@ module _ (n m : ℕ) (cones : List ℕ) (count : ℕ) (words : List ℕ) (sol : 
   front : (xs old new : List Float) (k : ℕ) → k ≡ length xs → new ≡ written xs old → take k new ≡ xs
   front xs old new k e w = ap₂ take e w ∙ take-written xs old
 
-  pub held-changed : held n m (joinedParts cones count words) after ≡ changed n m (joinedParts cones count words) sol
+  held-changed : held n m (joinedParts cones count words) after ≡ changed n m (joinedParts cones count words) sol
   held-changed =
       let ps = joinedParts cones count words in
       let x-front = front (answer .x) (before .x) (after .x) (n + addedCount compact ps) (sym (x-long n m cones count words sol (rejoinedRooms before) ok)) (given .tables .x) in

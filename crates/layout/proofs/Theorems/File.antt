@@ -14,7 +14,8 @@ use Rattle.layout.specs.General.Bytes.{tableBytes, numbersOf}
 use Rattle.layout.specs.Problems.Cones.{Cone, Kind, zeroCone, nonnegative, secondOrder, exponential, power, genPower, psdTriangle, noKind, kindOf, records, nvars, rowCount, alphas, alphaCount}
 use Rattle.layout.specs.Checks.{Checked, problemChecks}
 use Rattle.layout.specs.Calls.Answers.{orElse, roomRefusal, problemRefusal}
-use Rattle.layout.specs.Files.File.{HeaderCounts, countWords, countsIn, tableSizes, offsetsFrom, endFrom, headerOf, BitTables, bitTables, problemOf, Fit, countsOf, tablesBytes, laidFrom, fileOf, writeRefusal, header, tableAt, tablesBy, fileTables, lengthRight, gapsZero, tablesRight, shapeChecks, shapeFailing, fileFailing}
+use Rattle.layout.specs.Files.File.{HeaderCounts, countWords, countsIn, tableSizes, offsetsFrom, endFrom, headerOf, BitTables, bitTables, problemOf, Fit, countsOf, tablesBytes, laidFrom, fileOf, header, tableAt, tablesBy, fileTables, lengthRight, gapsZero, tablesRight, shapeChecks, shapeFailing, fileFailing}
+use Rattle.layout.specs.Calls.WriteFile.{writeRefusal}
 use Rattle.layout.proofs.Lists.Tests.{and-iff, eqb-iff}
 use Rattle.layout.proofs.Lists.Walks.{numbers-equal, numbers-same}
 use Rattle.layout.proofs.Checks.Order.{orElse-zero, passed, none-fails, failing-append}
@@ -67,7 +68,7 @@ module _ (t : BitTables) (s : Shaped t) where
   sized : (w : ℕ) (xs : List ℕ) (k : ℕ) → length xs ≡ k → length (tableBytes w xs) ≡ w * k
   sized w xs k e = length-table w xs ∙ ap (λ (j : ℕ). w * j) e
 
-  pub shaped-sizes : map length (tablesBytes t) ≡ tableSizes (countsOf t)
+  shaped-sizes : map length (tablesBytes t) ≡ tableSizes (countsOf t)
   shaped-sizes = λ i.
       sized 4 (t .pStarts) (suc (t .n)) (s .pStarts) i ∷ sized 4 (t .pRows) (length (t .pValues)) (s .pRows) i
       ∷ length-table 8 (t .pValues) i ∷ sized 8 (t .q) (t .n) (s .q) i
@@ -75,12 +76,12 @@ module _ (t : BitTables) (s : Shaped t) where
       ∷ length-table 8 (t .aValues) i ∷ sized 8 (t .b) (t .m) (s .b) i
       ∷ sized 4 (t .cones) (3 * (length (t .cones) / 3)) (s .cones) i ∷ length-table 8 (t .alphas) i ∷ length-table 4 (t .patternWords) i ∷ []
 
-  pub shaped-length : length (fileOf t) ≡ endFrom 80 (tableSizes (countsOf t))
+  shaped-length : length (fileOf t) ≡ endFrom 80 (tableSizes (countsOf t))
   shaped-length = file-length t ∙ ap (endFrom 80) shaped-sizes
 
 -- ---- checks 13 and 14
 
-pub shape-iff : (bs : List ℕ) → shapeFailing bs ≡ 0 ↔ (T (lengthRight bs) × T (tablesRight bs))
+shape-iff : (bs : List ℕ) → shapeFailing bs ≡ 0 ↔ (T (lengthRight bs) × T (tablesRight bs))
 shape-iff bs = (
   λ e. (passed 13 (shapeChecks bs) tt e, passed 14 (shapeChecks bs) tt e),
   λ h. none-fails (shapeChecks bs) (h .0, (h .1, tt)),
@@ -131,7 +132,7 @@ module _ (t : BitTables) (s : Shaped t) (f : Fit t) (few : Below 4294967296 (hea
       (table 10 4 (t .patternWords) (length (t .patternWords)) (lit< tt) refl (f .patternWords) refl i)
 
   -- tables that fit are read back from their file, which passes 13 and 14
-  pub shaped-back : (fileTables (fileOf t) ≡ t) × (shapeFailing (fileOf t) ≡ 0)
+  shaped-back : (fileTables (fileOf t) ≡ t) × (shapeFailing (fileOf t) ≡ 0)
   shaped-back = (
     ap (λ (h : List ℕ). tablesBy h (fileOf t)) header-back ∙ tables-back,
     shape-iff (fileOf t) .1 (
@@ -164,7 +165,7 @@ module _ (bs : List ℕ) (bytes : Below 256 bs) (ok : shapeFailing bs ≡ 0) whe
   right : T (sameNumbers h (headerOf (countsIn h))) × T (gapsZero 80 ks bs)
   right = and-iff (sameNumbers h (headerOf (countsIn h))) (gapsZero 80 ks bs) .0 (shape-iff bs .0 ok .1)
 
-  pub header-is : header bs ≡ headerOf (countsIn (header bs))
+  header-is : header bs ≡ headerOf (countsIn (header bs))
   header-is = numbers-equal h (headerOf (countsIn h)) (right .0)
 
   pub file-end : endFrom 80 (tableSizes (countsIn (header bs))) ≡ length bs
@@ -213,7 +214,7 @@ module _ (bs : List ℕ) (bytes : Below 256 bs) (ok : shapeFailing bs ≡ 0) whe
         words = count 10 4 (c .words) i;
       }
 
-  pub shape-again : fileOf (fileTables bs) ≡ bs
+  shape-again : fileOf (fileTables bs) ≡ bs
   shape-again =
       ap₂ (λ (l : List ℕ) (ts : List (List ℕ)). tableBytes 4 l ++ laidFrom 80 ts)
       (ap headerOf counts-again ∙ sym header-is) pieces
@@ -293,7 +294,7 @@ few-end c h =
     omega (arith, end-most 80 (tableSizes c), h .n, h .m, h .entriesP, h .entriesA, h .cones, h .alphas, h .patterns, h .words)
 
 -- a header's numbers fit u32 if the file's end and the pattern count do
-pub header-fits : (c : HeaderCounts) → endFrom 80 (tableSizes c) < 4294967296 → c .patterns < 4294967296 → Below 4294967296 (headerOf c)
+header-fits : (c : HeaderCounts) → endFrom 80 (tableSizes c) < 4294967296 → c .patterns < 4294967296 → Below 4294967296 (headerOf c)
 header-fits c low few =
     let ks = tableSizes c in
     let count : (i : ℕ) → i < 11 → getD ks i 0 < 4294967296 = λ i l. omega (arith, table-inside 80 ks i l) in

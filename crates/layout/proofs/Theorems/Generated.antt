@@ -58,7 +58,7 @@ noEntries n = record { starts = replicate (suc n) 0; rows = []; values = [] }
 no-entries : (n : ℕ) → csc (replicate n []) ≡ noEntries n
 no-entries n = rw (no-columns 0 n, nothing-joined n)
 
-pub no-entries-right : (m n : ℕ) → T (startsRight n (noEntries n)) × T (rowsRight m n (noEntries n))
+no-entries-right : (m n : ℕ) → T (startsRight n (noEntries n)) × T (rowsRight m n (noEntries n))
 no-entries-right m n =
     let cs : List (List Entry) = replicate n [] in
     let many : length cs ≡ n = length-replicate n [] in
@@ -178,10 +178,10 @@ module _ (seed v w n : ℕ) (ok : T (inRanges seed v w n)) where
       ap (readPatterns 1) (sym (append-nil (patternWordsOf (band os v w))))
       ∙ patterns-of-words (band os v w ∷ []) (and-iff (eqb (length os) v) true .1 (eqb-iff (length os) v .1 (permutes .1), tt))
 
-  pub generated-patterns : patterns 1 (patternWordsOf (band (drawnOrdering seed v) v w)) ≡ band (drawnOrdering seed v) v w ∷ []
+  generated-patterns : patterns 1 (patternWordsOf (band (drawnOrdering seed v) v w)) ≡ band (drawnOrdering seed v) v w ∷ []
   generated-patterns = rw words-read
 
-  pub generated-layout : layout (generated seed v w n) ≡ bandParts (drawnOrdering seed v) v w
+  generated-layout : layout (generated seed v w n) ≡ bandParts (drawnOrdering seed v) v w
   generated-layout = rw generated-patterns
 
   -- checks 1 to 10
@@ -269,7 +269,7 @@ module _ (seed v w n : ℕ) (ok : T (inRanges seed v w n)) where
       (one, (two, (three, (four, (five, (six, (seven, (nine route, (ten route, tt)))))))))
 
   -- no row index repeats within a column of A
-  pub generated-alone : T (withoutRepeats (generated seed v w n))
+  generated-alone : T (withoutRepeats (generated seed v w n))
   generated-alone = alone-A os v w n s
 
   -- A and b are finite: as stored and, as demand 3 asks, after repeated entries are summed
@@ -327,7 +327,7 @@ pub record GeneratedWell (p : Problem) : Type 0 where
   pub solutions : SameSolutions p
   pub routes : OneProblem p
 
-pub generated-well : (seed v w n : ℕ) → T (inRanges seed v w n) → GeneratedWell (generated seed v w n)
+generated-well : (seed v w n : ℕ) → T (inRanges seed v w n) → GeneratedWell (generated seed v w n)
 generated-well seed v w n ok = record {
   accepted = generated-accepted seed v w n ok;
   alone = generated-alone seed v w n ok;

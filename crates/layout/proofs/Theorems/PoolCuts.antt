@@ -48,7 +48,7 @@ raisedRow r a (owned o) = owned (r + o)
 raisedRow r a (overlap o q) = overlap (r + o) (a + q)
 
 -- with a augmented rows before it, the first row of a clique's block is raised by a
-pub first-row-raised : (p : Pattern) (d a first c : ℕ) → firstRow (raisedPattern d p) (a + first) c ≡ a + firstRow p first c
+first-row-raised : (p : Pattern) (d a first c : ℕ) → firstRow (raisedPattern d p) (a + first) c ≡ a + firstRow p first c
 first-row-raised p d a first c = omega arith
 
 module _ (d r t a : ℕ) where
@@ -90,7 +90,7 @@ module _ (d r t a : ℕ) where
       ∙ sym (map-append (raisedRow r a) (patternRows p row first) (rowsFrom (first + blockRows p) ps))
 
 -- the rows of appended parts are those of the first list, then those of the second
-pub rows-append : (first : ℕ) (ps qs : List Part) → rowsFrom first (ps ++ qs) ≡ rowsFrom first ps ++ rowsFrom (first + blockRowCount ps) qs
+rows-append : (first : ℕ) (ps qs : List Part) → rowsFrom first (ps ++ qs) ≡ rowsFrom first ps ++ rowsFrom (first + blockRowCount ps) qs
 rows-append first [] qs = ap (λ (f : ℕ). rowsFrom f qs) (omega arith)
 rows-append first (whole i c row ∷ ps) qs =
     let n : ℕ = rowCount c in
@@ -108,7 +108,7 @@ rows-append first (cut i row k p ∷ ps) qs =
 -- ---- the cone map
 
 -- the cone map of appended parts is that of the first list, then that of the second
-pub map-from-append : (first : ℕ) (ps qs : List Part)
+map-from-append : (first : ℕ) (ps qs : List Part)
     → mapFrom first (ps ++ qs) ≡ mapFrom first ps ++ mapFrom (first + blockRowCount ps) qs
 map-from-append first [] qs = ap (λ (f : ℕ). mapFrom f qs) (omega arith)
 map-from-append first (x ∷ ps) qs =
@@ -304,7 +304,7 @@ overlaps-append i (x ∷ R) S =
     ∙ sym (append-assoc (overlapColumn i x) (overlapColumns (suc i) R) (overlapColumns (i + suc (length R)) S))
 
 -- entries es stacked above fs, over the rows R above S: no entry of one moves to a row of the other
-pub stacked-augmented : (m a : ℕ) (R S : List Row) (es fs : List Entry) → length R ≡ a
+stacked-augmented : (m a : ℕ) (R S : List Row) (es fs : List Entry) → length R ≡ a
     → ((o : ℕ) → T (has o (map originalRow R)) → o < m) → ((o : ℕ) → T (has o (rowsOf es)) → o < m)
     → augmentedColumn (es ++ raisedEntries m fs) 0 (R ++ map (raisedRow m a) S)
     ≡ augmentedColumn es 0 R ++ raisedEntries a (augmentedColumn fs 0 S)
@@ -330,7 +330,7 @@ stacked-augmented m a R S es fs e inside above =
 
 -- ---- columns below n given by a function, followed by other columns
 
-pub csc-after : (f : ℕ → List Entry) (n : ℕ) (ds : List (List Entry)) (k : ℕ) → length ds ≡ k → columnsFrom n k (csc (map f (below n) ++ ds)) ≡ ds
+csc-after : (f : ℕ → List Entry) (n : ℕ) (ds : List (List Entry)) (k : ℕ) → length ds ≡ k → columnsFrom n k (csc (map f (below n) ++ ds)) ≡ ds
 csc-after f n ds k e =
     let ruled : List (List Entry) = map f (below n) in
     let count : length ruled ≡ n = ruled-count f n ds in
@@ -371,7 +371,7 @@ module _ (p q : Problem) (hp : Checked p) (hq : Checked q) where
   laid = pool-layout p q (hp .sound) (hq .sound)
 
   -- the second problem's rows follow the first's: original rows are raised by the first's m, augmented rows by its augmented row count
-  pub pool-compact-rows : compactRows (layout (pool p q))
+  pool-compact-rows : compactRows (layout (pool p q))
       ≡ compactRows (layout p) ++ map (raisedRow (p .m) (blockRowCount (layout p))) (compactRows (layout q))
   pool-compact-rows =
       let start : 0 + a ≡ a + 0 = omega arith in
@@ -388,7 +388,7 @@ module _ (p q : Problem) (hp : Checked p) (hq : Checked q) where
       ∙ ap (λ (xs : List ℕ). sum (map f (layout p)) + sum xs)
       (map-map f (raisedPart d (p .m) (p .patternCount)) (layout q) ∙ ap (λ (g : Part → ℕ). map g (layout q)) (fun-ext free))
 
-  pub pool-overlap-count : overlapCount (layout (pool p q)) ≡ overlapCount (layout p) + overlapCount (layout q)
+  pool-overlap-count : overlapCount (layout (pool p q)) ≡ overlapCount (layout p) + overlapCount (layout q)
   pool-overlap-count = parts-sum partOverlaps free
     where
       free : (x : Part) → partOverlaps (raisedPart d (p .m) (p .patternCount) x) ≡ partOverlaps x
@@ -422,7 +422,7 @@ module _ (p q : Problem) (hp : Checked p) (hq : Checked q) where
 
   -- ---- compact
 
-  pub pool-compact-cones : compactCones (pool p q) ≡ compactCones p ++ compactCones q
+  pool-compact-cones : compactCones (pool p q) ≡ compactCones p ++ compactCones q
   pool-compact-cones =
       parts-joined compactPart ∙ ap (λ (f : Part → List ℕ). compactCones p ++ join f (layout q)) (fun-ext free)
     where
@@ -430,10 +430,10 @@ module _ (p q : Problem) (hp : Checked p) (hq : Checked q) where
       free (whole i c row) = refl
       free (cut i row k x) = refl
 
-  pub pool-compact-P : compactP (pool p q) ≡ extendedP (overlapCount (layout p) + overlapCount (layout q)) (p .P)
+  pool-compact-P : compactP (pool p q) ≡ extendedP (overlapCount (layout p) + overlapCount (layout q)) (p .P)
   pool-compact-P = ap (λ (k : ℕ). extendedP k (p .P)) pool-overlap-count
 
-  pub pool-compact-q : compactQ (pool p q) ≡ p .q ++ replicate (overlapCount (layout p) + overlapCount (layout q)) zero64
+  pool-compact-q : compactQ (pool p q) ≡ p .q ++ replicate (overlapCount (layout p) + overlapCount (layout q)) zero64
   pool-compact-q = ap (λ (k : ℕ). p .q ++ replicate k zero64) pool-overlap-count
 
   -- the original rows of the first problem's augmented rows are below its m
@@ -442,7 +442,7 @@ module _ (p q : Problem) (hp : Checked p) (hq : Checked q) where
       let (i, l, e) = has-map (kept 0) originalRow o R .0 k in
       omega (arith, e, sound-rows (hp .sound) .inside i l)
 
-  pub pool-compact-b : compactB (pool p q) ≡ compactB p ++ compactB q
+  pool-compact-b : compactB (pool p q) ≡ compactB p ++ compactB q
   pool-compact-b =
       ap (map (rowValue (p .b ++ q .b))) pool-compact-rows
       ∙ map-append (rowValue (p .b ++ q .b)) R (map (raisedRow (p .m) a) S)
@@ -500,7 +500,7 @@ module _ (p q : Problem) (hp : Checked p) (hq : Checked q) where
         (ap (λ (i : ℕ). overlapColumns i (map (raisedRow (p .m) a) S)) start ∙ overlaps-raised (p .m) a 0 S))
 
     -- each column has the first's rows above the second's; then come the first's overlap columns, then the second's
-    pub pool-compact-A : compactA (pool p q)
+    pool-compact-A : compactA (pool p q)
         ≡ csc (stackedColumns (p .n) (blockRowCount (layout p)) (compactA p) (compactA q)
         ++ (columnsFrom (p .n) (overlapCount (layout p)) (compactA p)
         ++ map (raisedEntries (blockRowCount (layout p))) (columnsFrom (q .n) (overlapCount (layout q)) (compactA q))))
@@ -524,7 +524,7 @@ module _ (p q : Problem) (hp : Checked p) (hq : Checked q) where
         ++ map (raisedEntries a) (columnsFrom (q .n) (overlapCount (layout q)) (compactA q))) c l
 
     -- the pool's whole compact cut
-    pub pool-compact : augmented compact (pool p q) ≡ pooledCut p q
+    pool-compact : augmented compact (pool p q) ≡ pooledCut p q
     pool-compact = λ i. record {
       P = pool-compact-P i;
       q = pool-compact-q i;

@@ -110,7 +110,7 @@ rows-fit m M inside few i l =
     omega (arith, ltb→lt (getD (M .rows) i 0) m (all-at 0 (λ r. ltb r m) (M .rows) .0 inside i l))
 
 -- the tables of a problem that passes checks 1 to 7 fit u32 and u64, if its floats and pattern words fit
-pub checked-fit : (p : Problem) → Checked p → FloatsFit p → U32s (p .patternWords) → Fit (tablesOf p)
+checked-fit : (p : Problem) → Checked p → FloatsFit p → U32s (p .patternWords) → Fit (tablesOf p)
 checked-fit p h f words =
     record {
       pStarts = starts-fit (p .n) (p .P) (h .startsP) (h .fewEntriesP);
@@ -128,7 +128,7 @@ checked-fit p h f words =
     }
 
 -- the tables of the compact problem fit u32 and u64 if the given tables do
-pub compact-fit : (t : BitTables) → Fit t → Checked (compactProblem (problemOf t)) → Fit (compactTables t)
+compact-fit : (t : BitTables) → Fit t → Checked (compactProblem (problemOf t)) → Fit (compactTables t)
 compact-fit t f h =
     let p = problemOf t in
     let k = overlapCount (layout p) in
@@ -158,7 +158,7 @@ module _ (bs : List ℕ) (bytes : Below 256 bs) (ok : programRefusal bs ≡ 0) w
   abbrev c : HeaderCounts
   c = countsIn (header bs)
 
-  pub program-passed : T (leb (length bs) 8192) × (shapeFailing bs ≡ 0) × (refusal compact (problemOf (fileTables bs)) ≡ 0)
+  program-passed : T (leb (length bs) 8192) × (shapeFailing bs ≡ 0) × (refusal compact (problemOf (fileTables bs)) ≡ 0)
       × T (leb (length (compactFile bs)) 65536)
   program-passed =
       let last : ℕ = cond (leb (length (compactFile bs)) 65536) 0 10 in

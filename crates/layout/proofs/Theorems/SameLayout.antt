@@ -30,7 +30,7 @@ use Rattle.layout.proofs.Columns.Sizes.{compactSizes, compact-sizes, st
 
 -- ---- what is compared
 
-pub places-equal : (M N : Csc) → T (samePlaces M N) → SamePlaces M N
+places-equal : (M N : Csc) → T (samePlaces M N) → SamePlaces M N
 places-equal M N h =
     let (s, r) = and-iff (sameNumbers (M .starts) (N .starts)) (sameNumbers (M .rows) (N .rows)) .0 h in
     (numbers-equal (M .starts) (N .starts) s, numbers-equal (M .rows) (N .rows) r)
@@ -112,7 +112,7 @@ module _ (route : Route) (p q : Problem) (same : T (sameLayout p q)) (okp : refu
       count-told (p .patternCount) (q .patternCount) (p .patternWords) (ended p okp)
       (subst (λ (ws : List ℕ). T (endsRight (readPatterns (q .patternCount) ws))) (sym (compared p q same .3)) (ended q okq))
 
-  pub same-parts : layout p ≡ layout q
+  same-parts : layout p ≡ layout q
   same-parts = λ i. parts (records (compared p q same .2 i)) (patterns (counts i) (compared p q same .3 i))
 
   -- both problems have equally many entries, as check 2 requires as many values as rows

@@ -105,7 +105,7 @@ module _ (p : Problem) (count : ℕ) (sides : List Float) where
       go false one two three long four five six seven = refl
 
   -- with a right count and a right length, the first side's checks are those of the compact route for that side
-  pub first-right : SidesFit (p .m) count sides → firstFailing (firstSideChecks p count sides) ≡ refusal compact (withSide p sides 0)
+  first-right : SidesFit (p .m) count sides → firstFailing (firstSideChecks p count sides) ≡ refusal compact (withSide p sides 0)
   first-right h = rw (le-leb 1 count (h .some), le-leb count 64 (h .few), eq-eqb (length sides) (count * p .m) (h .filled))
 
   -- what holds if none of the first side's checks fails
@@ -200,7 +200,7 @@ module _ (p : Problem) (count : ℕ) (sides : List Float) where
   length-sidesB = length-runs (λ k. compactB (withSide p sides k)) rows even 0 count
 
   -- the k-th run of the written b is the k-th side's augmented b
-  pub sidesB-run : (k : ℕ) → k < count → side (length (compactRows (layout p))) k (sidesB p count sides) ≡ compactB (withSide p sides k)
+  sidesB-run : (k : ℕ) → k < count → side (length (compactRows (layout p))) k (sidesB p count sides) ≡ compactB (withSide p sides k)
   sidesB-run k l =
       run-at (λ k. compactB (withSide p sides k)) rows even 0 count k l ∙ ap (λ (j : ℕ). compactB (withSide p sides j)) (omega arith)
 

@@ -18,7 +18,7 @@ use Rattle.layout.proofs.Checks.Order.{orElse-zero}
 use Rattle.layout.proofs.Theorems.Between.{carries}
 
 -- two outputs with the same table written to their start have the same prefix
-pub same-fronts : {A : Type 0} (new old old2 : List A) {out out2 : List A} → out ≡ written new old → out2 ≡ written new old2
+same-fronts : {A : Type 0} (new old old2 : List A) {out out2 : List A} → out ≡ written new old → out2 ≡ written new old2
     → take (length new) out ≡ take (length new) out2
 same-fronts new old old2 w w2 = front-read new old w ∙ sym (front-read new old2 w2)
 

@@ -9,11 +9,11 @@ use lib.ListN.{length, getD, take}
 use lib.Dec.{lit<}
 use Rattle.layout.specs.General.Lists.{Below, written}
 use Rattle.layout.specs.Calls.Answers.{output, orElse, roomRefusal, roomy, problemRefusal}
-use Rattle.layout.specs.Files.File.{HeaderCounts, countsIn, countedLengths, tableSizes, BitTables, bitTables, problemOf, Fit, countsOf, fileOf, writeRefusal, fileTables, fileFailing}
+use Rattle.layout.specs.Files.File.{HeaderCounts, countsIn, countedLengths, tableSizes, BitTables, bitTables, problemOf, Fit, countsOf, fileOf, fileTables, fileFailing}
 use Rattle.layout.specs.Files.FileWords.{fileWords, pairsOf, wordsAt, wordTables, wordShapeFailing, wordsFailing}
 use Rattle.layout.specs.Calls.FileWords.{FileWords}
 use Rattle.layout.specs.Calls.ReadFile.{FileOutputs, fileRooms, ReadFile}
-use Rattle.layout.specs.Calls.WriteFile.{WriteFile}
+use Rattle.layout.specs.Calls.WriteFile.{WriteFile, writeRefusal}
 use Rattle.layout.specs.Written.FileWritten.{tablesAt}
 use Rattle.layout.proofs.Checks.Order.{orElse-zero}
 use Rattle.layout.proofs.Lists.Buffers.{front-read}
@@ -33,7 +33,7 @@ module _ (ws : List ℕ) (n : ℕ) (ok : wordShapeFailing ws n ≡ 0) where
   doubles : (i k : ℕ) → i < 11 → 8 * k ≡ getD (tableSizes (countsIn ws)) i 0 → length (pairsOf (wordsAt ws i (2 * k))) ≡ k
   doubles i k l z = length-pairs k (wordsAt ws i (2 * k)) (length-words-at ws n ok i (2 * k) l (omega arith))
 
-  pub words-counts : countsOf (wordTables ws) ≡ countsIn ws
+  words-counts : countsOf (wordTables ws) ≡ countsIn ws
   words-counts =
       let third : length (wordsAt ws 8 (3 * c .cones)) / 3 ≡ c .cones = omega (arith, length-words-at ws n ok 8 (3 * c .cones) (lit< tt) refl) in
       λ i. record {
@@ -54,7 +54,7 @@ read-accepted ws n b e =
     (ok, orElse-zero (wordShapeFailing ws n) (problemRefusal (problemOf (wordTables ws))) .0 (sym (words-in-order ws n) ∙ ok) .0)
 
 -- the outputs of a reader that refuses nothing contain the tables
-pub read-front : (ws : List ℕ) (n : ℕ) {before after : FileOutputs} → ReadFile ws n before after 0 → tablesAt after ≡ wordTables ws
+read-front : (ws : List ℕ) (n : ℕ) {before after : FileOutputs} → ReadFile ws n before after 0 → tablesAt after ≡ wordTables ws
 read-front ws n {before} {after} call =
     let c = countsIn ws in
     let t = call .tables in

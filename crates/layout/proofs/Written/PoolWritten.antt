@@ -17,7 +17,7 @@ use Rattle.layout.proofs.Theorems.PoolCuts.{accepted-pool, pool-standar
 use Rattle.layout.proofs.Pools.PoolTables.{Pooled, pooled}
 
 -- the outputs of a cut that returns 0 start with the tables of the cut
-pub cut-front : (k : ℕ) (p : Problem) {before after : Augmented} → Cut k p before after 0 → cutAt (routeOf k) p after ≡ augmented (routeOf k) p
+cut-front : (k : ℕ) (p : Problem) {before after : Augmented} → Cut k p before after 0 → cutAt (routeOf k) p after ≡ augmented (routeOf k) p
 cut-front k p {before} {after} cut =
     let new = augmented (routeOf k) p in
     let o = cut .tables .objective in

@@ -25,7 +25,7 @@ told : (b : Bool) (k : ℕ) → k ≡ cond b 1 0 → k ≡ 1 → T b
 told true k e f = tt
 told false k e f = absurd (omega (arith, e, f))
 
-pub layouts-told : (p q : Problem) {before after : List ℕ} → SameLayout p q before after 0 → getD after 0 0 ≡ 1 → T (sameLayout p q)
+layouts-told : (p q : Problem) {before after : List ℕ} → SameLayout p q before after 0 → getD after 0 0 ≡ 1 → T (sameLayout p q)
 layouts-told p q {before} {after} same one = told (sameLayout p q) (getD after 0 0) (ap (λ (ws : List ℕ). getD ws 0 0) (same .out)) one
 
 -- two outputs to which equal tables were written agree in what was written

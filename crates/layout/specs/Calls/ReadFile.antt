@@ -1,11 +1,13 @@
--- The contract of the reader: its refusal number, and the contents of each output. Floats are given as bit patterns.
+-- The reader of a problem file (document 02, Q-2), over the file's words: its refusal number, its results and its contract. Floats are given as
+-- bit patterns.
 use Prim.Native.Nat.{ℕ}
 use mathlib.Core.Path.{_≡_}
+use mathlib.Core.Bool.{cond}
 use mathlib.Core.List.{List, [], _∷_}
 use lib.ListN.{length}
-use Rattle.layout.specs.Files.File.{HeaderCounts, countWords, countsIn, BitTables}
-use Rattle.layout.specs.Files.FileWords.{wordTables, readWordsRefusal}
-use Rattle.layout.specs.Calls.Answers.{output}
+use Rattle.layout.specs.Files.File.{HeaderCounts, countWords, countsIn, countedLengths, BitTables}
+use Rattle.layout.specs.Files.FileWords.{wordTables, wordsFailing}
+use Rattle.layout.specs.Calls.Answers.{output, orElse, roomy}
 
 -- the twelve outputs: the eight counts of the header, then the tables in the file's order
 pub record FileOutputs : Type 0 where
@@ -64,6 +66,10 @@ pub record HoldsFile (r : ℕ) (new before after : FileOutputs) : Type 0 where
   pub cones : after .cones ≡ output r (new .cones) (before .cones)
   pub alphas : after .alphas ≡ output r (new .alphas) (before .alphas)
   pub patternWords : after .patternWords ≡ output r (new .patternWords) (before .patternWords)
+
+-- the refusal number of the reader; `rooms` has the lengths of the outputs: the eight counts, then each table in the file's order
+abbrev pub readWordsRefusal : List ℕ → ℕ → List ℕ → ℕ
+readWordsRefusal ws bytes rooms = orElse (wordsFailing ws bytes) (cond (roomy (8 ∷ countedLengths (countsIn ws)) rooms) 0 11)
 
 -- the words of a file of `bytes` bytes
 pub record ReadFile (words : List ℕ) (bytes : ℕ) (before after : FileOutputs) (r : ℕ) : Type 0 where

@@ -12,7 +12,7 @@ use Rattle.layout.specs.General.Bytes.{tableBytes, numbersOf, U32s, U64s
 use Rattle.layout.specs.Problems.Problem.{Problem, problem, compact}
 use Rattle.layout.specs.Rows.Blocks.{blockRowCount, overlapCount}
 use Rattle.layout.specs.Checks.{Check, check, firstFailing, layout, problemChecks, checks}
-use Rattle.layout.specs.Calls.Answers.{orElse, roomRefusal, roomy, problemRefusal}
+use Rattle.layout.specs.Calls.Answers.{orElse, roomy, problemRefusal}
 use Rattle.layout.specs.Calls.Cut.{augmented}
 
 -- ---- the header
@@ -163,10 +163,6 @@ laidFrom a (t ∷ ts) = replicate (aligned a - a) 0 ++ (t ++ laidFrom (aligned a
 
 abbrev pub fileOf : BitTables → List ℕ
 fileOf t = tableBytes 4 (headerOf (countsOf t)) ++ laidFrom 80 (tablesBytes t)
-
--- the refusal number of the writer: checks 1 to 7, then 11 where the output is too short
-abbrev pub writeRefusal : BitTables → ℕ → ℕ
-writeRefusal t room = orElse (problemRefusal (problemOf t)) (roomRefusal (length (fileOf t)) room)
 
 -- ---- the reader
 

@@ -1,7 +1,7 @@
 -- A problem file as words (document 02, Q-2): the reader is given the file's complete u32 words and its length in bytes. Each u32 table
 -- is a part of the words, and each number of a u64 table is two words. Definitions only.
 use Prim.Native.Nat.{ℕ, suc, _+_, _*_, _/_}
-use mathlib.Core.Bool.{Bool, true, cond, _&&_}
+use mathlib.Core.Bool.{Bool, true, _&&_}
 use mathlib.Core.List.{List, [], _∷_, _++_}
 use lib.ListN.{length, getD, take, replicate}
 use lib.Dec.{leb, eqb}
@@ -10,8 +10,7 @@ use Rattle.layout.specs.General.Lists.{all, part, sameNumbers}
 use Rattle.layout.specs.General.Bytes.{numbersOf}
 use Rattle.layout.specs.Problems.Problem.{Problem, problem}
 use Rattle.layout.specs.Checks.{Check, check, firstFailing, problemChecks}
-use Rattle.layout.specs.Calls.Answers.{orElse, roomy}
-use Rattle.layout.specs.Files.File.{countsIn, countedLengths, tableSizes, aligned, headerOf, BitTables, bitTables, problemOf}
+use Rattle.layout.specs.Files.File.{countsIn, tableSizes, aligned, headerOf, BitTables, bitTables, problemOf}
 
 -- the complete u32 words of a file; 1 to 3 bytes after them are left out
 abbrev pub fileWords : List ℕ → List ℕ
@@ -76,7 +75,3 @@ unvaluedProblem ws =
     problem (c .n) (c .m) (wordsAt ws 0 (suc (c .n))) (wordsAt ws 1 (c .entriesP)) (unvalued (c .entriesP)) (unvalued (c .n))
     (wordsAt ws 4 (suc (c .n))) (wordsAt ws 5 (c .entriesA)) (unvalued (c .entriesA)) (unvalued (c .m))
     (wordsAt ws 8 (3 * c .cones)) (unvalued (c .alphas)) (c .patterns) (wordsAt ws 10 (c .words))
-
--- the refusal number of the reader; `rooms` has the lengths of the outputs: the eight counts, then each table in the file's order
-abbrev pub readWordsRefusal : List ℕ → ℕ → List ℕ → ℕ
-readWordsRefusal ws bytes rooms = orElse (wordsFailing ws bytes) (cond (roomy (8 ∷ countedLengths (countsIn ws)) rooms) 0 11)

@@ -1,7 +1,7 @@
 use mathlib.Core.Path.{_≡_, refl, sym, _∙_}
 use Rattle.layout.specs.Files.File.{countsIn}
-use Rattle.layout.specs.Files.FileWords.{wordTables, readWordsRefusal}
-use Rattle.layout.specs.Calls.ReadFile.{FileOutputs, fileOutputs, fileRooms, outputsOf}
+use Rattle.layout.specs.Files.FileWords.{wordTables}
+use Rattle.layout.specs.Calls.ReadFile.{FileOutputs, fileOutputs, fileRooms, outputsOf, readWordsRefusal}
 use Rattle.file_shape.specs.Parts.{WellShaped}
 use Rattle.file_tables.proofs.Rooms.{file-kept, RoomsFit, read-taken}
 use Rattle.problem_file.proofs.read_file.Statement.{statement}
