@@ -2,11 +2,13 @@
 // undecomposed cones and those rows of decomposed cones that are in some clique's block.
 ghost use mathlib.Core.Path.{_≡_};
 ghost use Prim.Native.Nat.{suc, _+_, _*_, _≤_, _<_};
-ghost use mathlib.Core.Bool.{true, false, _&&_};
+ghost use mathlib.Core.Bool.{true, false, _&&_, _||_};
 ghost use lib.ListN.{length, getD, replicate};
 ghost use lib.Dec.{T, ltb};
+ghost use lib.Ieee.{eq};
 ghost use mathlib.Core.List.{map, reverse};
 ghost use Rattle.layout.specs.General.Lists.{all, rises, upFrom, join, Below};
+ghost use Rattle.layout.specs.General.Floats.{zero64};
 ghost use Rattle.layout.specs.Problems.Cones.{records};
 ghost use Rattle.layout.specs.Problems.Patterns.{patterns};
 ghost use Rattle.layout.specs.Rows.Blocks.{pairs, pairRow, parts};
@@ -128,38 +130,47 @@ fn mark_covered(m: u32, cones: &[u32], count: u32, words: &[u32], covered: &mut 
     }
 }
 
-// Checks that the stored entries of A, with row indices `rows`, are in marked rows.
+// Checks that the stored entries of A, with row indices `rows`, are in marked rows. The walk goes on after one that is not, so that it has one
+// way out.
 fn entries_covered(covered: &[bool], rows: &[u32]) -> bool
     requires { ⌜ Below (length (now covered)) (now rows) ⌝ }
     ensures { λ r. ⌜ r ≡ rowsMarked (now (covered .entry)) (now (rows .entry)) ⌝ }
 {
+    let mut holds = true;
     let mut i = 0;
     while i < rows.len() {
         if !covered[rows[i] as usize] {
-            return false;
+            holds = false;
         }
         i += 1;
     }
-    true
+    holds
 }
 
-// Checks that the nonzero values of `b` are in marked rows; a NaN is nonzero.
+// Returns whether a row may have the value `v`: a zero, or any value where the row is `marked`. A NaN is nonzero.
+fn may_have(v: f64, marked: bool) -> bool
+    ensures { λ r. ⌜ r ≡ (eq v zero64 || marked) ⌝ }
+{
+    if v == 0.0 {
+        return true;
+    }
+    marked
+}
+
+// Checks that the nonzero values of `b` are in marked rows. The walk goes on after one that is not, so that the compiler tests several at a time.
 fn values_covered(covered: &[bool], b: &[f64]) -> bool
     requires { ⌜ length (now b) ≤ length (now covered) ⌝ }
     ensures { λ r. ⌜ r ≡ valuesMarked (now (covered .entry)) (now (b .entry)) ⌝ }
 {
+    let mut holds = true;
     let mut i = 0;
     while i < b.len() {
-        if b[i] == 0.0 {
-            i += 1;
-            continue;
-        }
-        if !covered[i] {
-            return false;
+        if !may_have(b[i], covered[i]) {
+            holds = false;
         }
         i += 1;
     }
-    true
+    holds
 }
 
 // Checks that the nonzero values are in marked rows for each right side from number `first` up to, not including, number `last`.

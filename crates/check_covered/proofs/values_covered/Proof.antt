@@ -1,9 +1,10 @@
-use Prim.Native.Nat.{ℕ, _-_, _≤_}
-use mathlib.Core.Path.{_≡_, sym, _∙_}
-use mathlib.Core.Bool.{Bool, false, _||_}
+use Prim.Native.Nat.{ℕ, _+_, _-_, _≤_}
+use mathlib.Core.Path.{_≡_, sym, ap, _∙_}
+use mathlib.Core.Logic.{⊎-elim}
+use mathlib.Core.Bool.{Bool, false, _&&_, _||_, and-true, and-false}
 use mathlib.Core.List.{List}
 use lib.ListN.{length, getD, drop}
-use lib.Ieee.{Float, nan, eq, ofBits}
+use lib.Ieee.{Float, nan, eq}
 use Rattle.layout.specs.General.Lists.{all, below}
 use Rattle.layout.specs.General.Floats.{zero64}
 use Rattle.csc.proofs.Fronts.{below-step, below-fails, below-done}
@@ -18,20 +19,27 @@ use Rattle.check_covered.proofs.values_covered.Tie as tie
 abbrev fine : List Bool → List Float → ℕ → Bool
 fine covered b r = eq (getD b r nan) zero64 || getD covered r false
 
+-- `holds` is whether the first i rows pass
 abbrev Inv-loop : tie.InvT-loop
-Inv-loop covered b i₀ i = (i ≤ length b) × (valuesMarked covered b ≡ all (fine covered b) (drop i (below (length b))))
+Inv-loop covered b holds₀ i₀ holds i = (i ≤ length b) × (valuesMarked covered b ≡ (holds && all (fine covered b) (drop i (below (length b)))))
 
 abbrev μ-loop : tie.MeasureT-loop
-μ-loop covered b i₀ i = length b - i
+μ-loop covered b holds₀ i₀ holds i = length b - i
 
 loop-holds : tie.Need-loop-holds Inv-loop μ-loop
 loop-holds c = search needs
 
-mul-if1 : tie.Need-mul-if1 Inv-loop μ-loop
-mul-if1 c = search needs
+mul-may-have : tie.Need-mul-may-have Inv-loop μ-loop
+mul-may-have c = search needs
 
-shared-slice-read-if1 : tie.Need-shared-slice-read-if1 Inv-loop μ-loop
-shared-slice-read-if1 c = search needs
+shared-slice-read-may-have : tie.Need-shared-slice-read-may-have Inv-loop μ-loop
+shared-slice-read-may-have c = search needs
+
+shared-slice-read-may-have-2 : tie.Need-shared-slice-read-may-have-2 Inv-loop μ-loop
+shared-slice-read-may-have-2 c = search needs
+
+may-have-requires : tie.Need-may-have-requires Inv-loop μ-loop
+may-have-requires c κs = tt
 
 add-i : tie.Need-add-i Inv-loop μ-loop
 add-i c = search needs
@@ -40,40 +48,26 @@ loop-less : tie.Need-loop-less Inv-loop μ-loop
 loop-less c = search needs
 
 loop-again : tie.Need-loop-again Inv-loop μ-loop
-unfolding ofBits
 loop-again c =
-    let l = c .before .before .before in
-    let a = l .before .args in
-    (omega arith, l .loop .inv .1 ∙ below-step (fine (a .covered .now) (a .b .now)) (length (a .b .now)) (l .loop .i) (omega arith) (rw (c .if1 .taken)))
-
-shared-slice-read-if2 : tie.Need-shared-slice-read-if2 Inv-loop μ-loop
-shared-slice-read-if2 c = search needs
+    let r = c .before in
+    let l = r .before .before .before .before in
+    let a = l .before .before .before .args in
+    let b = a .b .now in
+    let i = l .loop .i in
+    let right = fine (a .covered .now) b in
+    let left : Bool → Bool = λ h. l .loop .holds && h in
+    let next : Bool → Bool = λ h. h && all right (drop (i + 1) (below (length b))) in
+    ⊎-elim
+    (λ w. (omega arith, l .loop .inv .1 ∙ ap left (below-fails right (length b) i (omega arith) (sym (r .may-have .ensures) ∙ not-true _ (w .0 .taken))) ∙ and-false (l .loop .holds) ∙ ap next (sym (w .1))))
+    (λ w. (omega arith, l .loop .inv .1 ∙ ap left (below-step right (length b) i (omega arith) (sym (r .may-have .ensures) ∙ not-false _ (w .0 .left))) ∙ ap next (sym (w .1))))
+    (c .if1 .came)
 
 returns : tie.Need-returns Inv-loop μ-loop
-unfolding ofBits
 returns c =
-    let l = c .before .before .before .before .before in
-    let a = l .before .args in
-    sym (l .loop .inv .1 ∙ below-fails (fine (a .covered .now) (a .b .now)) (length (a .b .now)) (l .loop .i) (omega arith) (rw (c .before .before .if1 .left) (not-true _ (c .if2 .taken))))
-
-add-i-2 : tie.Need-add-i-2 Inv-loop μ-loop
-add-i-2 c = search needs
-
-loop-less-2 : tie.Need-loop-less-2 Inv-loop μ-loop
-loop-less-2 c = search needs
-
-loop-again-2 : tie.Need-loop-again-2 Inv-loop μ-loop
-unfolding ofBits
-loop-again-2 c =
-    let l = c .before .before .before .before .before in
-    let a = l .before .args in
-    (omega arith, l .loop .inv .1 ∙ below-step (fine (a .covered .now) (a .b .now)) (length (a .b .now)) (l .loop .i) (omega arith) (rw (c .before .before .if1 .left) (not-false _ (c .if2 .left))))
-
-returns-2 : tie.Need-returns-2 Inv-loop μ-loop
-returns-2 c =
     let l = c .before in
-    let a = l .before .args in
-    sym (l .loop .inv .1 ∙ below-done (fine (a .covered .now) (a .b .now)) (length (a .b .now)) (l .loop .i) (c .loop-test .left))
+    let a = l .before .before .before .args in
+    let left : Bool → Bool = λ h. l .loop .holds && h in
+    sym (l .loop .inv .1 ∙ ap left (below-done (fine (a .covered .now) (a .b .now)) (length (a .b .now)) (l .loop .i) (c .loop-test .left)) ∙ and-true (l .loop .holds))
 
 pub values-covered-spec : {M : Type 1} → statement M
 values-covered-spec =
@@ -82,14 +76,11 @@ values-covered-spec =
     Inv-loop
     μ-loop
     loop-holds
-    mul-if1
-    shared-slice-read-if1
+    mul-may-have
+    shared-slice-read-may-have
+    shared-slice-read-may-have-2
+    may-have-requires
     add-i
     loop-less
     loop-again
-    shared-slice-read-if2
-    returns
-    add-i-2
-    loop-less-2
-    loop-again-2
-    returns-2)
+    returns)

@@ -1,19 +1,23 @@
-use Prim.Native.Nat.{_-_, _≤_}
-use mathlib.Core.Path.{_≡_, sym, _∙_}
+use Prim.Native.Nat.{_+_, _-_, _≤_}
+use mathlib.Core.Path.{_≡_, sym, ap, _∙_}
+use mathlib.Core.Logic.{⊎-elim}
+use mathlib.Core.Bool.{Bool, _&&_, and-true, and-false}
 use lib.ListN.{length, drop}
 use lib.Ieee.{nan, le}
 use Rattle.layout.specs.General.Lists.{sameBy}
 use Rattle.layout.proofs.Lists.Walks.{same-lengths, same-step, same-miss, same-done}
 use native.Mathlib.Omega.{arith}
+use borrow.Author.Tests.{not-true, not-false}
 use borrow.Author.Needs.{needs}
 use Rattle.side_numbers.proofs.at_most.Statement.{statement}
 use Rattle.side_numbers.proofs.at_most.Tie as tie
 
+-- `holds` is whether the first i values of low are at most those of high
 abbrev Inv-loop : tie.InvT-loop
-Inv-loop low high i₀ i = (i ≤ length low) × (sameBy le low high ≡ sameBy le (drop i low) (drop i high))
+Inv-loop low high holds₀ i₀ holds i = (i ≤ length low) × (sameBy le low high ≡ (holds && sameBy le (drop i low) (drop i high)))
 
 abbrev μ-loop : tie.MeasureT-loop
-μ-loop low high i₀ i = length low - i
+μ-loop low high holds₀ i₀ holds i = length low - i
 
 returns : tie.Need-returns Inv-loop μ-loop
 returns c = let a = c .before .args in sym (same-lengths le (a .low .now) (a .high .now) (c .if1 .taken))
@@ -43,19 +47,22 @@ loop-again : tie.Need-loop-again Inv-loop μ-loop
 loop-again c =
     let l = c .before .before .before .before in
     let a = l .before .before .args in
-    (omega arith, l .loop .inv .1 ∙ same-step le (a .low .now) (a .high .now) nan (l .loop .i) (omega arith) (omega arith) (c .if2 .taken))
+    let low = a .low .now in
+    let high = a .high .now in
+    let i = l .loop .i in
+    let left : Bool → Bool = λ b. l .loop .holds && b in
+    let next : Bool → Bool = λ b. b && sameBy le (drop (i + 1) low) (drop (i + 1) high) in
+    ⊎-elim
+    (λ w. (omega arith, l .loop .inv .1 ∙ ap left (same-miss le low high nan i (omega arith) (omega arith) (not-true _ (w .0 .taken))) ∙ and-false (l .loop .holds) ∙ ap next (sym (w .1))))
+    (λ w. (omega arith, l .loop .inv .1 ∙ ap left (same-step le low high nan i (omega arith) (omega arith) (not-false _ (w .0 .left))) ∙ ap next (sym (w .1))))
+    (c .if2 .came)
 
 returns-2 : tie.Need-returns-2 Inv-loop μ-loop
 returns-2 c =
-    let l = c .before .before .before .before in
-    let a = l .before .before .args in
-    sym (l .loop .inv .1 ∙ same-miss le (a .low .now) (a .high .now) nan (l .loop .i) (omega arith) (omega arith) (c .if2 .left))
-
-returns-3 : tie.Need-returns-3 Inv-loop μ-loop
-returns-3 c =
     let l = c .before in
     let a = l .before .before .args in
-    sym (l .loop .inv .1 ∙ same-done le (a .low .now) (a .high .now) (l .loop .i) (omega arith) (omega arith))
+    let left : Bool → Bool = λ b. l .loop .holds && b in
+    sym (l .loop .inv .1 ∙ ap left (same-done le (a .low .now) (a .high .now) (l .loop .i) (omega arith) (omega arith)) ∙ and-true (l .loop .holds))
 
 pub at-most-spec : {M : Type 1} → statement M
 at-most-spec =
@@ -72,5 +79,4 @@ at-most-spec =
     add-i
     loop-less
     loop-again
-    returns-2
-    returns-3)
+    returns-2)
