@@ -1,6 +1,6 @@
--- The preconditions of the writers for constraints that the compact route accepts, and the cut's A and b in the form in which the writers state them.
+-- The preconditions of the writers for constraints that the compact route accepts, and the cut's A and right sides in the form in which the writers state them.
 use Prim.Native.Nat.{ℕ, suc, _+_, _-_, _*_, _/_, _≤_, _<_}
-use native.Mathlib.Nat.{le-of-eq}
+use native.Mathlib.Nat.{le-refl, le-of-eq}
 use native.Mathlib.Omega.{arith}
 use mathlib.Core.Path.{_≡_, sym, ap, ap₂, subst, _∙_}
 use mathlib.Core.Bool.{Bool, false}
@@ -8,15 +8,17 @@ use mathlib.Core.List.{List, _++_, map}
 use lib.ListN.{length, getD, take, replicate, length-replicate, length-append, replicate-append-replicate, List·getD-append}
 use lib.Seq.{take-at, length-take-le}
 use lib.Dec.{T, leb}
+use lib.Ieee.{Float}
 use mir.Syntax.{w64}
 use mir.Val.{Fits}
 use Rattle.layout.specs.General.Lists.{written}
 use Rattle.layout.specs.Problems.Problem.{Problem, Csc, compact}
 use Rattle.layout.specs.Rows.Blocks.{compactRows, blockRowCount, overlapCount}
 use Rattle.layout.specs.Checks.{Sound, layout, checks, startsRight}
-use Rattle.layout.specs.Cuts.Compact.{summedA, compactA, compactB}
+use Rattle.layout.specs.Cuts.Compact.{summedA, compactA}
 use Rattle.layout.specs.Cuts.Runs.{sums, runStarts, runCount}
 use Rattle.layout.specs.Calls.Join.{joinedParts}
+use Rattle.layout.specs.Calls.CutMany.{sidesB}
 use Rattle.layout.proofs.Lists.Tests.{and-iff, leb-iff}
 use Rattle.layout.proofs.Lists.Starts.{length-written, written-front}
 use Rattle.layout.proofs.Columns.Columns.{RightStarts, right-A}
@@ -28,8 +30,8 @@ use Rattle.rows_codes.specs.Codes.{cutCode, RowsInside}
 use Rattle.rows_codes.proofs.Rows.{accepted-inside}
 use Rattle.rows_tables.specs.declared.Table.the-variants.{CutRows}
 use Rattle.rows_tables.proofs.Tables.{table-length}
-use Rattle.sparsevector.specs.Values.{codeValue}
-use Rattle.sparsevector.proofs.Rows.{compact-values}
+use Rattle.sparsevector.specs.Sides.{movedSides}
+use Rattle.sparsevector.proofs.Sides.{moved-sides}
 use Rattle.cut_columns.specs.Marks.{Placing, Clear}
 use Rattle.csc.specs.Matrix.{ColumnsInside}
 use Rattle.csc.proofs.Runs.{run-start, length-run-starts, sums-starts, sums-count}
@@ -40,7 +42,7 @@ use Rattle.augment_compact.specs.Places.{rowTable, ColumnsInOrder, RunsStart}
 use Rattle.augment_compact.proofs.Cut.{cut-compact, tied-count}
 use Rattle.augment_compact.proofs.Places.{few-rows as few-codes, accepted-order, accepted-placing}
 use Rattle.augment_standard.specs.Constraints.{Accepted}
-use Rattle.augment_standard.proofs.Constraints.{whole, sound, few-entries, starts-right, same-b}
+use Rattle.augment_standard.proofs.Constraints.{whole, sound, few-entries, starts-right}
 
 -- there are as many codes as augmented rows
 module _ {m : ℕ} {cones : List ℕ} {count : ℕ} {words : List ℕ} (h : Sound m cones count words) where
@@ -93,10 +95,10 @@ module _ {p : Problem} (h : Accepted compact p) where
       let tenth = and-iff (leb (blockRowCount (layout p)) 262144) (leb (overlapCount (layout p)) 131072) .0 (passed 10 (checks compact (whole h)) tt (h .accepted)) in
       omega (arith, e, leb-iff (overlapCount (layout p)) 131072 .0 (tenth .1))
 
-  -- ---- the preconditions of the writers on A, b and the codes
+  -- ---- the preconditions of the writers on A, the right sides and the codes
 
-  pub rows-inside : RowsInside (length (p .b)) (map cutCode (compactRows (layout p)))
-  rows-inside = accepted-inside (whole h) (h .accepted) (length (p .b)) (omega (arith, same-b h))
+  pub rows-inside : RowsInside (p .m) (map cutCode (compactRows (layout p)))
+  rows-inside = accepted-inside (whole h) (h .accepted) (p .m) (le-refl (p .m))
 
   right : RightStarts (p .n) (p .A)
   right = right-A compact (whole h) (h .accepted)
@@ -138,10 +140,10 @@ module _ {p : Problem} (h : Accepted compact p) where
   values-room : runCount (p .n) (p .A) + 2 * overlapCount (layout p) ≡ length (compactA p .values)
   values-room = omega (arith, entries, ap (λ (ks : List ℕ). getD ks 6 0) (compact-sizes (whole h) (h .accepted)))
 
-  -- ---- the cut's A and b
+  -- ---- the cut's A and right sides
 
-  pub values-b : map (codeValue (p .b)) (map cutCode (compactRows (layout p))) ≡ compactB p
-  values-b = compact-values (whole h) (h .accepted)
+  pub values-b : (sides : List Float) (count : ℕ) → movedSides (p .m) (map cutCode (compactRows (layout p))) sides count ≡ sidesB p count sides
+  values-b = moved-sides (whole h) (h .accepted)
 
   pub rows-A : cutRows (p .n) (sums (p .n) (p .A)) (map cutCode (compactRows (layout p))) ≡ compactA p .rows
   rows-A = ap (λ (M : Csc). M .rows) (cut-compact (whole h) (h .accepted))

@@ -1,62 +1,62 @@
-// The constraints of the compact cut: A and b over the augmented rows of a problem that the route accepts.
+// The constraints of the compact cut: A and its right sides over the augmented rows of a problem that the route accepts.
 ghost use mathlib.Core.Path.{_≡_};
 ghost use mathlib.Core.List.{[], map};
-ghost use Prim.Native.Nat.{suc, _+_, _≤_};
+ghost use Prim.Native.Nat.{_≤_};
 ghost use lib.ListN.{length};
 ghost use Rattle.layout.specs.General.Lists.{written};
 ghost use Rattle.layout.specs.Rows.Blocks.{compactRows, blockRowCount};
 ghost use Rattle.layout.specs.Checks.{Sound};
-ghost use Rattle.layout.specs.Cuts.Runs.{runStarts, runCount};
 ghost use Rattle.layout.specs.Calls.Join.{joinedParts};
 ghost use Rattle.rows_codes.specs.Codes.{cutCode, RowsInside};
-ghost use Rattle.csc.specs.Matrix.{matrix, ColumnsInside};
-ghost use Rattle.sparsevector.specs.Values.{codeValue};
-ghost use Rattle.augment_standard.specs.Beside.{besideStarts};
+ghost use Rattle.layout.specs.Calls.CutMany.{sidesB};
+ghost use Rattle.csc.specs.Matrix.{matrix};
+ghost use Rattle.sparsevector.specs.Sides.{movedSides};
 ghost use Rattle.augment_standard.specs.Constraints.{constraints};
-ghost use Rattle.cut_compact.specs.System.{SystemFits, HoldsSystem};
-ghost use Rattle.layout.specs.Problems.Problem.{system};
+ghost use Rattle.cut_compact.specs.System.{SystemFits, MovableSides, HoldsA};
 use constants::scratch;
 use rows_tables::Table;
 
-// Writes the starts of A with its `k` overlap columns, the codes of the `rows` augmented rows to `table`, and from these codes the augmented b.
-fn write_starts_and_b(
-    n: u32,
+// Writes the codes of the `rows` augmented rows to `table`, and from these codes the augmented right sides of two lists: the `side_count` of
+// `sides` and the `other_count` of `others`, each of `m` values.
+fn write_sides(
     m: u32,
-    a_starts: &[u32],
-    a_rows: &[u32],
-    b: &[f64],
+    sides: &[f64],
+    side_count: u32,
+    others: &[f64],
+    other_count: u32,
     cones: &[u32],
     count: u32,
     words: &[u32],
     rows: usize,
-    k: usize,
     table: &mut [u32],
-    a_starts_out: &mut [u32],
-    b_out: &mut [f64],
+    sides_out: &mut [f64],
+    others_out: &mut [f64],
 )
     requires { ⌜ Sound m (now cones) count (now words) ⌝ }
-    requires { ⌜ (rows ≡ blockRowCount (joinedParts (now cones) count (now words))) × (rows ≤ 262144) × (rows ≤ length (now table)) × (rows ≤ length (now «b_out»)) ⌝ }
-    requires { ⌜ RowsInside (length (now b)) (map cutCode (compactRows (joinedParts (now cones) count (now words)))) ⌝ }
-    requires { ⌜ ColumnsInside n (now «a_starts») (now «a_rows») × (length (now «a_starts») ≡ suc n) × (length (now «a_rows») ≤ 262144) ⌝ }
-    requires { ⌜ (suc n + k ≤ length (now «a_starts_out»)) × (k ≤ 262144) ⌝ }
+    requires { ⌜ (rows ≡ blockRowCount (joinedParts (now cones) count (now words))) × (rows ≤ 262144) × (rows ≤ length (now table)) ⌝ }
+    requires { ⌜ RowsInside m (map cutCode (compactRows (joinedParts (now cones) count (now words)))) ⌝ }
+    requires { ⌜ MovableSides m rows (now sides) «side_count» (now «sides_out») × MovableSides m rows (now others) «other_count» (now «others_out») ⌝ }
     ensures { λ _. ⌜ now (table .exit) ≡ written (map cutCode (compactRows (joinedParts (now (cones .entry)) count (now (words .entry))))) (now (table .entry)) ⌝ }
-    ensures { λ _. let M = matrix (now («a_starts» .entry)) (now («a_rows» .entry)) [] in ⌜ now («a_starts_out» .exit) ≡ written (besideStarts (runStarts n M) (runCount n M) k) (now («a_starts_out» .entry)) ⌝ }
-    ensures { λ _. ⌜ now («b_out» .exit) ≡ written (map (codeValue (now (b .entry))) (map cutCode (compactRows (joinedParts (now (cones .entry)) count (now (words .entry)))))) (now («b_out» .entry)) ⌝ }
+    ensures { λ _. ⌜ now («sides_out» .exit) ≡ written (movedSides m (map cutCode (compactRows (joinedParts (now (cones .entry)) count (now (words .entry))))) (now (sides .entry)) «side_count») (now («sides_out» .entry)) ⌝ }
+    ensures { λ _. ⌜ now («others_out» .exit) ≡ written (movedSides m (map cutCode (compactRows (joinedParts (now (cones .entry)) count (now (words .entry))))) (now (others .entry)) «other_count») (now («others_out» .entry)) ⌝ }
 {
-    augment_compact::write_starts(a_starts_out, n, a_starts, a_rows, k);
     rows_tables::write_table(Table::CutRows, m, cones, count, words, &mut *table);
-    sparsevector::move_values(b_out, &table[..rows], b);
+    sparsevector::move_sides(sides_out, &table[..rows], m as usize, sides, side_count);
+    sparsevector::move_sides(others_out, &table[..rows], m as usize, others, other_count);
 }
 
-// Writes A with its `k` overlap columns, and b, where there are at most 2048 original and 2048 augmented rows. Clearing its tables takes less
-// time than such a cut.
+// Writes A with its `k` overlap columns, and the augmented right sides of both lists, where there are at most 2048 original and 2048 augmented
+// rows. Clearing its tables takes less time than such a cut.
 fn with_small_tables(
     n: u32,
     m: u32,
     a_starts: &[u32],
     a_rows: &[u32],
     a_values: &[f64],
-    b: &[f64],
+    sides: &[f64],
+    side_count: u32,
+    others: &[f64],
+    other_count: u32,
     cones: &[u32],
     count: u32,
     words: &[u32],
@@ -65,35 +65,37 @@ fn with_small_tables(
     a_starts_out: &mut [u32],
     a_rows_out: &mut [u32],
     a_values_out: &mut [f64],
-    b_out: &mut [f64],
+    sides_out: &mut [f64],
+    others_out: &mut [f64],
 )
-    requires { let p = constraints n m (now «a_starts») (now «a_rows») (now «a_values») (now b) (now cones) count (now words) in
-        let out = system (now «a_starts_out») (now «a_rows_out») (now «a_values_out») (now «b_out») in
-        ⌜ SystemFits p rows k out ⌝ }
+    requires { let p = constraints n m (now «a_starts») (now «a_rows») (now «a_values») [] (now cones) count (now words) in
+        ⌜ SystemFits p rows k (matrix (now «a_starts_out») (now «a_rows_out») (now «a_values_out»)) ⌝ }
+    requires { ⌜ MovableSides m rows (now sides) «side_count» (now «sides_out») × MovableSides m rows (now others) «other_count» (now «others_out») ⌝ }
     requires { ⌜ (rows ≤ 2048) × (m ≤ 2048) ⌝ }
     ensures { λ _.
-        let p = constraints n m (now («a_starts» .entry)) (now («a_rows» .entry)) (now («a_values» .entry)) (now (b .entry)) (now (cones .entry)) count (now (words .entry)) in
-        let before = system (now («a_starts_out» .entry)) (now («a_rows_out» .entry)) (now («a_values_out» .entry)) (now («b_out» .entry)) in
-        let after = system (now («a_starts_out» .exit)) (now («a_rows_out» .exit)) (now («a_values_out» .exit)) (now («b_out» .exit)) in
-        ⌜ HoldsSystem p before after ⌝ }
+        let p = constraints n m (now («a_starts» .entry)) (now («a_rows» .entry)) (now («a_values» .entry)) [] (now (cones .entry)) count (now (words .entry)) in
+        let before = matrix (now («a_starts_out» .entry)) (now («a_rows_out» .entry)) (now («a_values_out» .entry)) in
+        let after = matrix (now («a_starts_out» .exit)) (now («a_rows_out» .exit)) (now («a_values_out» .exit)) in
+        ⌜ HoldsA p before after × (now («sides_out» .exit) ≡ written (sidesB p «side_count» (now (sides .entry))) (now («sides_out» .entry)))
+        × (now («others_out» .exit) ≡ written (sidesB p «other_count» (now (others .entry))) (now («others_out» .entry))) ⌝ }
 {
     let mut table = [0u32; 2048];
     let mut place = [0u32; 2048];
     let mut chunks = [false; 32];
-    write_starts_and_b(
-        n,
+    augment_compact::write_starts(&mut *a_starts_out, n, a_starts, a_rows, k);
+    write_sides(
         m,
-        a_starts,
-        a_rows,
-        b,
+        sides,
+        side_count,
+        others,
+        other_count,
         cones,
         count,
         words,
         rows,
-        k,
         &mut table,
-        &mut *a_starts_out,
-        b_out,
+        sides_out,
+        others_out,
     );
     let end = (rows + 63) / 64;
     augment_compact::write_entries(
@@ -119,7 +121,10 @@ fn with_large_tables(
     a_starts: &[u32],
     a_rows: &[u32],
     a_values: &[f64],
-    b: &[f64],
+    sides: &[f64],
+    side_count: u32,
+    others: &[f64],
+    other_count: u32,
     cones: &[u32],
     count: u32,
     words: &[u32],
@@ -128,34 +133,36 @@ fn with_large_tables(
     a_starts_out: &mut [u32],
     a_rows_out: &mut [u32],
     a_values_out: &mut [f64],
-    b_out: &mut [f64],
+    sides_out: &mut [f64],
+    others_out: &mut [f64],
 )
-    requires { let p = constraints n m (now «a_starts») (now «a_rows») (now «a_values») (now b) (now cones) count (now words) in
-        let out = system (now «a_starts_out») (now «a_rows_out») (now «a_values_out») (now «b_out») in
-        ⌜ SystemFits p rows k out ⌝ }
+    requires { let p = constraints n m (now «a_starts») (now «a_rows») (now «a_values») [] (now cones) count (now words) in
+        ⌜ SystemFits p rows k (matrix (now «a_starts_out») (now «a_rows_out») (now «a_values_out»)) ⌝ }
+    requires { ⌜ MovableSides m rows (now sides) «side_count» (now «sides_out») × MovableSides m rows (now others) «other_count» (now «others_out») ⌝ }
     ensures { λ _.
-        let p = constraints n m (now («a_starts» .entry)) (now («a_rows» .entry)) (now («a_values» .entry)) (now (b .entry)) (now (cones .entry)) count (now (words .entry)) in
-        let before = system (now («a_starts_out» .entry)) (now («a_rows_out» .entry)) (now («a_values_out» .entry)) (now («b_out» .entry)) in
-        let after = system (now («a_starts_out» .exit)) (now («a_rows_out» .exit)) (now («a_values_out» .exit)) (now («b_out» .exit)) in
-        ⌜ HoldsSystem p before after ⌝ }
+        let p = constraints n m (now («a_starts» .entry)) (now («a_rows» .entry)) (now («a_values» .entry)) [] (now (cones .entry)) count (now (words .entry)) in
+        let before = matrix (now («a_starts_out» .entry)) (now («a_rows_out» .entry)) (now («a_values_out» .entry)) in
+        let after = matrix (now («a_starts_out» .exit)) (now («a_rows_out» .exit)) (now («a_values_out» .exit)) in
+        ⌜ HoldsA p before after × (now («sides_out» .exit) ≡ written (sidesB p «side_count» (now (sides .entry))) (now («sides_out» .entry)))
+        × (now («others_out» .exit) ≡ written (sidesB p «other_count» (now (others .entry))) (now («others_out» .entry))) ⌝ }
 {
     let mut table = [0u32; scratch::AUGMENTED_ROWS];
     let mut place = [0u32; scratch::ROWS];
     let mut chunks = [false; 4096];
-    write_starts_and_b(
-        n,
+    augment_compact::write_starts(&mut *a_starts_out, n, a_starts, a_rows, k);
+    write_sides(
         m,
-        a_starts,
-        a_rows,
-        b,
+        sides,
+        side_count,
+        others,
+        other_count,
         cones,
         count,
         words,
         rows,
-        k,
         &mut table,
-        &mut *a_starts_out,
-        b_out,
+        sides_out,
+        others_out,
     );
     let end = (rows + 63) / 64;
     augment_compact::write_entries(
@@ -173,14 +180,18 @@ fn with_large_tables(
     );
 }
 
-// Writes A with its `k` overlap columns, and b, over `rows` augmented rows, with tables that suit their number.
+// Writes A with its `k` overlap columns, and the augmented right sides of two lists, over `rows` augmented rows, with tables that suit their
+// number. The codes of the rows are made once for all of them; a cut with one right side has no `others`.
 pub fn write_compact_a(
     n: u32,
     m: u32,
     a_starts: &[u32],
     a_rows: &[u32],
     a_values: &[f64],
-    b: &[f64],
+    sides: &[f64],
+    side_count: u32,
+    others: &[f64],
+    other_count: u32,
     cones: &[u32],
     count: u32,
     words: &[u32],
@@ -189,16 +200,18 @@ pub fn write_compact_a(
     a_starts_out: &mut [u32],
     a_rows_out: &mut [u32],
     a_values_out: &mut [f64],
-    b_out: &mut [f64],
+    sides_out: &mut [f64],
+    others_out: &mut [f64],
 )
-    requires { let p = constraints n m (now «a_starts») (now «a_rows») (now «a_values») (now b) (now cones) count (now words) in
-        let out = system (now «a_starts_out») (now «a_rows_out») (now «a_values_out») (now «b_out») in
-        ⌜ SystemFits p rows k out ⌝ }
+    requires { let p = constraints n m (now «a_starts») (now «a_rows») (now «a_values») [] (now cones) count (now words) in
+        ⌜ SystemFits p rows k (matrix (now «a_starts_out») (now «a_rows_out») (now «a_values_out»)) ⌝ }
+    requires { ⌜ MovableSides m rows (now sides) «side_count» (now «sides_out») × MovableSides m rows (now others) «other_count» (now «others_out») ⌝ }
     ensures { λ _.
-        let p = constraints n m (now («a_starts» .entry)) (now («a_rows» .entry)) (now («a_values» .entry)) (now (b .entry)) (now (cones .entry)) count (now (words .entry)) in
-        let before = system (now («a_starts_out» .entry)) (now («a_rows_out» .entry)) (now («a_values_out» .entry)) (now («b_out» .entry)) in
-        let after = system (now («a_starts_out» .exit)) (now («a_rows_out» .exit)) (now («a_values_out» .exit)) (now («b_out» .exit)) in
-        ⌜ HoldsSystem p before after ⌝ }
+        let p = constraints n m (now («a_starts» .entry)) (now («a_rows» .entry)) (now («a_values» .entry)) [] (now (cones .entry)) count (now (words .entry)) in
+        let before = matrix (now («a_starts_out» .entry)) (now («a_rows_out» .entry)) (now («a_values_out» .entry)) in
+        let after = matrix (now («a_starts_out» .exit)) (now («a_rows_out» .exit)) (now («a_values_out» .exit)) in
+        ⌜ HoldsA p before after × (now («sides_out» .exit) ≡ written (sidesB p «side_count» (now (sides .entry))) (now («sides_out» .entry)))
+        × (now («others_out» .exit) ≡ written (sidesB p «other_count» (now (others .entry))) (now («others_out» .entry))) ⌝ }
 {
     if 2048 < rows {
         with_large_tables(
@@ -207,7 +220,10 @@ pub fn write_compact_a(
             a_starts,
             a_rows,
             a_values,
-            b,
+            sides,
+            side_count,
+            others,
+            other_count,
             cones,
             count,
             words,
@@ -216,7 +232,8 @@ pub fn write_compact_a(
             a_starts_out,
             a_rows_out,
             a_values_out,
-            b_out,
+            sides_out,
+            others_out,
         );
         return;
     }
@@ -227,7 +244,10 @@ pub fn write_compact_a(
             a_starts,
             a_rows,
             a_values,
-            b,
+            sides,
+            side_count,
+            others,
+            other_count,
             cones,
             count,
             words,
@@ -236,7 +256,8 @@ pub fn write_compact_a(
             a_starts_out,
             a_rows_out,
             a_values_out,
-            b_out,
+            sides_out,
+            others_out,
         );
         return;
     }
@@ -246,7 +267,10 @@ pub fn write_compact_a(
         a_starts,
         a_rows,
         a_values,
-        b,
+        sides,
+        side_count,
+        others,
+        other_count,
         cones,
         count,
         words,
@@ -255,6 +279,7 @@ pub fn write_compact_a(
         a_starts_out,
         a_rows_out,
         a_values_out,
-        b_out,
+        sides_out,
+        others_out,
     );
 }

@@ -1,17 +1,18 @@
 -- A route given by its number: the preconditions and results of the writers on each.
-use Prim.Native.Nat.{ℕ, suc, _+_, _≤_}
+use Prim.Native.Nat.{ℕ, _≤_}
 use native.Mathlib.Omega.{arith}
 use mathlib.Core.Path.{_≡_, refl, sym, ap, subst, _∙_}
-use mathlib.Core.List.{List}
+use mathlib.Core.List.{List, []}
 use lib.ListN.{length}
 use Rattle.layout.specs.General.Lists.{written}
-use Rattle.layout.specs.Problems.Problem.{Problem, Route, compact}
+use Rattle.layout.specs.Problems.Problem.{Problem, Route, withB, compact}
 use Rattle.layout.specs.Rows.Blocks.{Part, blockRowCount}
 use Rattle.layout.specs.Checks.{layout}
 use Rattle.layout.specs.Calls.Cut.{augmented, Constrained, constrainedOf, HoldsConstrained}
 use Rattle.layout.specs.Calls.Join.{addedCount}
 use Rattle.augment_standard.specs.Constraints.{Accepted}
 use Rattle.cut_standard.specs.Fits.{ConstrainedFits}
+use Rattle.cut_compact.specs.System.{SystemFits}
 use Rattle.cut_compact.proofs.Laws.{few-rows}
 
 -- the number of columns that a route adds
@@ -37,6 +38,15 @@ module _ (p : Problem) {route other : Route} (e : route ≡ other) where
   pub map-on : {after : List ℕ} (before : List ℕ) → after ≡ written (augmented other p .map) before → after ≡ written (augmented route p .map) before
   map-on {after} before h = subst (λ (r : Route). after ≡ written (augmented r p .map) before) (sym e) h
 
--- the outputs are long enough for the starts
-pub room-starts : (n k : ℕ) {room : ℕ} → suc (n + k) ≤ room → suc n + k ≤ room
-room-starts n k r = omega arith
+-- the outputs are long enough for A of the compact cut, whatever the right sides
+pub system-fits : {p : Problem} {k rows : ℕ} {out : Constrained} → ConstrainedFits compact p k out → rows ≡ blockRowCount (layout p)
+    → SystemFits (withB p []) rows k (out .A)
+system-fits {p} f e = record {
+  b = p .b;
+  accepted = f .accepted;
+  blocks = e;
+  overlaps = f .added;
+  starts = let room = f .starts in omega (arith, room);
+  entries = f .rows;
+  values = f .values;
+}

@@ -66,6 +66,7 @@ pub fn decomp_augment_compact(
         let after = constrained (now («a_starts_out» .exit)) (now («a_rows_out» .exit)) (now («a_values_out» .exit)) (now («b_out» .exit)) (now («cones_out» .exit)) in
         ⌜ HoldsConstrained 0 (constrainedOf (augmented compact p)) before after ⌝ }
 {
+    let mut none = [0.0; 1];
     cut_compact::write_compact_a(
         n,
         m,
@@ -73,6 +74,9 @@ pub fn decomp_augment_compact(
         a_rows,
         a_values,
         b,
+        1,
+        b,
+        0, // no other right sides
         cones,
         count,
         words,
@@ -82,6 +86,7 @@ pub fn decomp_augment_compact(
         a_rows_out,
         a_values_out,
         b_out,
+        &mut none,
     );
     rows_tables::write_table(Table::CompactCones, m, cones, count, words, cones_out);
 }

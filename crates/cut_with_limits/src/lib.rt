@@ -3,6 +3,7 @@ ghost use Rattle.layout.specs.Problems.Problem.{problem};
 ghost use Rattle.layout.specs.Calls.Cut.{outputs};
 ghost use Rattle.layout.specs.Calls.CutBetween.{limits, CutBetween};
 use constants::route;
+use rows_tables::Table;
 
 // Cuts a problem on the compact route with the right sides `low` and `high`, and writes both augmented b, value by value to the same rows. Returns
 // the refusal number, or 0.
@@ -92,14 +93,16 @@ pub fn cut_between(
         q_out,
         alphas_out,
     );
-    cut_constraints::write_constraints(
-        route::COMPACT,
+    cut_compact::write_compact_a(
         n,
         m,
         a_starts,
         a_rows,
         a_values,
         low,
+        1,
+        high, // to the same rows as low
+        1,
         cones,
         pattern_count,
         pattern_words,
@@ -109,18 +112,23 @@ pub fn cut_between(
         a_rows_out,
         a_values_out,
         b_low_out,
-        cones_out,
-        map_out,
+        b_high_out,
     );
-    side_values::write_sides(
+    rows_tables::write_table(
+        Table::CompactCones,
         m,
         cones,
         pattern_count,
         pattern_words,
-        d.rows,
-        high, // over the same augmented rows as low
-        1,
-        b_high_out,
+        cones_out,
+    );
+    rows_tables::write_table(
+        Table::ConeMap,
+        m,
+        cones,
+        pattern_count,
+        pattern_words,
+        map_out,
     );
     0
 }

@@ -3,6 +3,7 @@ ghost use Rattle.layout.specs.Problems.Problem.{problem};
 ghost use Rattle.layout.specs.Calls.Cut.{outputs};
 ghost use Rattle.layout.specs.Calls.CutMany.{CutMany};
 use constants::route;
+use rows_tables::Table;
 
 // Cuts a problem with `count` right sides, one after another in `b`, on the compact route: writes everything but b once, and the augmented b of each
 // side in turn. Returns the refusal number, or 0.
@@ -89,14 +90,17 @@ pub fn cut_many(
         q_out,
         alphas_out,
     );
-    cut_constraints::write_constraints(
-        route::COMPACT,
+    let mut none = [0.0; 1];
+    cut_compact::write_compact_a(
         n,
         m,
         a_starts,
         a_rows,
         a_values,
-        &b[..m as usize],
+        b,
+        count,
+        b,
+        0, // no other right sides
         cones,
         pattern_count,
         pattern_words,
@@ -105,19 +109,24 @@ pub fn cut_many(
         a_starts_out,
         a_rows_out,
         a_values_out,
-        &mut *b_out,
-        cones_out,
-        map_out,
+        b_out,
+        &mut none,
     );
-    side_values::write_sides(
+    rows_tables::write_table(
+        Table::CompactCones,
         m,
         cones,
         pattern_count,
         pattern_words,
-        d.rows,
-        b,
-        count,
-        b_out,
+        cones_out,
+    );
+    rows_tables::write_table(
+        Table::ConeMap,
+        m,
+        cones,
+        pattern_count,
+        pattern_words,
+        map_out,
     );
     0
 }

@@ -5,7 +5,7 @@ use mathlib.Core.Path.{_≡_, refl, ap₂}
 use mathlib.Core.List.{List, [], _∷_, map}
 use lib.Ieee.{Float}
 use borrow.Author.Tests.{lt-ltb, le-ltb}
-use Rattle.layout.specs.Problems.Problem.{Problem, compact}
+use Rattle.layout.specs.Problems.Problem.{Problem, withB, compact}
 use Rattle.layout.specs.Rows.Blocks.{Row, kept, owned, overlap, originalRow, compactRows}
 use Rattle.layout.specs.Checks.{layout, refusal}
 use Rattle.layout.specs.Cuts.Compact.{rowValue, compactB}
@@ -25,6 +25,6 @@ row-values b (x ∷ R) h =
     let (here, rest) = every-cons (kept 0) (λ x. originalRow x < 65536) x R .0 h in
     ap₂ (λ (v : Float) (vs : List Float). v ∷ vs) (row-value b x here) (row-values b R rest)
 
--- the values by the codes of the compact rows are the augmented b
-pub compact-values : (p : Problem) → refusal compact p ≡ 0 → map (codeValue (p .b)) (map cutCode (compactRows (layout p))) ≡ compactB p
-compact-values p ok = row-values (p .b) (compactRows (layout p)) (accepted-small p ok)
+-- the values of any b by the codes of the compact rows are the augmented b
+pub compact-values : (p : Problem) → refusal compact p ≡ 0 → (b : List Float) → map (codeValue b) (map cutCode (compactRows (layout p))) ≡ compactB (withB p b)
+compact-values p ok b = row-values b (compactRows (layout p)) (accepted-small p ok)

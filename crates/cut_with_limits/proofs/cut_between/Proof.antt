@@ -1,12 +1,16 @@
 use mathlib.Core.Path.{_≡_, refl, sym, _∙_}
 use lib.Dec.{lit≤}
 use Rattle.layout.specs.Problems.Problem.{Problem, problem, compact}
-use Rattle.layout.specs.Calls.Cut.{lengths, outputs}
+use Rattle.layout.specs.Calls.Cut.{lengths, outputs, constrainedOf}
 use Rattle.layout.proofs.Checks.Accepted.{accepted-sound}
 use Rattle.layout.proofs.Promises.{Taken}
 use Rattle.layout.specs.Calls.CutBetween.{limitsRefusal, Limits, limits, limitsRooms}
-use Rattle.cut_laws.proofs.Rooms.{objective-fits, constrained-fits, map-fits, objective-cut, constrained-cut, map-cut}
-use Rattle.side_values.proofs.Written.{between-refused, low-accepted, low-taken, high-asked, high-written}
+use Rattle.augment_standard.proofs.Constraints.{renamed, sound}
+use Rattle.cut_compact.proofs.Laws.{few-rows}
+use Rattle.cut_constraints.proofs.Routes.{system-fits}
+use Rattle.cut_laws.proofs.Rooms.{only, objective-fits, constrained-fits, map-fits, objective-cut}
+use Rattle.cut_standard.specs.Fits.{ConstrainedFits}
+use Rattle.side_laws.proofs.Written.{between-refused, low-accepted, low-taken, both-fit, low-written, high-written}
 use Rattle.cut_with_limits.proofs.cut_between.Statement.{statement}
 use Rattle.cut_with_limits.proofs.cut_between.Tie as tie
 
@@ -44,6 +48,10 @@ number c = sym (c .if1 .left) ∙ c .before .refuse-between .ensures
 taken : (c : tie.Else1) → let s = start (c .before) in Taken compact (given s) (lengths (lent s .cut))
 taken c = let s = start (c .before) in low-taken (given s) (s .args .low .now) (s .args .high .now) (lent s) (sym (number c))
 
+-- the added rows and columns are counted, and the outputs have room for them
+fits : (d : tie.After-count-added) → let s = start (d .before .before) in ConstrainedFits compact (only (given s)) (d .count-added .result .columns) (constrainedOf (lent s .cut))
+fits d = let s = start (d .before .before) in constrained-fits (given s) (lent s .cut) compact (taken (d .before)) (d .count-added .result .columns) (d .count-added .ensures .1)
+
 count-added-requires : tie.Need-count-added-requires
 count-added-requires c κs =
     let s = start (c .before) in
@@ -55,70 +63,81 @@ write-objective-requires c κs =
     let s = start (d .before .before) in
     objective-fits (given s) (lent s .cut) compact (taken (d .before)) (d .count-added .result .columns) (d .count-added .ensures .1)
 
-write-constraints-requires : tie.Need-write-constraints-requires
-write-constraints-requires c κs =
-    let d = c .before .before .before .before .before .before .before .before .before .before .before .before .before .before .before .before .before .before .before .before .before .before in
-    let s = start (d .before .before) in
-    let k = d .count-added .result .columns in
-    (constrained-fits (given s) (lent s .cut) compact (taken (d .before)) k (d .count-added .ensures .1), d .count-added .ensures .0, map-fits (given s) (lent s .cut) compact (taken (d .before)) k (d .count-added .ensures .1))
-
-write-sides-requires : tie.Need-write-sides-requires
-write-sides-requires c κs =
-    let d = c .before .before .before .before .before .before .before .before .before .before .before .before .before .before .before .before .before .before .before .before .before .before .before .before .before .before .before .before .before .before .before .before .before .before .before .before in
+write-compact-a-requires : tie.Need-write-compact-a-requires
+write-compact-a-requires c κs =
+    let d = c .before .before .before .before .before .before .before .before .before .before .before .before .before .before .before .before .before .before .before .before .before in
     let s = start (d .before .before) in
     let e = d .count-added .ensures .0 in
-    let ask = high-asked (given s) (s .args .low .now) (s .args .high .now) (lent s) (sym (number (d .before))) (d .count-added .result .rows) e in
-    (accepted-sound compact (given s) (low-accepted (given s) (s .args .low .now) (s .args .high .now) (lent s) (sym (number (d .before)))), ((e, ask .0), ask .1))
+    (system-fits (fits d) e, both-fit (given s) (s .args .low .now) (s .args .high .now) (lent s) (sym (number (d .before))) (d .count-added .result .rows) e)
+
+write-table-requires : tie.Need-write-table-requires
+write-table-requires c κs =
+    let d = c .before .before .before .before .before .before .before .before .before .before .before .before .before .before .before .before .before .before .before .before .before .before .before .before .before .before .before .before .before .before .before .before .before in
+    (sound (fits d .accepted), (tt, fits d .cones))
+
+write-table-requires-2 : tie.Need-write-table-requires-2
+write-table-requires-2 c κs =
+    let d = c .before .before .before .before .before .before .before .before .before .before .before .before .before .before .before .before .before .before .before .before .before .before .before .before .before .before .before .before .before .before .before .before .before .before .before .before .before in
+    let s = start (d .before .before) in
+    (sound (fits d .accepted), (few-rows (fits d .accepted) refl, map-fits (given s) (lent s .cut) compact (taken (d .before)) (d .count-added .result .columns) (d .count-added .ensures .1)))
 
 same-length : tie.Need-same-length
-same-length c = c .before .before .before .before .before .before .before .before .before .before .before .before .before .before .before .before .before .before .before .before .before .before .before .before .before .before .before .before .before .before .before .before .before .write-objective .kept .1 .1 .1 .1 .1 .1 .1 .0
+same-length c = c .before .before .before .before .before .before .before .before .before .before .before .before .before .before .before .before .before .before .before .before .before .before .before .before .before .before .before .before .before .before .before .before .before .before .write-objective .kept .1 .1 .1 .1 .1 .1 .1 .0
 
 same-length-2 : tie.Need-same-length-2
-same-length-2 c = c .before .before .before .before .before .before .before .before .before .before .before .before .before .before .before .before .before .before .before .before .before .before .before .before .before .before .before .before .before .before .before .before .before .write-objective .kept .1 .1 .1 .1 .1 .1 .1 .1 .0
+same-length-2 c = c .before .before .before .before .before .before .before .before .before .before .before .before .before .before .before .before .before .before .before .before .before .before .before .before .before .before .before .before .before .before .before .before .before .before .write-objective .kept .1 .1 .1 .1 .1 .1 .1 .1 .0
 
 same-length-3 : tie.Need-same-length-3
-same-length-3 c = c .before .before .before .before .before .before .before .before .before .before .before .before .before .before .before .before .before .before .before .before .before .before .before .before .before .before .before .before .before .before .before .before .before .write-objective .kept .1 .1 .1 .1 .1 .1 .1 .1 .1 .0
+same-length-3 c = c .before .before .before .before .before .before .before .before .before .before .before .before .before .before .before .before .before .before .before .before .before .before .before .before .before .before .before .before .before .before .before .before .before .before .write-objective .kept .1 .1 .1 .1 .1 .1 .1 .1 .1 .0
 
 same-length-4 : tie.Need-same-length-4
-same-length-4 c = c .before .before .before .before .before .before .before .before .before .before .before .before .before .before .before .before .before .before .before .before .before .before .before .before .before .before .before .before .before .before .before .before .before .write-objective .kept .1 .1 .1 .1 .1 .1 .1 .1 .1 .1 .0
+same-length-4 c = c .before .before .before .before .before .before .before .before .before .before .before .before .before .before .before .before .before .before .before .before .before .before .before .before .before .before .before .before .before .before .before .before .before .before .write-objective .kept .1 .1 .1 .1 .1 .1 .1 .1 .1 .1 .0
 
 same-length-5 : tie.Need-same-length-5
-same-length-5 c = c .before .before .before .before .before .before .before .before .before .before .before .before .before .before .before .before .write-constraints .kept .1 .1 .1 .1 .1 .1 .1 .1 .1 .1 .1 .1 .0
+same-length-5 c = c .before .before .before .before .before .before .before .before .before .before .before .before .before .before .before .before .before .before .write-compact-a .kept .1 .1 .1 .1 .1 .1 .1 .1 .1 .1 .1 .1 .1 .1 .0
 
 same-length-6 : tie.Need-same-length-6
-same-length-6 c = c .before .before .before .before .before .before .before .before .before .before .before .before .before .before .before .before .write-constraints .kept .1 .1 .1 .1 .1 .1 .1 .1 .1 .1 .1 .1 .1 .0
+same-length-6 c = c .before .before .before .before .before .before .before .before .before .before .before .before .before .before .before .before .before .before .write-compact-a .kept .1 .1 .1 .1 .1 .1 .1 .1 .1 .1 .1 .1 .1 .1 .1 .0
 
 same-length-7 : tie.Need-same-length-7
-same-length-7 c = c .before .before .before .before .before .before .before .before .before .before .before .before .before .before .before .before .write-constraints .kept .1 .1 .1 .1 .1 .1 .1 .1 .1 .1 .1 .1 .1 .1 .0
+same-length-7 c = c .before .before .before .before .before .before .before .before .before .before .before .before .before .before .before .before .before .before .write-compact-a .kept .1 .1 .1 .1 .1 .1 .1 .1 .1 .1 .1 .1 .1 .1 .1 .1 .0
 
 same-length-8 : tie.Need-same-length-8
-same-length-8 c = c .before .before .before .before .before .before .before .before .before .before .before .before .before .before .before .before .write-constraints .kept .1 .1 .1 .1 .1 .1 .1 .1 .1 .1 .1 .1 .1 .1 .1 .0
+same-length-8 c = c .before .before .before .before .before .before .before .before .before .before .before .before .before .before .before .before .before .before .write-compact-a .kept .1 .1 .1 .1 .1 .1 .1 .1 .1 .1 .1 .1 .1 .1 .1 .1 .1 .0
 
 same-length-9 : tie.Need-same-length-9
-same-length-9 c = c .before .before .write-sides .kept .1 .1 .1 .1 .1 .1 .1 .0
+same-length-9 c = c .before .before .before .before .before .before .before .before .before .before .before .before .before .before .before .before .before .before .write-compact-a .kept .1 .1 .1 .1 .1 .1 .1 .1 .1 .1 .1 .1 .1 .1 .1 .1 .1 .1 .0
 
 same-length-10 : tie.Need-same-length-10
-same-length-10 c = c .before .before .before .before .before .before .before .before .before .before .before .before .before .before .before .before .write-constraints .kept .1 .1 .1 .1 .1 .1 .1 .1 .1 .1 .1 .1 .1 .1 .1 .1 .0
+same-length-10 c = c .before .before .before .before .before .before .write-table .kept .1 .1 .1 .1 .1 .0
 
 same-length-11 : tie.Need-same-length-11
-same-length-11 c = c .before .before .before .before .before .before .before .before .before .before .before .before .before .before .before .before .before .before .before .before .before .before .before .before .before .before .before .before .before .before .before .before .before .write-objective .kept .1 .1 .1 .1 .1 .1 .1 .1 .1 .1 .1 .0
+same-length-11 c = c .before .before .before .before .before .before .before .before .before .before .before .before .before .before .before .before .before .before .before .before .before .before .before .before .before .before .before .before .before .before .before .before .before .before .write-objective .kept .1 .1 .1 .1 .1 .1 .1 .1 .1 .1 .1 .0
 
 same-length-12 : tie.Need-same-length-12
-same-length-12 c = c .before .before .before .before .before .before .before .before .before .before .before .before .before .before .before .before .write-constraints .kept .1 .1 .1 .1 .1 .1 .1 .1 .1 .1 .1 .1 .1 .1 .1 .1 .1 .0
+same-length-12 c = c .before .before .write-table2 .kept .1 .1 .1 .1 .1 .0
 
 returns-2 : tie.Need-returns-2
 returns-2 c =
-    let d = c .before .before .before .before .before .before .before .before .before .before .before .before .before .before .before .before .before .before .before .before .before .before .before .before .before .before .before .before .before .before .before .before .before .before .before .before .before .before .before in
+    let d = c .before .before .before .before .before .before .before .before .before .before .before .before .before .before .before .before .before .before .before .before .before .before .before .before .before .before .before .before .before .before .before .before .before .before .before .before .before .before .before .before in
     let s = start (d .before .before) in
+    let a = s .args in
     let p = given s in
-    let w = c .before .before .before .before .before .before .before .before .before .before .before .before .before .before .before .before .write-constraints .ensures in record {
+    let done = sym (number (d .before)) in
+    let w = c .before .before .before .before .before .before .before .before .before .before .before .before .before .before .before .before .before .before .write-compact-a .ensures in record {
       number = number (d .before);
       tables = record {
-        objective = objective-cut p compact (d .count-added .result .columns) (d .count-added .ensures .1) (c .before .before .before .before .before .before .before .before .before .before .before .before .before .before .before .before .before .before .before .before .before .before .before .before .before .before .before .before .before .before .before .before .before .write-objective .ensures);
-        constrained = constrained-cut p compact (w .0);
-        map = map-cut p compact (s .args .map-out .now) (w .1);
+        objective = objective-cut p compact (d .count-added .result .columns) (d .count-added .ensures .1) (c .before .before .before .before .before .before .before .before .before .before .before .before .before .before .before .before .before .before .before .before .before .before .before .before .before .before .before .before .before .before .before .before .before .before .write-objective .ensures);
+        constrained = record {
+          a-starts = w .0 .a-starts;
+          a-rows = w .0 .a-rows;
+          a-values = w .0 .a-values;
+          b = renamed (a .b-low-out .now) (low-written p (a .low .now) (a .high .now) (lent s) done) (w .1);
+          cones = c .before .before .before .before .before .before .write-table .ensures .1;
+        };
+        map = c .before .before .write-table2 .ensures .1;
       };
-      b-high = high-written p (s .args .low .now) (s .args .high .now) (lent s) (sym (number (d .before))) (s .args .b-high-out .now) (c .before .before .write-sides .ensures);
+      b-high = renamed (a .b-high-out .now) (high-written p (a .low .now) (a .high .now) (lent s) done) (w .2);
     }
 
 pub cut-between-spec : {M : Type 1} → statement M
@@ -130,8 +149,9 @@ cut-between-spec =
     returns
     count-added-requires
     write-objective-requires
-    write-constraints-requires
-    write-sides-requires
+    write-compact-a-requires
+    write-table-requires
+    write-table-requires-2
     same-length
     same-length-2
     same-length-3

@@ -7,13 +7,13 @@ use lib.Ieee.{Float}
 use Rattle.layout.specs.General.Lists.{written, part}
 use Rattle.layout.proofs.Lists.Starts.{length-written}
 use Rattle.layout.proofs.Lists.Buffers.{written-after, length-tail}
 use Rattle.sparsevector.specs.Values.{codeValue}
-use Rattle.side_values.specs.Sides.{movedSides}
-use Rattle.side_values.proofs.Laws.{moved-more, length-moved, run-ends}
+use Rattle.sparsevector.specs.Sides.{movedSides}
+use Rattle.sparsevector.proofs.Sides.{moved-more, length-moved, run-ends}
 use native.Mathlib.Omega.{arith}
 use borrow.Author.Needs.{needs}
-use Rattle.side_values.proofs.move_sides.Statement.{statement}
-use Rattle.side_values.proofs.move_sides.Tie as tie
+use Rattle.sparsevector.proofs.move_sides.Statement.{statement}
+use Rattle.sparsevector.proofs.move_sides.Tie as tie
 
 abbrev Inv-loop : tie.InvT-loop
 Inv-loop out₀ codes m sides count k₀ start₀ at₀ out k start at =
