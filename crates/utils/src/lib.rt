@@ -118,7 +118,8 @@ pub fn is_permutation(words: &[u32]) -> bool
 
 // ---- the inverse
 
-// Writes `k` at index `words[k]` of `out`, for k = 0, 1, .. in order; of numbers written to the same index the last remains.
+// Writes `k` at index `words[k]` of `out`, for k = 0, 1, .. in order; of numbers written to the same index the last remains. Each index is read
+// first, because reads of a long `out` wait for memory side by side and writes one after another.
 pub fn scatter(words: &[u32], out: &mut [u32])
     requires { ⌜ Below (length (now out)) (now words) ⌝ }
     requires { ⌜ length (now words) ≤ 4294967296 ⌝ }
@@ -127,7 +128,9 @@ pub fn scatter(words: &[u32], out: &mut [u32])
     let mut k = 0;
     while k < words.len() {
         let w = words[k] as usize;
-        out[w] = k as u32;
+        if out[w] != k as u32 {
+            out[w] = k as u32;
+        }
         k += 1;
     }
 }
