@@ -399,7 +399,7 @@ fn one(name: &str, p: &Problem) {
 }
 
 /// The lengths of the inverted permutations.
-pub const PERMUTATIONS: [usize; 7] = [1_000, 32_768, 65_536, 131_072, 262_144, 524_288, 1_048_576];
+pub const PERMUTATIONS: [usize; 8] = [1_000, 32_768, 65_536, 131_072, 262_144, 524_288, 1_048_576, 16_777_216];
 
 /// Returns the words of the renumbered patterns.
 pub fn patterns() -> Vec<(String, Vec<u32>)> {
@@ -409,22 +409,31 @@ pub fn patterns() -> Vec<(String, Vec<u32>)> {
         .to_vec()
 }
 
+// Two permutations are inverted in turn, on both sides: the door writes a long inverse only where the output differs from it, so that a
+// second inverse of the same permutation would write nothing.
+fn inverses(d: &mut Draws, length: usize) {
+    let pair = [0; 2].map(|_| d.permutation(length));
+    let wide = pair.each_ref().map(|p| p.iter().map(|&x| x as usize).collect::<Vec<usize>>());
+    let mut out = vec![0; length];
+    let [mut wide_turn, mut turn] = [0; 2];
+    beside(
+        copying::table(&pair[0]) + copying::table(&out),
+        &mut || {
+            wide_turn ^= 1;
+            black_box(reference::door::inverse_wide(&wide[wide_turn]));
+        },
+        &mut || {
+            turn ^= 1;
+            black_box(door::inverse(&pair[turn], &mut out));
+        },
+    )
+    .print(&format!("{length} numbers"), "inverse");
+}
+
 fn small_calls() {
     let d = &mut Draws::new(7);
     for length in PERMUTATIONS {
-        let p = d.permutation(length);
-        let wide: Vec<usize> = p.iter().map(|&x| x as usize).collect();
-        let mut out = vec![0; length];
-        beside(
-            copying::table(&p) + copying::table(&out),
-            &mut || {
-                black_box(reference::door::inverse_wide(&wide));
-            },
-            &mut || {
-                black_box(door::inverse(&p, &mut out));
-            },
-        )
-        .print(&format!("{length} numbers"), "inverse");
+        inverses(d, length);
     }
     for (name, words) in patterns() {
         renumbering(&name, &words);

@@ -1,5 +1,5 @@
 -- Marks as the bits of words of 64 bits each.
-use Prim.Native.Nat.{ℕ, _*_, _/_, _%_, _^_, _<_}
+use Prim.Native.Nat.{ℕ, _+_, _*_, _/_, _%_, _^_, _<_}
 use mathlib.Core.Path.{_≡_}
 use mathlib.Core.Bool.{Bool}
 use mathlib.Core.List.{List}
@@ -15,6 +15,6 @@ bit k a = eqb (a / 2 ^ k % 2) 1
 abbrev pub flag : List ℕ → ℕ → Bool
 flag ws v = bit (v % 64) (getD ws (v / 64) 0)
 
--- mark v is set exactly if v is among the numbers met
-abbrev pub Flagged : List ℕ → List ℕ → Type 0
-Flagged ws met = (v : ℕ) → v < 64 * length ws → flag ws v ≡ has v met
+-- mark v is set exactly if number low + v is among the numbers met
+abbrev pub Flagged : ℕ → List ℕ → List ℕ → Type 0
+Flagged low ws met = (v : ℕ) → v < 64 * length ws → flag ws v ≡ has (low + v) met

@@ -26,7 +26,7 @@ fn inverse_by(p: &[u32], table: &mut [u32], out: &mut [u32]) -> u32
     refusal::DONE
 }
 
-// Each table is in a function of its own, because a call touches every page of its function's tables. There are eight sizes, because the compiler keeps a
+// Each table is in a function of its own, because a call touches every page of its function's tables. There are nine sizes, because the compiler keeps a
 // function apart only where it expects few calls of it: behind six tests or more.
 
 // Makes the inverse of up to 16 numbers. Returns what `inverse` returns.
@@ -92,6 +92,15 @@ fn inverse_65536(p: &[u32], out: &mut [u32]) -> u32
     inverse_by(p, &mut table, out)
 }
 
+// Makes the inverse of up to 131,072 numbers. Returns what `inverse` returns.
+fn inverse_131072(p: &[u32], out: &mut [u32]) -> u32
+    requires { ⌜ length (now p) ≤ 131072 ⌝ }
+    ensures { λ r. ⌜ Inverse (now (p .entry)) (now (out .entry)) (now (out .exit)) r ⌝ }
+{
+    let mut table = [UNPLACED; 131072];
+    inverse_by(p, &mut table, out)
+}
+
 // Makes the inverse of up to 262,144 numbers. Returns what `inverse` returns.
 fn inverse_262144(p: &[u32], out: &mut [u32]) -> u32
     requires { ⌜ length (now p) ≤ 262144 ⌝ }
@@ -144,6 +153,9 @@ pub fn inverse(p: &[u32], out: &mut [u32]) -> u32
     }
     if p.len() <= 65536 {
         return inverse_65536(p, out);
+    }
+    if p.len() <= 131072 {
+        return inverse_131072(p, out);
     }
     if p.len() <= 262144 {
         return inverse_262144(p, out);
