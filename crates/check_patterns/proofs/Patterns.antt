@@ -198,15 +198,15 @@ psd-small cones i v b h =
     let low′ : leb (c .first) 256 ≡ true = sym (ap (λ (t : Bool). not t || leb (c .first) 256) is) ∙ low in
     omega (arith, leb-true (c .first) 256 low′, eqb-true (c .first) v dimension)
 
-pub record Opened (cones : List ℕ) (least : ℕ) (h : Head) (cs : List Clique) : Type 0 where
-  pub rises : leb least (h .origIndex) ≡ true
-  pub psd : isPsdOf cones (h .origIndex) (h .vertexCount) ≡ true
-  pub ordering : isPermutation (h .ordering) ≡ true
-  pub tree-whole : treeRight (withCliques h cs) ≡ true
-  pub some : not (eqb (h .cliqueCount) 0) ≡ true
-  pub tree : treeFrom (h .cliqueCount) 0 cs ≡ true
-  pub snodes : snodesOk (h .vertexCount) cs ≡ true
-  pub separators : separatorsOk cs ≡ true
+record Opened (cones : List ℕ) (least : ℕ) (h : Head) (cs : List Clique) : Type 0 where
+  rises : leb least (h .origIndex) ≡ true
+  psd : isPsdOf cones (h .origIndex) (h .vertexCount) ≡ true
+  ordering : isPermutation (h .ordering) ≡ true
+  tree-whole : treeRight (withCliques h cs) ≡ true
+  some : not (eqb (h .cliqueCount) 0) ≡ true
+  tree : treeFrom (h .cliqueCount) 0 cs ≡ true
+  snodes : snodesOk (h .vertexCount) cs ≡ true
+  separators : separatorsOk cs ≡ true
 
 module _ (cones : List ℕ) (least : ℕ) (l : List ℕ) (h : Head) (left : List ℕ) (e : readHead l ≡ read h left)
     (t : patternHolds cones least (readPattern l) ≡ true) where

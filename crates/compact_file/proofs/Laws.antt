@@ -170,7 +170,7 @@ program-long bs long =
 -- ---- the refusal line
 
 -- the bytes of "refused "
-abbrev pub refusedWord : List ℕ
+abbrev refusedWord : List ℕ
 refusedWord = 114 ∷ 101 ∷ 102 ∷ 117 ∷ 115 ∷ 101 ∷ 100 ∷ 32 ∷ []
 
 one-digit : (k : ℕ) → k < 10 → refusedText k ≡ refusedWord ++ ((48 + k) ∷ 10 ∷ [])

@@ -32,10 +32,10 @@ part-map f n (suc a) (x ∷ xs) = part-map f n a xs
 
 module _ (p : Problem) (before after : Augmented) (cut : Cut 1 p before after 0) where
   -- first row and row count of entry k: words 5 k + 3 and 5 k + 4 of the written map
-  abbrev pub firstRow : ℕ → ℕ
+  abbrev firstRow : ℕ → ℕ
   firstRow k = getD (after .map) (5 * k + 3) 0
 
-  abbrev pub rowCount : ℕ → ℕ
+  abbrev rowCount : ℕ → ℕ
   rowCount k = getD (after .map) (5 * k + 4) 0
 
   abbrev entries : List MapEntry

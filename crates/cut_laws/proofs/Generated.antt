@@ -17,7 +17,7 @@ use Rattle.cut_laws.proofs.Demand3.{demand3-written}
 use Rattle.cut_laws.proofs.BothRoutes.{both-routes-written}
 
 -- the problem at the fronts of the generator's outputs
-abbrev pub loadAt : ℕ → ℕ → ℕ → ℕ → Tables → Problem
+abbrev loadAt : ℕ → ℕ → ℕ → ℕ → Tables → Problem
 loadAt seed v w n t = problemAt n (triangle v) 1 (generated seed v w n) t
 
 module _ (seed v w n : ℕ) (before after : Tables) (made : Generate seed v w n before after 0) where

@@ -50,7 +50,7 @@ module _ (p : Problem) where
 -- ---- the lengths of the eleven outputs
 
 module _ (p : Problem) (rooms : List ℕ) where
-  abbrev pub room : ℕ → ℕ
+  abbrev room : ℕ → ℕ
   room i = getD rooms i 0
 
   -- the required lengths of the outputs, computed from the counts

@@ -20,7 +20,7 @@ use Rattle.chordal_info.proofs.Counts.{accepted-fitting}
 use Rattle.decomp.proofs.Answers.{on-route}
 
 -- the first failing one of checks 9 and 10, or 0
-abbrev pub later : Route → Problem → ℕ
+abbrev later : Route → Problem → ℕ
 later route p = firstFailing (routeTests route (p .m) (p .A .rows) (p .b) (layout p))
 
 in-order : (route : Route) (p : Problem) → refusal route p ≡ orElse (problemRefusal p) (later route p)

@@ -38,7 +38,7 @@ module _ (ws : List ℕ) (ys : List ConeMapEntry) where
 -- ---- words of entries
 
 -- word w is word w % 5 of entry w / 5
-pub word-of : (ys : List ConeMapEntry) (w : ℕ) (d : ConeMapEntry) → w < length ys * 5 → getD (allWords ys) w 0 ≡ getD (structWords (getD ys (w / 5) d)) (w % 5) 0
+word-of : (ys : List ConeMapEntry) (w : ℕ) (d : ConeMapEntry) → w < length ys * 5 → getD (allWords ys) w 0 ≡ getD (structWords (getD ys (w / 5) d)) (w % 5) 0
 word-of [] w d l = absurd (omega arith)
 word-of (y ∷ ys) w d l = elim (lt-or-le w 5) [
   | inl h ↦

@@ -51,11 +51,11 @@ pub record Element : Type 3 where
 abbrev pub u32-elements : Element
 u32-elements = record { datum = u32s; single = tt; copy = λ 𝓤 H A W. uint-copy 𝓤 H A W w32 }
 
-abbrev pub table : {M : Type 1} {𝓤 : URA M} (R : RattleType) → ℕ → List (R .Denot) → ℕ → Item 𝓤
+abbrev table : {M : Type 1} {𝓤 : URA M} (R : RattleType) → ℕ → List (R .Denot) → ℕ → Item 𝓤
 table R N xs b = ‵ (Arr (mem R) N .lies xs b zero)
 
 -- the MIR type of the array
-abbrev pub tableTy : RattleType → ℕ → Ty
+abbrev tableTy : RattleType → ℕ → Ty
 tableTy R N = tyArray (lone (R .mir)) N
 
 -- the reference to the array, with ghost name γ
@@ -133,7 +133,7 @@ module _ {M : Type 1} (𝓤 : URA M) (H : Heap 𝓤) (A : Atoms 𝓤) (W : Given
       via 𝓤 (H .at fullShare (tableTy R N) b zero v) (fst∗ 𝓤 (H .at fullShare (tableTy R N) b zero v) (sem 𝓤 H A (Array R N .own xs (v ∷ [])))) (W .laws .at-room (tableTy R N) b zero v))))
 
 -- the cell with N copies of x in memory block b
-abbrev pub copied : {M : Type 1} {𝓤 : URA M} (e : Element) → e .datum .R .Denot → ℕ → ℕ → Item 𝓤
+abbrev copied : {M : Type 1} {𝓤 : URA M} (e : Element) → e .datum .R .Denot → ℕ → ℕ → Item 𝓤
 copied e x N b = ‵ (fat fullShare (tableTy (e .datum .R) N) b zero (arrayVal (replicate N (e .datum .val x))))
 
 -- ---- assignment to local number i, whose cell is at index n
@@ -149,11 +149,11 @@ module _ {M : Type 1} {𝓤 : URA M} {H : Heap 𝓤} {A : Atoms 𝓤} {K : Type 
 -- ---- borrows
 
 -- what is borrowed of the array by a `&[R]`
-abbrev pub Lent : (R : RattleType) → List (R .Denot) → ℕ → Fml
+abbrev Lent : (R : RattleType) → List (R .Denot) → ℕ → Fml
 Lent R ys b = arr-parts (shares R) (length ys) .part fullShare ys b zero
 
 -- the array's elements after the first k
-abbrev pub Rest : (R : RattleType) → ℕ → List (R .Denot) → ℕ → Fml
+abbrev Rest : (R : RattleType) → ℕ → List (R .Denot) → ℕ → Fml
 Rest R k xs b = cells (mem R) (drop-list k xs) b (at zero (mem R .size) k)
 
 module _ {M : Type 1} {𝓤 : URA M} {H : Heap 𝓤} {A : Atoms 𝓤} {K : Type 0} {W : Given 𝓤 H A} {G : Goal 𝓤 H} {Γ : List (Item 𝓤)} where

@@ -48,10 +48,10 @@ module _ (w : World) where
     says-ends us = lasts (f .ended) (x .0 .0) (x .0 .3) us
 
     -- what f requires: the tokens are ts, and its parameters own Fs; and its `requires` clause
-    abbrev pub Asks : List (Item 𝓤) → List Fml → Type 2
+    abbrev Asks : List (Item 𝓤) → List Fml → Type 2
     Asks ts Fs = (alive 𝓤 H A (f .ended .signature) (x .0 .0) (x .0 .1) ≡ mean 𝓤 H A (tokens ts)) × (row-owns (typesAt (f .ended .signature .params) (x .0 .0)) (x .0 .3) (x .0 .4) ≡ stars Fs)
 
-    abbrev pub Requires : SProp 𝓤
+    abbrev Requires : SProp 𝓤
     Requires = f .clauses 𝓤 H A (w .mem) (w .run) (x .0 .0) (x .0 .3) .requires (x .1)
 
     asks : (ts : List (Item 𝓤)) (Fs : List Fml) → Asks ts Fs → ent 𝓤 (emp 𝓤) Requires → (Δ : List (Item 𝓤)) → ent 𝓤 (⋆ 𝓤 H A Δ) (sem 𝓤 H A (stars Fs)) → ent 𝓤 (⋆ 𝓤 H A (ts ++ Δ)) (Callee w f .pre x)
@@ -64,7 +64,7 @@ module _ (w : World) where
         (and-so 𝓤 q)
 
     -- the postcondition of f, where the tokens are ts, the result has type D, and φ is the `ensures` clause
-    abbrev pub Gives : List (Item 𝓤) → (D : Datum) → (D .R .Denot → Ends → Type 0) → Val → SProp 𝓤
+    abbrev Gives : List (Item 𝓤) → (D : Datum) → (D .R .Denot → Ends → Type 0) → Val → SProp 𝓤
     Gives ts D φ u = mean 𝓤 H A (later (some (λ (r : D .R .Denot). (tokens ts ⊛ ‵ (D .R .own r (u ∷ []))) ⊛ some (λ (us : Ends). ‵ (says-ends us) ⊛ raw (fact 𝓤 (φ r us))))))
 
     -- a call where the precondition is first in the context
@@ -110,7 +110,7 @@ length-args [] = []
 length-args (o ∷ os) = plain-arg usizes (length (o .ref .now)) (refl, o .fits) ∷ length-args os
 
 -- for a list of arguments: their denotations, their machine values, what they own, and the slices among them
-abbrev pub Denoted : List Arg → Type 0
+abbrev Denoted : List Arg → Type 0
 Denoted [] = Unit {0}
 Denoted (a ∷ bs) = a .R .Denot × Denoted bs
 
@@ -122,11 +122,11 @@ abbrev pub vals : List Arg → List Val
 vals [] = []
 vals (a ∷ bs) = a .val ∷ vals bs
 
-abbrev pub owns : List Arg → List Fml
+abbrev owns : List Arg → List Fml
 owns [] = []
 owns (a ∷ bs) = a .R .own (a .x) (a .val ∷ []) ∷ owns bs
 
-abbrev pub lents : List Arg → List Shared
+abbrev lents : List Arg → List Shared
 lents [] = []
 lents (a ∷ bs) = a .slices ++ lents bs
 

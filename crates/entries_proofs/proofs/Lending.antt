@@ -34,7 +34,7 @@ passed-ref o = tyRef (o .lifetime) mut (pointee (o .R .written))
 abbrev made-ref : Output → Ty
 made-ref o = tyRef erased mut (pointee (o .R .written))
 
-abbrev pub lending : List Output → ℕ → ℕ → Body → Body
+abbrev lending : List Output → ℕ → ℕ → Body → Body
 lending [] i j rest = rest
 lending (o ∷ os) i j rest =
     seq (assign (place j []) (addrOf (place i (field 0 ∷ deref (element o) ∷ []))))
@@ -57,17 +57,17 @@ module _ {M : Type 1} {𝓤 : URA M} (H : Heap 𝓤) (A : Atoms 𝓤) (E : Env �
   abbrev lent-one : Output → ℕ → List (Item 𝓤) → List (Item 𝓤)
   lent-one o j Γ = put 𝓤 H A (spot (suc j)) (‵ (fat fullShare (sliceTy (made-ref o)) (block (suc j)) zero (slice (o .ref)))) (addressed o j Γ)
 
-  abbrev pub lent : List Output → ℕ → List (Item 𝓤) → List (Item 𝓤)
+  abbrev lent : List Output → ℕ → List (Item 𝓤) → List (Item 𝓤)
   lent [] j Γ = Γ
   lent (o ∷ os) j Γ = lent os (suc (suc j)) (lent-one o j Γ)
 
   -- the types that the locals have, and those that they must have
-  abbrev pub types-there : List Output → ℕ → ℕ → List Ty
+  abbrev types-there : List Output → ℕ → ℕ → List Ty
   types-there [] i j = []
   types-there (o ∷ os) i j = type-of i ∷ type-of j ∷ type-of (suc j) ∷ types-there os (suc i) (suc (suc j))
 
   -- the items at the locals' indices in the context, and those that must be there
-  abbrev pub there : List Output → ℕ → ℕ → List (Item 𝓤) → List (Item 𝓤)
+  abbrev there : List Output → ℕ → ℕ → List (Item 𝓤) → List (Item 𝓤)
   there [] i j Γ = []
   there (o ∷ os) i j Γ =
       nth 𝓤 H A (spot i) Γ ∷ nth 𝓤 H A (spot j) Γ ∷ nth 𝓤 H A (spot j) (addressed o j Γ) ∷ nth 𝓤 H A (spot i) (addressed o j Γ) ∷ nth 𝓤 H A (spot (suc j)) (addressed o j Γ)
@@ -79,11 +79,11 @@ module _ {M : Type 1} {𝓤 : URA M} (H : Heap 𝓤) (A : Atoms 𝓤) (E : Env �
   abbrev address : Output → ℕ → Item 𝓤
   address o j = ‵ (fat fullShare (made-ref o) (block j) zero (vptr (o .ref .ptr .0) (o .ref .ptr .1)))
 
-  abbrev pub due : List Output → ℕ → ℕ → List (Item 𝓤)
+  abbrev due : List Output → ℕ → ℕ → List (Item 𝓤)
   due [] i j = []
   due (o ∷ os) i j = full o i ∷ ‵ (froom (made-ref o) (block j) zero) ∷ address o j ∷ full o i ∷ ‵ (froom (sliceTy (made-ref o)) (block (suc j)) zero) ∷ due os (suc i) (suc (suc j))
 
-abbrev pub types-due : List Output → List Ty
+abbrev types-due : List Output → List Ty
 types-due [] = []
 types-due (o ∷ os) = sliceTy (passed-ref o) ∷ made-ref o ∷ sliceTy (made-ref o) ∷ types-due os
 
@@ -125,7 +125,7 @@ module _ {M : Type 1} {𝓤 : URA M} {H : Heap 𝓤} {A : Atoms 𝓤} {K : Type 
 
 -- ---- the lengths of the outputs
 
-abbrev pub measuring : List Output → ℕ → ℕ → Body → Body
+abbrev measuring : List Output → ℕ → ℕ → Body → Body
 measuring [] i j rest = rest
 measuring (o ∷ os) i j rest = seq (assign (place j []) (rvOpd (copy (place i (field 1 ∷ []))))) (measuring os (suc i) (suc j) rest)
 
@@ -133,23 +133,23 @@ module _ {M : Type 1} {𝓤 : URA M} (H : Heap 𝓤) (A : Atoms 𝓤) (E : Env �
   abbrev measured-one : Output → ℕ → List (Item 𝓤) → List (Item 𝓤)
   measured-one o j Γ = put 𝓤 H A (base + 2 * j) (‵ (fat fullShare (tyInt w64) (spotOf 𝓤 H E j .1) zero (vint w64 (length (o .ref .now))))) Γ
 
-  abbrev pub measured : List Output → ℕ → List (Item 𝓤) → List (Item 𝓤)
+  abbrev measured : List Output → ℕ → List (Item 𝓤) → List (Item 𝓤)
   measured [] j Γ = Γ
   measured (o ∷ os) j Γ = measured os (suc j) (measured-one o j Γ)
 
-  abbrev pub types-read : List Output → ℕ → ℕ → List Ty
+  abbrev types-read : List Output → ℕ → ℕ → List Ty
   types-read [] i j = []
   types-read (o ∷ os) i j = spotOf 𝓤 H E i .0 ∷ spotOf 𝓤 H E j .0 ∷ types-read os (suc i) (suc j)
 
-  abbrev pub read : List Output → ℕ → ℕ → List (Item 𝓤) → List (Item 𝓤)
+  abbrev read : List Output → ℕ → ℕ → List (Item 𝓤) → List (Item 𝓤)
   read [] i j Γ = []
   read (o ∷ os) i j Γ = nth 𝓤 H A (base + 2 * i) Γ ∷ nth 𝓤 H A (base + 2 * j) Γ ∷ read os (suc i) (suc j) (measured-one o j Γ)
 
-  abbrev pub read-due : List Output → ℕ → ℕ → List (Item 𝓤)
+  abbrev read-due : List Output → ℕ → ℕ → List (Item 𝓤)
   read-due [] i j = []
   read-due (o ∷ os) i j = full H A E base o i ∷ ‵ (froom (tyInt w64) (spotOf 𝓤 H E j .1) zero) ∷ read-due os (suc i) (suc j)
 
-abbrev pub types-measured : List Output → List Ty
+abbrev types-measured : List Output → List Ty
 types-measured [] = []
 types-measured (o ∷ os) = sliceTy (passed-ref o) ∷ tyInt w64 ∷ types-measured os
 

@@ -53,7 +53,7 @@ locals (e ∷ E) [] = ‵ (froom (e .0) (e .1) zero) ∷ ‵ (fdies (e .0) (e .1
 locals (e ∷ E) (v ∷ vs) = cell (e .0) (e .1) v ∷ ‵ (fdies (e .0) (e .1)) ∷ locals E vs
 
 -- the arguments have the parameters' types
-abbrev pub Fit : List (Ty × ℕ) → List Val → Type 0
+abbrev Fit : List (Ty × ℕ) → List Val → Type 0
 Fit E [] = Unit {0}
 Fit [] (v ∷ vs) = ⊥
 Fit (e ∷ E) (v ∷ vs) = (T (hasTy (e .0) v) × WT v) × Fit E vs
@@ -165,7 +165,7 @@ held (some-item F) = none
 held (given φ i) = none
 held (later i) = none
 
-abbrev pub all-held : {M : Type 1} {𝓤 : URA M} → List (Item 𝓤) → List (Option Val)
+abbrev all-held : {M : Type 1} {𝓤 : URA M} → List (Item 𝓤) → List (Option Val)
 all-held [] = []
 all-held (i ∷ []) = []
 all-held (i ∷ j ∷ Γ) = held i ∷ all-held Γ

@@ -37,7 +37,7 @@ local-of opdFalse = zero
 local-of opdUnit = zero
 local-of (ptrConst n) = zero
 
-abbrev pub AllWhole : List Operand → List Val → Type 0
+abbrev AllWhole : List Operand → List Val → Type 0
 AllWhole [] [] = Unit {0}
 AllWhole [] (v ∷ vs) = ⊥
 AllWhole (x ∷ xs) [] = ⊥
@@ -45,11 +45,11 @@ AllWhole (x ∷ xs) (v ∷ vs) = Whole x (AllWhole xs vs)
 
 module _ {M : Type 1} {𝓤 : URA M} (H : Heap 𝓤) (A : Atoms 𝓤) (Γ : List (Item 𝓤)) (E : Env 𝓤 H) (base : ℕ) where
   -- the items at the indices of the operands' locals, and the cells with their values
-  abbrev pub there : List Operand → List (Item 𝓤)
+  abbrev there : List Operand → List (Item 𝓤)
   there [] = []
   there (x ∷ xs) = nth 𝓤 H A (base + 2 * local-of x) Γ ∷ there xs
 
-  abbrev pub cells : List Operand → List Val → List (Item 𝓤)
+  abbrev cells : List Operand → List Val → List (Item 𝓤)
   cells [] vs = []
   cells (x ∷ xs) [] = []
   cells (x ∷ xs) (v ∷ vs) = ‵ (fat fullShare (spotOf 𝓤 H E (local-of x) .0) (spotOf 𝓤 H E (local-of x) .1) zero v) ∷ cells xs vs

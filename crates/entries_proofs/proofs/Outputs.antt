@@ -32,7 +32,7 @@ abbrev pub lengths : List Output → List ℕ
 lengths [] = []
 lengths (o ∷ os) = length (o .ref .now) ∷ lengths os
 
-abbrev pub Units : ℕ → Type 0 → Type 0
+abbrev Units : ℕ → Type 0 → Type 0
 Units zero X = X
 Units (suc k) X = Unit {0} × Units k X
 

@@ -48,7 +48,7 @@ pub record Param (n : ℕ) : Type 3 where
   pub outs : (κs : Lfts n) (x : slot .row κs .Denot) → Is (slot .row κs) x (vals κs x) → List Output
 
 module _ {n : ℕ} where
-  abbrev pub number : Param n
+  abbrev number : Param n
   number = record {
     slot = plain (λ _. u32);
     kept = yes;
@@ -96,7 +96,7 @@ module _ {n : ℕ} where
     outs = λ κs x is. output (named j) R x (is .0 .1 .0) ∷ [];
   }
 
-  abbrev pub handed : (F : Lfts n → RattleType) (vals : (κs : Lfts n) → F κs .Denot → List Val) → ((κs : Lfts n) → Tells (F κs) (Is (F κs)) (vals κs))
+  abbrev handed : (F : Lfts n → RattleType) (vals : (κs : Lfts n) → F κs .Denot → List Val) → ((κs : Lfts n) → Tells (F κs) (Is (F κs)) (vals κs))
       → ((M : Type 1) (𝓤 : URA M) (H : Heap 𝓤) (A : Atoms 𝓤) (W : Given 𝓤 H A) (κs : Lfts n) → Lawful 𝓤 H A (F κs)) → ((κs : Lfts n) (x : F κs .Denot) → Is (F κs) x (vals κs x) → List Output) → Param n
   handed F vals tells lawful outs = record {
     slot = plain F;
@@ -209,7 +209,7 @@ module _ {n : ℕ} where
     outputs (p ∷ ps) a are = p .outs κs (a .0) (are .0) ++ outputs ps (a .1) (are .1)
 
     -- the arguments followed by more
-    abbrev pub Before : List (Param n) → Type 0 → Type 0
+    abbrev Before : List (Param n) → Type 0 → Type 0
     Before [] X = X
     Before (p ∷ ps) X = p .slot .row κs .Denot × Before ps X
 

@@ -64,11 +64,11 @@ module _ {M : Type 1} (𝓤 : URA M) (H : Heap 𝓤) (A : Atoms 𝓤) where
   unpad (suc k) F = via 𝓤 (sem 𝓤 H A (padded k F)) (snd∗ 𝓤 (emp 𝓤) (sem 𝓤 H A (padded k F))) (unpad k F)
 
 -- the facts from several callees, each a number of times `true` and some formulas, before other items; and the same split into formulas
-abbrev pub said : {M : Type 1} {𝓤 : URA M} → List (ℕ × List Fml) → List (Item 𝓤) → List (Item 𝓤)
+abbrev said : {M : Type 1} {𝓤 : URA M} → List (ℕ × List Fml) → List (Item 𝓤) → List (Item 𝓤)
 said [] Γ = Γ
 said (l ∷ ls) Γ = ‵ (padded (l .0) (stars (l .1))) ∷ said ls Γ
 
-abbrev pub in-parts : {M : Type 1} {𝓤 : URA M} → List (ℕ × List Fml) → List (Item 𝓤) → List (Item 𝓤)
+abbrev in-parts : {M : Type 1} {𝓤 : URA M} → List (ℕ × List Fml) → List (Item 𝓤) → List (Item 𝓤)
 in-parts [] Γ = Γ
 in-parts (l ∷ ls) Γ = items (l .1) ++ in-parts ls Γ
 

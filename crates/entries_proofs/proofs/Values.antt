@@ -44,7 +44,7 @@ u32s = uints w32
 abbrev pub usizes : Datum
 usizes = uints w64
 
-abbrev pub bools : Datum
+abbrev bools : Datum
 bools = record { R = bool; ty = tyBool; one = refl; val = vbool; tells = bool-tells; lawful = bool-lawful; makes = bool-makes }
 
 abbrev pub nothings : Datum

@@ -46,7 +46,7 @@ use Rattle.entries_proofs.proofs.Outputs.{Output}
 use Rattle.entries_proofs.proofs.Params.{Param, slots, kepts, stays, all-go, spelled, all-tell, Arguments, ArgumentAt, argument, values, machine, owned, all-own, Known, KnownAt, known, outputs, typed}
 use Rattle.entries_proofs.proofs.Locals.{Blocks, env, locals, Fits, enters}
 
-abbrev pub ended : {n : ℕ} → List (Param n) → Slot n → Ended
+abbrev ended : {n : ℕ} → List (Param n) → Slot n → Ended
 ended {n} ps result = record { signature = record { lifetimes = n; outlives = []; params = slots ps; result = result }; kept = kepts ps }
 
 pub record Walked : Type 3 where
@@ -78,7 +78,7 @@ module _ {f : Walked} (h : Here f) where
   abbrev pub toks : List ℕ → List (Item 𝓤)
   toks ks = tokens-of (f .n) (h .κs) (h .qs) ks
 
-  abbrev pub Entered : List (Item 𝓤)
+  abbrev Entered : List (Item 𝓤)
   Entered = tokens (toks (span 0 (f .n))) ∷ ‵ (stars Owned) ∷ []
 
   abbrev pub outs : List Output
@@ -91,7 +91,7 @@ module _ {f : Walked} (h : Here f) where
   known-of k = known (h .κs) (f .params) (h .a) (h .are) k
 
   -- the arguments ks, their machine values, and what they own
-  abbrev pub ArgsAt : List ℕ → Type 0
+  abbrev ArgsAt : List ℕ → Type 0
   ArgsAt [] = Unit {0}
   ArgsAt (k ∷ ks) = ArgumentAt (h .κs) (f .params) k × ArgsAt ks
 
@@ -167,16 +167,16 @@ module _ {f : Walked} (h : Here f) where
   abbrev pub Whole : Type 1
   Whole = (bs : Blocks (f .code .locals)) → Body bs Returned
 
-  abbrev pub Started : SProp 𝓤
+  abbrev Started : SProp 𝓤
   Started = onEntry 𝓤 H A (T .signature) (h .κs) (h .qs) (h .a) (values (h .κs) (f .params) (h .a))
 
-  abbrev pub Runs : SProp 𝓤
+  abbrev Runs : SProp 𝓤
   Runs = WpFn 𝓤 H (𝓣 .C) (𝓣 .Λ) (f .code) args Returned
 
-  abbrev pub Required : SProp 𝓤
+  abbrev Required : SProp 𝓤
   Required = clauses (h .κs) (h .a) .requires (h .g)
 
-  abbrev pub Walk : Type 1
+  abbrev Walk : Type 1
   Walk = ent 𝓤 (sep 𝓤 Started Required) Runs
 
   entry : Started ≡ ⋆ 𝓤 H A Entered

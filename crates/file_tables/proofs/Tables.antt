@@ -16,7 +16,7 @@ use Rattle.layout.proofs.Theorems.File.{Shaped, checked-shaped, FewCounts, chec
 use Rattle.layout.proofs.Files.Lengths.{refusal-lengths}
 
 -- the problem of the tables with all floats left out, only their number kept
-abbrev pub unvaluedOf : BitTables → Problem
+abbrev unvaluedOf : BitTables → Problem
 unvaluedOf t =
     problem (t .n) (t .m) (t .pStarts) (t .pRows) (unvalued (length (t .pValues))) (unvalued (length (t .q)))
     (t .aStarts) (t .aRows) (unvalued (length (t .aValues))) (unvalued (length (t .b))) (t .cones) (unvalued (length (t .alphas))) (t .patternCount) (t .patternWords)
@@ -31,7 +31,7 @@ tables-refusal t =
     (as-many (t .pValues)) (as-many (t .q)) (as-many (t .aValues)) (as-many (t .b)) (as-many (t .alphas))
 
 -- the length of each table
-abbrev pub lengthsOf : BitTables → List ℕ
+abbrev lengthsOf : BitTables → List ℕ
 lengthsOf t =
     length (t .pStarts) ∷ length (t .pRows) ∷ length (t .pValues) ∷ length (t .q)
     ∷ length (t .aStarts) ∷ length (t .aRows) ∷ length (t .aValues) ∷ length (t .b)

@@ -18,7 +18,7 @@ use Rattle.generator.specs.Lengths.{lengthsOf, RoomsOf}
 
 module _ (seed v w n : ℕ) where
   -- the number of entries of A
-  abbrev pub entriesOf : ℕ
+  abbrev entriesOf : ℕ
   entriesOf = sum (map length (drawnColumns (draws (v - 1) seed) (bandRows (drawnOrdering seed v) v w) n))
 
   pub lengths-are : T (inRanges seed v w n) → tableLengths (generated seed v w n) ≡ lengthsOf v w n entriesOf

@@ -21,7 +21,7 @@ Between s rs i due t =
     ⊎ ((due ≡ 1) × (i < length rs) × (t ≡ draw (afterColumn s (take i rs))) × (isOdd t ≡ true))
 
 -- how the entries drawn before row i + 1 differ from those before row i, where the draw u is the last one of row i
-abbrev pub Ended : ℕ → List ℕ → ℕ → ℕ → ℕ → Type 0
+abbrev Ended : ℕ → List ℕ → ℕ → ℕ → ℕ → Type 0
 Ended s rs i due u =
     ((due ≡ 0) × (drawnColumn s (take (i + 1) rs) ≡ drawnColumn s (take i rs)))
     ⊎ ((due ≡ 1) × (drawnColumn s (take (i + 1) rs) ≡ drawnColumn s (take i rs) ++ (record { row = getD rs i 0; value = drawnValue u } ∷ [])))

@@ -38,7 +38,7 @@ count-ends h l = omega arith
 
 -- ---- indices: a slice of n elements of b bytes fits in memory
 
-abbrev pub Room : ℕ → ℕ → Type 0
+abbrev Room : ℕ → ℕ → Type 0
 Room b n = (n < 2 ^ 64) × (n * b < 2 ^ 63)
 
 pub fits-count : {i n : ℕ} (b : ℕ) → i ≤ n → Room b n → Fits w64 i

@@ -44,7 +44,7 @@ taken os k h = sym (part-at 0 os 0 k (omega arith))
 -- ---- a pattern whose cliques are at given offsets
 
 -- the clique at the offset is complete, and is q
-abbrev pub ReadAt : List ℕ → ℕ → Clique → Type 0
+abbrev ReadAt : List ℕ → ℕ → Clique → Type 0
 ReadAt ws o q = (isWhole (readClique (drop o ws)) ≡ true) × (cliqueHere ws o ≡ q)
 
 -- clique c is at offset c, for each of the cliques

@@ -24,7 +24,7 @@ use Rattle.sparsevector.specs.Sides.{movedSides}
 use Rattle.sparsevector.proofs.Rows.{compact-values}
 
 module _ (m : ℕ) (codes : List ℕ) (sides : List Float) where
-  abbrev pub movedSide : ℕ → List Float
+  abbrev movedSide : ℕ → List Float
   movedSide k = map (codeValue (part (k * m) (k * m + m) sides)) codes
 
   pub moved-more : (k : ℕ) → movedSides m codes sides (k + 1) ≡ movedSides m codes sides k ++ movedSide k

@@ -12,7 +12,7 @@ use Rattle.layout.specs.General.Lists.{sameBy}
 use Rattle.layout.proofs.Lists.Walks.{same-lengths, same-step, same-miss, same-done}
 
 module _ {A : Type 0} (alike : A → A → Bool) (out list : List A) where
-  abbrev pub front : List A
+  abbrev front : List A
   front = take (length list) out
 
   pub front-short : length out < length list → sameBy alike front list ≡ false

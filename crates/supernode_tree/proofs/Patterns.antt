@@ -35,7 +35,7 @@ module _ (ws : List ℕ) (at k : ℕ) (more : 0 < k) (w : WholePatterns ws at k)
   read-first = whole-read noPattern (readPattern (drop at ws)) pattern-first
 
   -- the patterns after the first
-  abbrev pub laterPatterns : List Pattern
+  abbrev laterPatterns : List Pattern
   laterPatterns = valueOr [] (readPatterns (k - 1) (rest (readPattern (drop at ws))))
 
   pub patterns-first : patternsFrom ws at k ≡ patternAt ws at ∷ laterPatterns

@@ -30,7 +30,7 @@ second-unused (suc (suc (suc (suc (suc (suc zero)))))) a c n h = ne-eqb c 0 h
 second-unused (suc (suc (suc (suc (suc (suc (suc k))))))) a c n h = refl
 
 -- a kind without a first size
-abbrev pub Unsized : ℕ → Type 0
+abbrev Unsized : ℕ → Type 0
 Unsized k = (k ≡ 0 → ⊥) × (k ≡ 1 → ⊥) × (k ≡ 2 → ⊥) × (k ≡ 5 → ⊥) × (k ≡ 6 → ⊥)
 
 first-unused : (k a c : ℕ) → Unsized k → (a ≡ 0 → ⊥) → reads (coneRecord k a c) ≡ false

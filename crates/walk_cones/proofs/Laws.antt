@@ -91,7 +91,7 @@ module _ (m : ℕ) (cones words : List ℕ) (c : Place) (h : Reached m cones wor
 
   -- a cone that no pattern cuts
   module _ (rows : ℕ) (e : rows ≡ rowCount here) (free : isCut (c .cone) (patternsAhead words c) ≡ false) where
-    abbrev pub afterWhole : Place
+    abbrev afterWhole : Place
     afterWhole = record { cone = c .cone + 1; row = c .row + rows; pattern = c .pattern; left = c .left; at = c .at }
 
     pub whole-ahead : ahead cones words c ≡ whole (c .cone) here (c .row) ∷ ahead cones words afterWhole
@@ -145,7 +145,7 @@ module _ (m : ℕ) (cones words : List ℕ) (c : Place) (h : Reached m cones wor
     -- the next pattern cuts the cone
     module _ (mine : getD words (c .at) 0 ≡ c .cone) (rows : ℕ) (e : rows ≡ rowCount here)
         (next : ℕ) (n : rest (readPattern (drop (c .at) words)) ≡ drop next words) where
-      abbrev pub afterCut : Place
+      abbrev afterCut : Place
       afterCut = record { cone = c .cone + 1; row = c .row + rows; pattern = c .pattern + 1; left = c .left - 1; at = next }
 
       pub cut-ahead : ahead cones words c ≡ cut (c .cone) (c .row) (c .pattern) p ∷ ahead cones words afterCut

@@ -72,13 +72,13 @@ start-at s field k l =
     ∙ sym (columns-start (s .args .n) (M s) (plain s) (s .args .place .now) (right s) (s .pre .0 .1) (marking s .placing) field k l)
 
 -- what is known where the rows of this iteration's column are those of column c
-pub record Follows (s : tie.Start Inv-loop μ-loop) (d : ℕ) : Type 0 where
-  pub inside : d < s .args .n
-  pub same : columnRows (M s) d ≡ columnRows (M s) (s .args .c)
-  pub size : length (part (getD (s .args .starts .now) d 0) (getD (s .args .starts .now) (d + 1) 0) (s .args .values .now)) ≡ length (columnRows (M s) (s .args .c))
-  pub end : getD (s .args .run-starts .now) (s .args .c) 0 + length (columnRows (M s) (s .args .c)) ≡ getD (s .args .run-starts .now) (s .args .c + 1) 0
-  pub behind : getD (s .args .run-starts .now) (s .args .c + 1) 0 ≤ getD (s .args .run-starts .now) d 0
-  pub room : getD (s .args .run-starts .now) d 0 + length (columnRows (M s) (s .args .c)) ≤ runCount (s .args .n) (M s)
+record Follows (s : tie.Start Inv-loop μ-loop) (d : ℕ) : Type 0 where
+  inside : d < s .args .n
+  same : columnRows (M s) d ≡ columnRows (M s) (s .args .c)
+  size : length (part (getD (s .args .starts .now) d 0) (getD (s .args .starts .now) (d + 1) 0) (s .args .values .now)) ≡ length (columnRows (M s) (s .args .c))
+  end : getD (s .args .run-starts .now) (s .args .c) 0 + length (columnRows (M s) (s .args .c)) ≡ getD (s .args .run-starts .now) (s .args .c + 1) 0
+  behind : getD (s .args .run-starts .now) (s .args .c + 1) 0 ≤ getD (s .args .run-starts .now) d 0
+  room : getD (s .args .run-starts .now) d 0 + length (columnRows (M s) (s .args .c)) ≤ runCount (s .args .n) (M s)
 
 follows-here : (s : tie.Start Inv-loop μ-loop) (d : ℕ) → s .args .c < d → d < s .args .n → columnRows (M s) d ≡ columnRows (M s) (s .args .c) → Follows s d
 follows-here s d l k same =

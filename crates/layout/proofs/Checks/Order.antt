@@ -31,7 +31,7 @@ orElse-same (suc a) b c h = refl
 -- ---- checks in order
 
 -- whether no check has the number 0, which means that nothing is refused
-abbrev pub numbered : List Check → Bool
+abbrev numbered : List Check → Bool
 numbered [] = true
 numbered (check zero b ∷ cs) = false
 numbered (check (suc k) b ∷ cs) = numbered cs
@@ -52,7 +52,7 @@ passed k (check (suc j) true ∷ cs) h e = go (eqb k (suc j)) (passed k cs h e)
     go false r = r
 
 -- every check passes
-abbrev pub Passing : List Check → Type 0
+abbrev Passing : List Check → Type 0
 Passing [] = Unit {0}
 Passing (check k b ∷ cs) = T b × Passing cs
 
@@ -70,7 +70,7 @@ one-fails (check j true ∷ cs) k b ds h g = one-fails cs k b ds (h .1) g
 one-fails (check j false ∷ cs) k b ds h g = absurd (h .0)
 
 -- whether no check has the number k
-abbrev pub lacks : ℕ → List Check → Bool
+abbrev lacks : ℕ → List Check → Bool
 lacks k [] = true
 lacks k (check j b ∷ cs) = not (eqb j k) && lacks k cs
 
@@ -85,7 +85,7 @@ never-given k (check j false ∷ cs) h e = go (eqb j (suc k)) refl (and-iff (not
     go false q n = absurd (subst T q (eqb-iff j (suc k) .1 e))
 
 -- whether no check has a number above `most`
-abbrev pub numbersMost : ℕ → List Check → Bool
+abbrev numbersMost : ℕ → List Check → Bool
 numbersMost most [] = true
 numbersMost most (check k b ∷ cs) = leb k most && numbersMost most cs
 

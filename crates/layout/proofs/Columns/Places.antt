@@ -128,7 +128,7 @@ module _ (p q : Problem) (n : p .n ≡ q .n) (parts : layout p ≡ layout q) (pl
 
 -- ---- problems that differ only in A's values
 
-abbrev pub withValues : List Float → Problem → Problem
+abbrev withValues : List Float → Problem → Problem
 withValues vs p = record {
   n = p .n;
   m = p .m;

@@ -281,7 +281,7 @@ moved-sum o q es h =
 -- ---- A with its repeats summed
 
 -- the problem with A's repeats summed
-abbrev pub withSums : Problem → Problem
+abbrev withSums : Problem → Problem
 withSums p = record {
   n = p .n;
   m = p .m;

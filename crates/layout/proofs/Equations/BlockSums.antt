@@ -211,11 +211,11 @@ sound-rounding {m} {cones} {count} {words} sound s long doubles =
 -- ---- on the outputs of a joining
 
 -- What holds for the outputs of a compact joining of one solution that is not refused.
-pub record SummedRows (m : ℕ) (ps : List Part) (sol : Solution) (out : Rejoined) : Type 0 where
-  pub rows : RightRows 0 0 m (compactRows ps)
-  pub long : length (sol .s) ≡ length (compactRows ps)
-  pub errors : RoundingErrors m ps (sol .s)
-  pub written : (o : ℕ) → o < m → getD (out .s) o nan ≡ returned m ps (sol .s) o
+record SummedRows (m : ℕ) (ps : List Part) (sol : Solution) (out : Rejoined) : Type 0 where
+  rows : RightRows 0 0 m (compactRows ps)
+  long : length (sol .s) ≡ length (compactRows ps)
+  errors : RoundingErrors m ps (sol .s)
+  written : (o : ℕ) → o < m → getD (out .s) o nan ≡ returned m ps (sol .s) o
 
 rounding-written : (n m : ℕ) (cones : List ℕ) (count : ℕ) (words : List ℕ) (sol : Solution) (map : List ℕ) (before after : Rejoined)
     → Join 1 n m cones count words sol map before after 0 → SummedRows m (joinedParts cones count words) sol after

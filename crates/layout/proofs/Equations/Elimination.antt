@@ -36,7 +36,7 @@ abbrev pub Covered : List Row → ℕ → Type 0
 Covered R o = (r : ℕ) × (r < length R) × (originalRow (rowAt R r) ≡ o)
 
 -- the original equations, for the original rows that some augmented row represents
-abbrev pub OriginalMet : (ℕ → ℤ) → List Row → (ℕ → ℤ) → Type 0
+abbrev OriginalMet : (ℕ → ℤ) → List Row → (ℕ → ℤ) → Type 0
 OriginalMet t R s = (o : ℕ) → Covered R o → added R s o ≡ t o
 
 -- the augmented row that original row o is moved to

@@ -41,7 +41,7 @@ all-both P Q [] a b = tt
 all-both P Q (l ∷ L) a b = ((a .0, b .0), all-both P Q L (a .1) (b .1))
 
 -- P holds of every overlap row of R, whose row k has number i + k
-abbrev pub EachOverlap : (Link → Type 0) → ℕ → List Row → Type 0
+abbrev EachOverlap : (Link → Type 0) → ℕ → List Row → Type 0
 EachOverlap P i R = (k o q : ℕ) → k < length R → rowAt R k ≡ overlap o q → P (record { own = i + k; parent = q })
 
 after-first : (P : Link → Type 0) (i : ℕ) (x : Row) (R : List Row) → EachOverlap P i (x ∷ R) → EachOverlap P (suc i) R

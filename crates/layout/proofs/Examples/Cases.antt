@@ -79,7 +79,7 @@ p7 : renumber snodesBefore ≡ snodesAfter
 p7 = refl
 
 -- document 01's problem with three projectors and one seam, for given rows of A and a given b
-abbrev pub seamWith : List ℕ → List Float → Problem
+abbrev seamWith : List ℕ → List Float → Problem
 seamWith rows b = record {
   n = 1;
   m = 6;

@@ -26,7 +26,7 @@ use Rattle.layout.proofs.Patterns.WordCounts.{clique-size, vertices-few
 abbrev psd : ℕ → Cone
 psd k = record { kind = 6; first = k; second = 0 }
 
-abbrev pub partRecords : Part → List Cone
+abbrev partRecords : Part → List Cone
 partRecords (whole i c row) = c ∷ []
 partRecords (cut i row k p) = map (λ c. psd (blockSize (cliqueAt p c))) (reverse (below (cliqueCount p)))
 
@@ -47,9 +47,9 @@ cones-words (x ∷ ps) = ap₂ _++_ (part-words x) (cones-words ps) ∙ sym (joi
 
 -- ---- what checks 1 to 7 ensure for the parts
 
-pub record RightCone (c : Cone) : Type 0 where
-  pub bounded : T (sizesBounded c)
-  pub read : T (reads c)
+record RightCone (c : Cone) : Type 0 where
+  bounded : T (sizesBounded c)
+  read : T (reads c)
 
 abbrev RightPart : Part → Type 0
 RightPart (whole i c row) = RightCone c

@@ -190,7 +190,7 @@ length-pairs (suc k) (w ∷ []) e = absurd (omega arith)
 length-pairs (suc k) (w ∷ v ∷ ws) e = ap suc (length-pairs k ws (omega arith))
 
 -- one more number
-pub pairs-more : (ws : List ℕ) (i : ℕ) → 2 * i + 1 < length ws
+pairs-more : (ws : List ℕ) (i : ℕ) → 2 * i + 1 < length ws
     → pairsOf (take (2 * (i + 1)) ws) ≡ pairsOf (take (2 * i) ws) ++ ((getD ws (2 * i) 0 + 4294967296 * getD ws (2 * i + 1) 0) ∷ [])
 pairs-more [] i l = absurd (omega arith)
 pairs-more (w ∷ []) i l = absurd (omega arith)

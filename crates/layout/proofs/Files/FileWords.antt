@@ -192,7 +192,7 @@ module _ (bs : List ℕ) where
 -- ---- the tables
 
 -- k words from a byte offset that is a multiple of 4
-pub words-part : (bs : List ℕ) (o k : ℕ) → o ≡ 4 * (o / 4) → o + 4 * k ≤ length bs
+words-part : (bs : List ℕ) (o k : ℕ) → o ≡ 4 * (o / 4) → o + 4 * k ≤ length bs
     → part (o / 4) (o / 4 + k) (fileWords bs) ≡ numbersOf 4 k (drop o bs)
 words-part bs o k e l =
     let size : o / 4 + k - o / 4 ≡ k = omega arith in

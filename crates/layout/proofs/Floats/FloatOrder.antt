@@ -20,12 +20,12 @@ isZero nan = false
 isZero (inf s) = false
 isZero (fin s m e) = eqb m 0
 
-abbrev pub nonNegative : Float → Bool
+abbrev nonNegative : Float → Bool
 nonNegative nan = false
 nonNegative (inf s) = not s
 nonNegative (fin s m e) = not s || eqb m 0
 
-abbrev pub nonPositive : Float → Bool
+abbrev nonPositive : Float → Bool
 nonPositive nan = false
 nonPositive (inf s) = s
 nonPositive (fin s m e) = s || eqb m 0

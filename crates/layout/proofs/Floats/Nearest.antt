@@ -128,7 +128,7 @@ rounded-nearest p w q j h l = go (lt-or-le j (dropped p w))
             (subst (λ (x : ℕ). 2 ^ (p + j) ≤ x) (pow-add 2 (p - 1) (dropped p w)) (pow-mono (omega arith))))
 
 -- whether a is a number of p digits times a power of two
-abbrev pub Digits : ℕ → ℕ → Type 0
+abbrev Digits : ℕ → ℕ → Type 0
 Digits p a = (q j : ℕ) × (q < 2 ^ p) × (a ≡ q * 2 ^ j)
 
 -- whether w differs by at most b from a or from 0

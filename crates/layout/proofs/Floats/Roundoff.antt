@@ -70,13 +70,13 @@ difference a b l c A B h e g i =
 -- ---- the sum of ±a / c and ±b / c
 
 -- x is the rounded sum of ±a and ±b units of the smallest value: `sign` and `size` are those of the exact sum, which x rounds
-pub record RoundedSum (f : Format) (x : Float) (s : Bool) (a : ℕ) (t : Bool) (b : ℕ) : Type 0 where
-  pub sign : Bool
-  pub size : ℕ
-  pub exact : signed s a +ℤ signed t b ≡ signed sign size
-  pub value : HasValue x sign (rounded (prec f) size) (2 ^ low f)
-  pub first : Within a b size
-  pub second : Within b a size
+record RoundedSum (f : Format) (x : Float) (s : Bool) (a : ℕ) (t : Bool) (b : ℕ) : Type 0 where
+  sign : Bool
+  size : ℕ
+  exact : signed s a +ℤ signed t b ≡ signed sign size
+  value : HasValue x sign (rounded (prec f) size) (2 ^ low f)
+  first : Within a b size
+  second : Within b a size
 
 module _ (f : Format) (a b c A B : ℕ) (h : 0 < c) (e : a * 2 ^ low f ≡ A * c) (g : b * 2 ^ low f ≡ B * c) where
   like-signs : (s : Bool) → T (finite (round f s (a + b) c)) → RoundedSum f (round f s (a + b) c) s A s B

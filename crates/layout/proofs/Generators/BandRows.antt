@@ -34,7 +34,7 @@ abbrev pub inBandAt : List ℕ → ℕ → ℕ → Bool
 inBandAt places w r = within w (getD places (indexRow r) 0) (getD places (indexColumn r) 0)
 
 -- whether the two vertices of row r have indices in the ordering that are at most w apart
-abbrev pub inBand : List ℕ → ℕ → ℕ → Bool
+abbrev inBand : List ℕ → ℕ → ℕ → Bool
 inBand os w r = within w (placeOf (indexRow r) os) (placeOf (indexColumn r) os)
 
 within-iff : (w a b : ℕ) → T (within w a b) ↔ ((a ≤ b + w) × (b ≤ a + w))

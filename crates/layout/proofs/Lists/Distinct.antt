@@ -16,7 +16,7 @@ pub distinct-cons : (x : ℕ) (xs : List ℕ) → T (distinct (x ∷ xs)) ↔ ((
 distinct-cons x xs = Iff·trans (and-iff (not (has x xs)) (distinct xs)) (Iff·and (not-iff (has x xs)) Iff·rfl)
 
 -- the lists have no member in common
-abbrev pub Apart : List ℕ → List ℕ → Type 0
+abbrev Apart : List ℕ → List ℕ → Type 0
 Apart xs ys = (u : ℕ) → T (has u xs) → T (has u ys) → ⊥
 
 pub distinct-append : (xs ys : List ℕ) → T (distinct (xs ++ ys)) ↔ (T (distinct xs) × T (distinct ys) × Apart xs ys)
@@ -71,7 +71,7 @@ distinct-upFrom a (suc k) = distinct-cons a (upFrom (suc a) k) .1 (
 )
 
 -- f is injective on the members of xs
-abbrev pub InjectiveOn : List ℕ → (ℕ → ℕ) → Type 0
+abbrev InjectiveOn : List ℕ → (ℕ → ℕ) → Type 0
 InjectiveOn xs f = (x y : ℕ) → T (has x xs) → T (has y xs) → f x ≡ f y → x ≡ y
 
 pub distinct-map : (f : ℕ → ℕ) (xs : List ℕ) → InjectiveOn xs f → T (distinct xs) → T (distinct (map f xs))
@@ -90,7 +90,7 @@ distinct-map f (x ∷ xs) inj h =
 
 module _ {A : Type 0} where
   -- the lists that f gives at different indices have no member in common
-  abbrev pub ApartAt : A → (A → List ℕ) → List A → Type 0
+  abbrev ApartAt : A → (A → List ℕ) → List A → Type 0
   ApartAt d f us = (i j x : ℕ) → i < length us → j < length us
       → T (has x (f (getD us i d))) → T (has x (f (getD us j d))) → i ≡ j
 

@@ -139,7 +139,7 @@ module _ {A : Type 0} where
   -- ---- a join from last to first
 
   -- the index at which part c starts, if the n parts numbered suc c and up come before it
-  abbrev pub startOf : (ℕ → List A) → ℕ → ℕ → ℕ
+  abbrev startOf : (ℕ → List A) → ℕ → ℕ → ℕ
   startOf g c n = sum (map (λ i. length (g i)) (upFrom (suc c) n))
 
   pub down-at : (g : ℕ → List A) (x : A) (c n t : ℕ) → t < length (g c)

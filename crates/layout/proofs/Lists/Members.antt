@@ -16,7 +16,7 @@ use Rattle.layout.proofs.Lists.Tests.{eqb-iff, and-iff, or-iff, tested,
 
 module _ {A : Type 0} where
   -- some element of the list satisfies P; d is the default of `getD`
-  abbrev pub SomeAt : A → (A → Type 0) → List A → Type 0
+  abbrev SomeAt : A → (A → Type 0) → List A → Type 0
   SomeAt d P xs = (i : ℕ) × (i < length xs) × P (getD xs i d)
 
   -- every element of the list satisfies P

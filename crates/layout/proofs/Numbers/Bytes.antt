@@ -32,7 +32,7 @@ below-append n (x ∷ xs) ys h k =
     below-cons n x (xs ++ ys) (below-head n x xs h) (below-append n xs ys (below-tail n x xs h) k)
 
 -- the same bound, one number after the other
-abbrev pub EachBelow : ℕ → List ℕ → Type 0
+abbrev EachBelow : ℕ → List ℕ → Type 0
 EachBelow n [] = Unit {0}
 EachBelow n (x ∷ xs) = (x < n) × EachBelow n xs
 

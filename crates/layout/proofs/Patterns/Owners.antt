@@ -14,7 +14,7 @@ use Rattle.layout.proofs.Lists.Tests.{tested, downward}
 use Rattle.layout.proofs.Patterns.Tree.{in-iff, parent-later, cliques-right, separator-inner, snode-above, snode-once}
 
 -- both vertices are in the clique
-abbrev pub Holds : Pattern → ℕ → ℕ → ℕ → Type 0
+abbrev Holds : Pattern → ℕ → ℕ → ℕ → Type 0
 Holds p c u v = In p c u × In p c v
 
 -- both vertices are in the clique's separator

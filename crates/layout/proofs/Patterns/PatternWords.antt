@@ -32,7 +32,7 @@ module _ {A B : Type 0} where
   after-then P Q (read a left) f h k = k a left h
   after-then P Q short f h k = tt
 
-abbrev pub MembersOf : ℕ → List ℕ → List ℕ → List ℕ → Type 0
+abbrev MembersOf : ℕ → List ℕ → List ℕ → List ℕ → Type 0
 MembersOf k ws xs left = (ws ≡ xs ++ left) × (length xs ≡ k)
 
 members-after : (k : ℕ) (ws : List ℕ) → After (MembersOf k ws) (readMembers k ws)
@@ -47,7 +47,7 @@ module _ {A : Type 0} (words : A → List ℕ) where
   abbrev pub OneOf : List ℕ → A → List ℕ → Type 0
   OneOf ws a left = ws ≡ words a ++ left
 
-  abbrev pub ManyOf : ℕ → List ℕ → List A → List ℕ → Type 0
+  abbrev ManyOf : ℕ → List ℕ → List A → List ℕ → Type 0
   ManyOf k ws xs left = (ws ≡ join words xs ++ left) × (length xs ≡ k)
 
   many-after : (one : List ℕ → Read A) → ((ws : List ℕ) → After (OneOf ws) (one ws))
@@ -78,7 +78,7 @@ clique-after (p ∷ a ∷ e ∷ ws) =
 cliques-after : (k : ℕ) (ws : List ℕ) → After (ManyOf cliqueWords k ws) (readCliques k ws)
 cliques-after k ws = many-after cliqueWords readClique clique-after k ws
 
-abbrev pub HeadOf : List ℕ → Head → List ℕ → Type 0
+abbrev HeadOf : List ℕ → Head → List ℕ → Type 0
 HeadOf ws h left = (ws ≡ h .origIndex ∷ h .vertexCount ∷ h .cliqueCount ∷ (h .ordering ++ left)) × (length (h .ordering) ≡ h .vertexCount)
 
 head-after : (ws : List ℕ) → After (HeadOf ws) (readHead ws)

@@ -45,7 +45,7 @@ rows-inside p h c r l k =
 
 -- ---- one A stacked above the other
 
-pub raised-length : (k : ℕ) (es : List Entry) → length (raisedEntries k es) ≡ length es
+raised-length : (k : ℕ) (es : List Entry) → length (raisedEntries k es) ≡ length es
 raised-length k es = length-map {B = Entry} es (λ e. record { row = k + e .row; value = e .value })
 
 pub raised-rows : (k : ℕ) (es : List Entry) → rowsOf (raisedEntries k es) ≡ map (λ r. k + r) (rowsOf es)

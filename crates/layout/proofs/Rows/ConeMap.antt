@@ -97,7 +97,7 @@ rows-sum ps = omega (arith, follow-sum 0 (0 + blockRowCount ps) (coneMap ps) (ma
 -- ---- the rows of each entry
 
 -- the rows of each new cone of a part, and of parts, whose rows start at `first`
-abbrev pub partBlocks : ℕ → Part → List (List Row)
+abbrev partBlocks : ℕ → Part → List (List Row)
 partBlocks first (whole i c row) = map kept (upFrom row (rowCount c)) ∷ []
 partBlocks first (cut i row k p) = map (λ c. map (rowOf p row first c) (block p c)) (reverse (below (cliqueCount p)))
 
@@ -135,7 +135,7 @@ blocks-long first row (cut i r k p ∷ ps) h =
     ∙ sym (map-append entryRows (mapPart first (cut i r k p)) (mapFrom (first + blockRows p) ps))
 
 -- the part of a list that an entry covers, from its first row on
-abbrev pub entryPart : {A : Type 0} → MapEntry → List A → List A
+abbrev entryPart : {A : Type 0} → MapEntry → List A → List A
 entryPart e vs = take (entryRows e) (drop (entryFirst e) vs)
 
 part-of : (a b : ℕ) (es : List MapEntry) (Rs : List (List Row)) (S : List Row) (k : ℕ) (d : MapEntry) → Follow a es b → map length Rs ≡ map entryRows es
@@ -165,7 +165,7 @@ block-at ps h k d l =
 -- ---- a joining by the map
 
 -- entry by entry: the rows of its block are walked with the values from its first row on
-abbrev pub byMap : {S : Type 0} → (Row → Float → S → S) → List Float → List MapEntry → List (List Row) → S → S
+abbrev byMap : {S : Type 0} → (Row → Float → S → S) → List Float → List MapEntry → List (List Row) → S → S
 byMap f vs es Rs w = walk (λ e R w. walk f R (entryPart e vs) w) es Rs w
 
 follow-walk : {S : Type 0} (f : Row → Float → S → S) (vs : List Float) (a b : ℕ) (es : List MapEntry) (Rs : List (List Row)) (w : S)

@@ -75,7 +75,7 @@ laid-rows first row (cut i r k p ∷ ps) h =
 -- ---- the parts of an accepted problem are `Laid`
 
 -- the pattern's cone, if it is among the cones cs numbered from i on, has one row for each pair of the pattern's vertices
-abbrev pub Fits : ℕ → List Cone → Pattern → Type 0
+abbrev Fits : ℕ → List Cone → Pattern → Type 0
 Fits i cs p = (n : ℕ) → n < length cs → p .origIndex ≡ i + n → rowCount (getD cs n noCone) ≡ triangle (p .vertexCount)
 
 abbrev RightIn : ℕ → List Cone → Pattern → Type 0
@@ -86,7 +86,7 @@ after-first : (d : Pattern) (i : ℕ) (c : Cone) (cs : List Cone) (ps : List Pat
 after-first d i c cs ps h n l = (h n l .0, λ m lm e. h n l .1 (suc m) (suc-le-suc lm) (omega arith))
 
 -- the parts are `Laid` from `row` on, and they have as many original rows as the cones
-abbrev pub LaidOver : ℕ → List Cone → List Part → Type 0
+abbrev LaidOver : ℕ → List Cone → List Part → Type 0
 LaidOver row cs ps = Laid row ps × (sum (map coneRows ps) ≡ sum (map rowCount cs))
 
 parts-laid : (d : Pattern) (i row k : ℕ) (cs : List Cone) (ps : List Pattern) → EveryAt d (RightIn i cs) ps

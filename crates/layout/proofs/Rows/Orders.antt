@@ -273,16 +273,16 @@ block-moved {A} qs x rs vs c e l =
 
 module _ {A : Type 0} (f : Part → ℕ → List A) where
   -- a part's values, cliques from first to last: f gives the values of each clique's block, and an undecomposed cone has only block 0
-  abbrev pub firstToLast : Part → List A
+  abbrev firstToLast : Part → List A
   firstToLast (whole i c row) = f (whole i c row) 0
   firstToLast (cut i row k p) = join (f (cut i row k p)) (below (cliqueCount p))
 
-  abbrev pub lastToFirst : Part → List A
+  abbrev lastToFirst : Part → List A
   lastToFirst (whole i c row) = f (whole i c row) 0
   lastToFirst (cut i row k p) = join (f (cut i row k p)) (reverse (below (cliqueCount p)))
 
   -- f gives one value for each row of each block
-  abbrev pub Sized : List Part → Type 0
+  abbrev Sized : List Part → Type 0
   Sized [] = Unit {0}
   Sized (whole i c row ∷ ps) = (length (f (whole i c row) 0) ≡ rowCount c) × Sized ps
   Sized (cut i row k p ∷ ps) =

@@ -29,7 +29,7 @@ abbrev pub cliqueRows : Pattern → ℕ → ℕ → ℕ → List Row
 cliqueRows p base first c = map (rowOf p base first c) (block p c)
 
 -- the row of the pair (i, j) in clique c's block, counted from the pattern's first row
-abbrev pub blockRow : Pattern → ℕ → ℕ → ℕ → ℕ
+abbrev blockRow : Pattern → ℕ → ℕ → ℕ → ℕ
 blockRow p c i j = parentRow p 0 c (pair i j)
 
 -- ---- one row
@@ -118,7 +118,7 @@ module _ (p : Pattern) (ok : RightPattern p) where
         ∙ sym (rows-from 0 (cliqueCount p) (omega arith))
 
     -- row t of clique c's block is the row of the block's pair t
-    pub row-at : (c t : ℕ) (x : Row) (d : Pair) → c < cliqueCount p → t < triangle (blockSize (cliqueAt p c))
+    row-at : (c t : ℕ) (x : Row) (d : Pair) → c < cliqueCount p → t < triangle (blockSize (cliqueAt p c))
         → getD (patternRows p base first) (firstRow p 0 c + t) x ≡ rowOf p base first c (getD (block p c) t d)
     row-at c t x d l m =
         let n : ℕ = cliqueCount p - suc c in

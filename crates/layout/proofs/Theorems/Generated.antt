@@ -52,7 +52,7 @@ nothing-joined : (n : ℕ) → join (λ (c : List Entry). c) (replicate n []) �
 nothing-joined zero = refl
 nothing-joined (suc n) = nothing-joined n
 
-abbrev pub noEntries : ℕ → Csc
+abbrev noEntries : ℕ → Csc
 noEntries n = record { starts = replicate (suc n) 0; rows = []; values = [] }
 
 no-entries : (n : ℕ) → csc (replicate n []) ≡ noEntries n
@@ -117,7 +117,7 @@ module _ (os : List ℕ) (v w n s : ℕ) where
   alone-A =
       subst (λ (k : ℕ). T (all (λ c. rises (columnRows (csc cs) c)) (below k))) (columns-count s rs n) (csc-each cs rises rising)
 
-  pub entries-few : v ≤ 64 → n ≤ 64 → length (csc (drawnColumns s (bandRows os v w) n) .values) ≤ 133120
+  entries-few : v ≤ 64 → n ≤ 64 → length (csc (drawnColumns s (bandRows os v w) n) .values) ≤ 133120
   entries-few lv ln =
       omega (
         arith,

@@ -42,7 +42,7 @@ use Rattle.layout.proofs.Pools.PoolChecks.{raised-rows, rows-inside, st
 -- ---- rows that follow others
 
 -- an augmented row with r original and a augmented rows before it
-abbrev pub raisedRow : ℕ → ℕ → Row → Row
+abbrev raisedRow : ℕ → ℕ → Row → Row
 raisedRow r a (kept o) = kept (r + o)
 raisedRow r a (owned o) = owned (r + o)
 raisedRow r a (overlap o q) = overlap (r + o) (a + q)

@@ -64,7 +64,7 @@ side-part m k sides =
     ap (λ (t : ℕ). take t (drop (k * m) sides)) e
 
 -- a side has m values
-pub side-length : (m count : ℕ) (sides : List Float) → length sides ≡ count * m → (k : ℕ) → k < count → length (side m k sides) ≡ m
+side-length : (m count : ℕ) (sides : List Float) → length sides ≡ count * m → (k : ℕ) → k < count → length (side m k sides) ≡ m
 side-length m count sides e k l =
     length-take-le m (drop (k * m) sides) (omega (arith, length-drop (k * m) sides, mul-le-mul-right m l))
 
