@@ -8,7 +8,7 @@ use lib.Ieee.{Float, nan, eq}
 use Rattle.layout.specs.General.Floats.{zero64}
 
 -- b's value in original row o, a zero of either sign becoming +0.0
-abbrev pub valueOn : List Float → ℕ → Float
+abbrev valueOn : List Float → ℕ → Float
 valueOn b o = let v = getD b o nan in cond (eq v zero64) zero64 v
 
 -- the value at a row with code c: b's value at its original row, or +0.0 at an overlap

@@ -13,7 +13,7 @@ abbrev pub CaseRoom : ℕ → Type 0
 CaseRoom n = (32 ≤ n) × (n ≤ 65536)
 
 -- whether the starts give list k bounds within a buffer of n elements
-abbrev pub listed : List ℕ → ℕ → ℕ → Bool
+abbrev listed : List ℕ → ℕ → ℕ → Bool
 listed starts k n = leb (getD starts k 0) (getD starts (k + 1) 0) && leb (getD starts (k + 1) 0) n
 
 abbrev pub listFrom : List ℕ → ℕ → ℕ → ℕ

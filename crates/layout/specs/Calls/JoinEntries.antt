@@ -20,7 +20,7 @@ abbrev pub sameMap : List MapEntry → List MapEntry → Bool
 sameMap es fs = sameBy sameEntry es fs
 
 -- `joinRefusal` on the compact route, where `same` says whether the map is the problem's
-abbrev pub refusalAs : Bool → ℕ → ℕ → List ℕ → ℕ → List ℕ → Solution → List ℕ → ℕ
+abbrev refusalAs : Bool → ℕ → ℕ → List ℕ → ℕ → List ℕ → Solution → List ℕ → ℕ
 refusalAs same n m cones count words sol room =
     orElse (joinChecks compact n m cones count words)
     (orElse (cond (roomy (n ∷ m ∷ m ∷ 2 ∷ []) room) 0 11)

@@ -69,7 +69,7 @@ raisedMapEntry k t a (wholeCone i first rows) = wholeCone (k + i) (a + first) ro
 raisedMapEntry k t a (blockOf i j c first rows) = blockOf (k + i) (t + j) c (a + first) rows
 
 -- the same on a cone map's words, five for each entry: the no-pattern mark stays
-abbrev pub raisedNumber : ℕ → ℕ → ℕ
+abbrev raisedNumber : ℕ → ℕ → ℕ
 raisedNumber t j = cond (eqb j noPatternNumber) noPatternNumber (t + j)
 
 abbrev pub raisedMapWords : ℕ → ℕ → ℕ → List ℕ → List ℕ

@@ -69,10 +69,10 @@ tableRooms t =
     ∷ length (t .A .starts) ∷ length (t .A .rows) ∷ length (t .A .values) ∷ length (t .b)
     ∷ length (t .cones) ∷ length (t .alphas) ∷ length (t .patternWords) ∷ []
 
-abbrev pub objectiveIn : Tables → Objective
+abbrev objectiveIn : Tables → Objective
 objectiveIn t = record { P = t .P; q = t .q; alphas = t .alphas }
 
-abbrev pub constrainedIn : Tables → Constrained
+abbrev constrainedIn : Tables → Constrained
 constrainedIn t = record { A = t .A; b = t .b; cones = t .cones }
 
 -- each table of `new` at the start of its output where the refusal number is 0; otherwise each output is unchanged

@@ -246,7 +246,7 @@ abbrev pub programRefusal : List ℕ → ℕ
 programRefusal bs = firstFailing (programChecks bs)
 
 -- a number of one or two digits in decimal
-abbrev pub decimal : ℕ → List ℕ
+abbrev decimal : ℕ → List ℕ
 decimal k = cond (ltb k 10) ((48 + k) ∷ []) ((48 + k / 10) ∷ (48 + k % 10) ∷ [])
 
 -- "refused ", the number, a line feed

@@ -13,7 +13,7 @@ use Rattle.layout.specs.Calls.CutMany.{side, withSide, sidesB}
 use Rattle.layout.specs.Written.BetweenWritten.{SameButB}
 
 -- part k of the b that is written
-abbrev pub runWritten : ℕ → Problem → ℕ → Augmented → List Float
+abbrev runWritten : ℕ → Problem → ℕ → Augmented → List Float
 runWritten count p k a = side (length (compactB (withSide p (p .b) k))) k (take (length (sidesB p count (p .b))) (a .b))
 
 -- Right side k is accepted by the compact route, and what a cut with side k alone writes is also in `after`, its b as part k.
