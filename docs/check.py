@@ -3,7 +3,8 @@
 
     docs/check.py           lists what is wrong in the documents; exit status 1 where anything is
     docs/check.py --write   writes docs/LAWS.md, the links of docs/PROOFS.md, and the line numbers and lengths beside all links; then checks
-    docs/check.py --laws    lists laws that are stated twice, up to bound names, and public laws that nothing cites
+    docs/check.py --laws    lists laws that are stated twice, up to bound names, public laws that nothing cites, and public names of proofs/
+                            that only their own file uses
 
 It needs Python alone. What it checks:
 - A name in backticks that follows a crate, a module or a file (csc `nnz`, Blocks `rowOf`, `Tree.cliqueTree`) is defined there; any
@@ -347,6 +348,16 @@ def check(places):
     return wrong
 
 
+def named_items(places):
+    """Returns the ids of the items that the documents name."""
+    found = set()
+    for page in filter(lambda page: (ROOT / page).exists(), NAMED):
+        reader = Reader(places, page, lambda *_: None)
+        for number, line in outside_code(bare((ROOT / page).read_text())):
+            found.update(id(item) for _, _, item in reader.names(line, number) if item is not None)
+    return found
+
+
 def made(places):
     """Returns what --write writes, by page."""
     pages = {LAWS: laws.index(places.files)}
@@ -366,6 +377,9 @@ def main(arguments):
         print("Public, and cited nowhere:")
         for law in laws.uncited(files, "".join((ROOT / page).read_text() for page in NAMED if (ROOT / page).exists())):
             print(f"  {law.file.shown}:{law.line} {law.name}")
+        print("Public in proofs/, and used by their own file alone:")
+        for item in laws.only_at_home(files, named_items(Places(files))):
+            print(f"  {item.file.shown}:{item.line} {item.name}")
         return 0
     if arguments not in ([], ["--write"]):
         print(__doc__)

@@ -1,4 +1,4 @@
-"""The public laws: their index, those that are stated twice, and those that nothing cites."""
+"""The laws: the index of the public ones, those that are stated twice, public ones that nothing cites, names that could be private."""
 import collections
 import re
 
@@ -149,4 +149,82 @@ def uncited(files, documents):
         cited = any(path == home for path in by_name[law.name]) or law.name in words(others)
         if not cited and law.name not in named:
             found.append(law)
+    return found
+
+
+# ---- public names that only their own file uses
+
+MARKS = re.compile(r"(?:abbrev |unfoldable |pub )*")
+OPENED = re.compile(r"(?:unfoldable |pub |ghost )*use ([^\s{};]+?)(?:\.\{([^}]*)\}| as \S+?)?;?$")
+PATH = re.compile(r"Rattle·[^\s(){},;]+")
+
+
+def plain_path(path):
+    """Returns a path with its crate first, as docs/crates.py has it."""
+    return re.sub(r"^Rattle·(\w+)(·\w+)?\.", r"\1.", path)
+
+
+def home_of(file):
+    return f"{file.crate}.{file.part}.{file.module}"
+
+
+def used_outside(files):
+    """Returns for each module the names of it that other files bring in, or write with the module's path."""
+    used, homes = collections.defaultdict(set), {home_of(file) for file in files}
+    for file in files:
+        for line in file.lines:
+            found = OPENED.match(line)
+            if found and found.group(2) is not None:
+                used[plain_path(found.group(1))].update(name.split(" as ")[0].strip() for name in found.group(2).split(","))
+            elif found and plain_path(found.group(1)) in homes:
+                used[plain_path(found.group(1))] |= words(file.lines)
+            elif not found:
+                for path in PATH.findall(line):
+                    home, _, name = plain_path(path).rpartition(".")
+                    used[home].add(name)
+    return used
+
+
+def is_open(item):
+    """Whether it is an abbreviation that unfolds everywhere, so that a public statement may name it though it is private."""
+    return "abbrev" in MARKS.match(item.first).group(0) and not any(
+        line.strip().startswith("unfolding ") for line in item.file.lines[item.line:item.end])
+
+
+def seen_in(item):
+    """Returns the names, bound ones left out, that others see in a public item: in its statement, its fields' and the body of what unfolds."""
+    parts = [item.telescope, item.statement.split(" unfolding ")[0]]
+    parts += [member.statement for member in item.file.items if member.owner == item.name]
+    if item.kind == "ruleset" or re.search("abbrev|unfoldable", MARKS.match(item.first).group(0)):
+        parts += item.file.lines[item.line - 1:item.end]
+    bound = set()
+    for part in parts:
+        bound.update(split_binders(TOKEN.findall(part))[1])
+        left = re.match(re.escape(item.name) + r" ([^=]*?) ?=(?: |$)", part.strip())
+        bound.update(re.findall(r"[^\s(){},;]+", left.group(1)) if left and item.kind != "ruleset" else [])
+    return words(parts) - bound
+
+
+def only_at_home(files, told):
+    """Returns the public names of proofs/ that no other file uses. Not among them: what the documents name (`told`, by id), that a function
+    meets its contract, and what the language wants public, since a public statement, a body that unfolds or a public set of rules names it.
+    Fields go with their record: a proof search reads them without naming them."""
+    used, found = used_outside(files), []
+    for file in files:
+        if file.part != "proofs":
+            continue
+        own = {item.name: item for item in file.items if not item.owner}
+        own.update((item.name, own[item.owner]) for item in file.items if item.kind == "case")
+        public = [item for item in file.items if item.public and not item.owner]
+        seen = [item for item in public if item.name in used[home_of(file)] or id(item) in told
+                or file.is_function and re.search(r"\bstatement\b", item.statement)]
+        kept, done = {item.name for item in seen}, set()
+        while seen:
+            item = seen.pop()
+            if item.name not in done:
+                done.add(item.name)
+                others = [own[name] for name in seen_in(item) if name in own]
+                kept.update(other.name for other in others if not is_open(other))
+                seen += others
+        found += [item for item in public if item.name not in kept]
     return found
