@@ -196,7 +196,7 @@ module _ (p : Problem) (count : ℕ) (sides : List Float) where
   even k = length-map (compactRows (layout p)) (rowValue (side (p .m) k sides))
 
   -- the written b is `count` times as long as for one side
-  pub length-sidesB : length (sidesB p count sides) ≡ count * length (compactRows (layout p))
+  length-sidesB : length (sidesB p count sides) ≡ count * length (compactRows (layout p))
   length-sidesB = length-runs (λ k. compactB (withSide p sides k)) rows even 0 count
 
   -- the k-th run of the written b is the k-th side's augmented b
