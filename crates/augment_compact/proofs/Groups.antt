@@ -1,26 +1,24 @@
 -- Columns with the rows of a marked column: where they start, what is written for them, and a list repeated within a buffer.
 use Prim.Native.Nat.{ℕ, suc, _+_, _-_, _≤_, _<_}
 use native.Mathlib.Omega.{arith}
-use mathlib.Core.Path.{_≡_, ap, sym, subst, _∙_}
+use mathlib.Core.Path.{_≡_, ap, ap₂, sym, subst, _∙_}
 use mathlib.Core.List.{List, _++_, map, append-assoc}
 use lib.ListN.{length, getD, take, drop, length-append, length-drop, take-append-drop, List·getD-append}
 use lib.Seq.{length-take-le, take-all, take-append-le, drop-append-le, take-at, drop-at, getD-take, paste}
-use lib.Dec.{T}
 use lib.Ieee.{Float}
-use Rattle.layout.specs.General.Lists.{distinct, rises, part, written}
+use Rattle.layout.specs.General.Lists.{part, written}
 use Rattle.layout.specs.Problems.Problem.{Csc}
 use Rattle.layout.specs.Checks.{columnRows}
-use Rattle.layout.specs.Cuts.Compact.{Entry, column, summed, rowsOf}
+use Rattle.layout.specs.Cuts.Compact.{Entry, column, summed}
 use Rattle.layout.specs.Cuts.Runs.{runs, sums, runCount}
-use Rattle.layout.proofs.Lists.Rising.{rises-distinct}
 use Rattle.layout.proofs.Columns.Columns.{RightStarts}
-use Rattle.layout.proofs.Columns.Repeats.{summed-count, summed-alone}
 use Rattle.csc.proofs.Runs.{count-more, count-le}
-use Rattle.cut_gather.specs.Gathered.{MarksInside, markedValue}
+use Rattle.cut_gather.specs.Gathered.{MarksInside, summedValue}
 use Rattle.cut_columns.specs.Column.{entries, codedColumn}
 use Rattle.cut_columns.specs.Marks.{Placing, markAll, markedBelow}
-use Rattle.cut_columns.proofs.Marks.{marks-all, marks-inside, column-rows, column-values}
-use Rattle.cut_columns.proofs.Runs.{entries-length, rows-entries}
+use Rattle.cut_columns.proofs.Marks.{marks-all, marks-inside}
+use Rattle.cut_columns.proofs.Parts.{length-part}
+use Rattle.cut_columns.proofs.Repeated.{summed-column-rows, summed-column-values}
 use Rattle.augment_compact.proofs.Columns.{column-placing, column-sums}
 use Rattle.augment_compact.specs.Places.{ColumnsInOrder, RunsStart}
 use Rattle.augment_compact.specs.Groups.{Marking}
@@ -62,22 +60,11 @@ module _ {A : Type 0} where
       ∙ part-take a b t old (ys ++ rest) h l k ∙ sym (part-take a b t old (drop t old) h l k)
       ∙ ap (λ (zs : List A). part a b zs) (take-append-drop t old)
 
--- a column without repeats has as many runs as entries
-runs-alone : (rows : List ℕ) (values : List Float) → T (rises rows) → length (runs rows) ≡ length rows
-runs-alone rows values rising =
-    let es = entries rows values in
-    let same : rowsOf es ≡ rows = rows-entries rows values in
-    ap (λ (rs : List ℕ). length (runs rs)) (sym same) ∙ sym (summed-count es)
-    ∙ ap length (summed-alone es (subst (λ (rs : List ℕ). T (rises rs)) (sym same) rising)) ∙ entries-length rows values
-
 -- ---- a marked column c, and a column d with its rows
 
 module _ (n : ℕ) (M : Csc) (before place : List ℕ) (right : RightStarts n M) (order : ColumnsInOrder n M) (c : ℕ) (lc : c < n) (codes : List ℕ) (m : Marking M place c before codes) where
   placing : Placing before place (columnRows M c)
   placing = column-placing n M before place right order (m .placing) c lc
-
-  once : T (distinct (columnRows M c))
-  once = rises-distinct (columnRows M c) (m .alone)
 
   -- the marked rows, from the codes with the marks
   swept : markedBelow (markAll place 0 (columnRows M c) before) (length before) ≡ markedBelow codes (length codes)
@@ -92,36 +79,40 @@ module _ (n : ℕ) (M : Csc) (before place : List ℕ) (right : RightStarts n M)
 
   -- the end of column c, and the start and end of column d, in the outputs
   pub group-starts : (starts : List ℕ) → RunsStart n M starts → (d : ℕ) → c < d → d < n → columnRows M d ≡ columnRows M c
-      → (getD starts c 0 + length (columnRows M c) ≡ getD starts (c + 1) 0) × (getD starts (c + 1) 0 ≤ getD starts d 0)
-      × (getD starts d 0 + length (columnRows M c) ≤ runCount n M)
+      → (getD starts c 0 + length (runs (columnRows M d)) ≡ getD starts (c + 1) 0) × (getD starts (c + 1) 0 ≤ getD starts d 0)
+      × (getD starts d 0 + length (runs (columnRows M d)) ≤ runCount n M)
   group-starts starts r d l k same =
-      let alone : length (runs (columnRows M c)) ≡ length (columnRows M c) = runs-alone (columnRows M c) (M .values) (m .alone) in
       let alike : length (runs (columnRows M d)) ≡ length (runs (columnRows M c)) = ap (λ (rs : List ℕ). length (runs rs)) same in
       let first : getD starts c 0 ≡ runCount c M = r .1 c (omega arith) in
       let next : getD starts (c + 1) 0 ≡ runCount (c + 1) M = r .1 (c + 1) (omega arith) in
       let here : getD starts d 0 ≡ runCount d M = r .1 d (omega arith) in (
-        omega (arith, alone, first, next, count-more M c),
+        omega (arith, alike, first, next, count-more M c),
         omega (arith, next, here, count-le M (c + 1) d (omega arith)),
-        omega (arith, alone, alike, here, count-more M d, count-le M (d + 1) n (omega arith)),
+        omega (arith, here, count-more M d, count-le M (d + 1) n (omega arith)),
       )
 
   module _ (d : ℕ) (ld : d < n) (same : columnRows M d ≡ columnRows M c) where
     abbrev values : List Float
     values = part (getD (M .starts) d 0) (getD (M .starts) (suc d) 0) (M .values)
 
-    column-again : codedColumn before (column (sums n M) d) ≡ codedColumn before (entries (columnRows M c) values)
+    even : length values ≡ length (columnRows M c)
+    even =
+        let a = getD (M .starts) d 0 in
+        let b = getD (M .starts) (suc d) 0 in
+        let inside = right .inside (suc d) ld in
+        length-part a b (M .values) (right .rise d ld) (omega (arith, inside, right .even)) ∙ sym (length-part a b (M .rows) (right .rise d ld) inside) ∙ ap length same
+
+    column-again : codedColumn before (column (sums n M) d) ≡ codedColumn before (summed (entries (columnRows M c) values))
     column-again =
         ap (codedColumn before)
-        (column-sums n M before place right order (m .placing) d ld
-        ∙ ap (λ (rs : List ℕ). summed (entries rs values)) same
-        ∙ summed-alone (entries (columnRows M c) values) (subst (λ (rs : List ℕ). T (rises rs)) (sym (rows-entries (columnRows M c) values)) (m .alone)))
+        (column-sums n M before place right order (m .placing) d ld ∙ ap (λ (rs : List ℕ). summed (entries rs values)) same)
 
     pub group-rows : map (λ (e : Entry). e .row) (codedColumn before (column (sums n M) d)) ≡ markedBelow codes (length codes)
-    group-rows = ap (map (λ (e : Entry). e .row)) column-again ∙ column-rows before place (columnRows M c) placing once values ∙ swept
+    group-rows = ap (map (λ (e : Entry). e .row)) column-again ∙ summed-column-rows before place (columnRows M c) placing (order c lc) values even ∙ swept
 
     pub group-values : map (λ (e : Entry). e .value) (codedColumn before (column (sums n M) d))
-        ≡ map (markedValue codes (part (getD (M .starts) d 0) (getD (M .starts) (suc d) 0) (M .values))) (markedBelow codes (length codes))
+        ≡ map (summedValue codes (columnRows M d) (part (getD (M .starts) d 0) (getD (M .starts) (suc d) 0) (M .values))) (markedBelow codes (length codes))
     group-values =
-        ap (map (λ (e : Entry). e .value)) column-again ∙ column-values before place (columnRows M c) placing once values
-        ∙ ap (map (markedValue (markAll place 0 (columnRows M c) before) values)) swept
-        ∙ ap (λ (ms : List ℕ). map (markedValue ms values) (markedBelow codes (length codes))) (sym (m .marks))
+        ap (map (λ (e : Entry). e .value)) column-again ∙ summed-column-values before place (columnRows M c) placing (order c lc) values even
+        ∙ ap (map (summedValue (markAll place 0 (columnRows M c) before) (columnRows M c) values)) swept
+        ∙ ap₂ (λ (ms rs : List ℕ). map (summedValue ms rs values) (markedBelow codes (length codes))) (sym (m .marks)) (sym same)

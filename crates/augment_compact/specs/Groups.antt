@@ -2,9 +2,8 @@
 use Prim.Native.Nat.{ℕ}
 use mathlib.Core.Path.{_≡_}
 use mathlib.Core.List.{List}
-use lib.Dec.{T}
 use lib.Ieee.{Float}
-use Rattle.layout.specs.General.Lists.{rises, written}
+use Rattle.layout.specs.General.Lists.{written}
 use Rattle.layout.specs.Problems.Problem.{Csc}
 use Rattle.layout.specs.Checks.{columnRows}
 use Rattle.layout.specs.Cuts.Compact.{csc}
@@ -16,10 +15,9 @@ use Rattle.augment_compact.specs.Cut.{codedColumns}
 abbrev pub unmarked : Csc → List ℕ → ℕ → List ℕ → List ℕ
 unmarked M place c codes = putBack place (columnRows M c) codes
 
--- What is assumed of marked codes: the marks are those of the entries of column c, which has no repeats, and `before` are the codes without them.
+-- What is assumed of marked codes: the marks are those of the entries of column c, and `before` are the codes without them.
 pub record Marking (M : Csc) (place : List ℕ) (c : ℕ) (before codes : List ℕ) : Type 0 where
   pub placing : Placing before place (M .rows)
-  pub alone : T (rises (columnRows M c))
   pub marks : codes ≡ markAll place 0 (columnRows M c) before
 
 -- where the columns below c are written in `old`, those below d are written after the call

@@ -6,18 +6,18 @@ ghost use mathlib.Core.List.{map, _++_};
 ghost use Prim.Native.Nat.{suc, _+_, _-_, _*_, _≤_, _<_};
 ghost use lib.ListN.{length, getD, take};
 ghost use lib.Dec.{T};
-ghost use Rattle.layout.specs.General.Lists.{written, part, sameNumbers};
+ghost use Rattle.layout.specs.General.Lists.{written, part, sameNumbers, neverFalls};
 ghost use Rattle.layout.specs.General.Floats.{one64, minusOne64};
 ghost use Rattle.layout.specs.Checks.{startsRight};
 ghost use Rattle.layout.specs.Cuts.Compact.{csc};
-ghost use Rattle.layout.specs.Cuts.Runs.{sums, runStarts, runCount};
+ghost use Rattle.layout.specs.Cuts.Runs.{runs, sums, runStarts, runCount};
 ghost use Rattle.rows_codes.specs.Codes.{RowsInside};
 ghost use Rattle.csc.specs.Matrix.{matrix, table, ColumnsInside};
 ghost use Rattle.augment_standard.specs.Beside.{pairValues, besideStarts};
 ghost use Rattle.augment_compact.specs.Cut.{codedColumns, tiedRows, cutRows, cutValues, Behind};
 ghost use Rattle.augment_compact.specs.Places.{rowTable, ColumnsInOrder, RunsStart};
 ghost use Rattle.augment_compact.specs.Groups.{unmarked, Marking, RowsGrow, ValuesGrow};
-ghost use Rattle.cut_gather.specs.Gathered.{MarksInside, markedValue};
+ghost use Rattle.cut_gather.specs.Gathered.{MarksInside, summedValue};
 ghost use Rattle.cut_columns.specs.Marks.{Placing, Clear, markedBelow};
 use constants::scratch;
 use rows_codes::FIRST_OVERLAP;
@@ -47,29 +47,46 @@ pub fn write_starts(out: &mut [u32], n: u32, starts: &[u32], rows: &[u32], k: us
     augment_standard::write_h_starts(&mut out[starts.len()..], entries, k);
 }
 
-// Writes a column with the rows of an earlier one, whose output rows start at `from` and whose marks are in `codes`: the same rows at `start`, and each
-// row's value from `values`.
+// Copies the `count` rows at `from` to `start`.
+fn repeat_rows(rows_out: &mut [u32], from: usize, start: usize, count: usize)
+    requires { ⌜ (from + count ≤ start) × (start + count ≤ length (now «rows_out»)) ⌝ }
+    ensures { λ _. ⌜ now («rows_out» .exit) ≡ written (take start (now («rows_out» .entry)) ++ part from (from + count) (now («rows_out» .entry))) (now («rows_out» .entry)) ⌝ }
+{
+    let mut i = 0;
+    while i < count {
+        rows_out[start + i] = rows_out[from + i];
+        i += 1;
+    }
+}
+
+// Writes a column with the rows of an earlier one, whose `count` output rows start at `from` and whose marks are in `codes`: the same output rows at
+// `start`, and for each of them the value that moves there.
 fn repeat_column(
     rows_out: &mut [u32],
     values_out: &mut [f64],
     codes: &[u32],
+    rows: &[u32],
     values: &[f64],
     from: usize,
     start: usize,
+    count: usize,
 )
-    requires { ⌜ MarksInside (now codes) (length (now values)) (part from (from + length (now values)) (now «rows_out»)) ⌝ }
-    requires { ⌜ (from + length (now values) ≤ start) × (start + length (now values) ≤ length (now «rows_out»)) × (start + length (now values) ≤ length (now «values_out»)) ⌝ }
-    ensures { λ _. ⌜ now («rows_out» .exit) ≡ written (take start (now («rows_out» .entry)) ++ part from (from + length (now (values .entry))) (now («rows_out» .entry))) (now («rows_out» .entry)) ⌝ }
-    ensures { λ _. ⌜ now («values_out» .exit) ≡ written (take start (now («values_out» .entry)) ++ map (markedValue (now (codes .entry)) (now (values .entry))) (part from (from + length (now (values .entry))) (now («rows_out» .entry)))) (now («values_out» .entry)) ⌝ }
+    requires { ⌜ MarksInside (now codes) (length (now rows)) (part from (from + count) (now «rows_out»)) × (length (now values) ≡ length (now rows)) ⌝ }
+    requires { ⌜ T (neverFalls (now rows)) × (count ≡ length (runs (now rows))) ⌝ }
+    requires { ⌜ (from + count ≤ start) × (start + count ≤ length (now «rows_out»)) × (start + count ≤ length (now «values_out»)) ⌝ }
+    ensures { λ _. ⌜ now («rows_out» .exit) ≡ written (take start (now («rows_out» .entry)) ++ part from (from + count) (now («rows_out» .entry))) (now («rows_out» .entry)) ⌝ }
+    ensures { λ _. ⌜ now («values_out» .exit) ≡ written (take start (now («values_out» .entry)) ++ map (summedValue (now (codes .entry)) (now (rows .entry)) (now (values .entry))) (part from (from + count) (now («rows_out» .entry)))) (now («values_out» .entry)) ⌝ }
 {
-    let mut i = 0;
-    while i < values.len() {
-        let r = rows_out[from + i];
-        let t = codes[r as usize] - 1048576;
-        rows_out[start + i] = r;
-        values_out[start + i] = values[t as usize];
-        i += 1;
-    }
+    let end = from + count;
+    let stop = start + count;
+    repeat_rows(&mut *rows_out, from, start, count);
+    cut_columns::gather_column(
+        &mut values_out[start..stop],
+        codes,
+        &rows_out[from..end],
+        rows,
+        values,
+    );
 }
 
 // Returns whether columns `c` and `d` have the same rows.
@@ -107,10 +124,11 @@ fn write_followers(
     ensures { λ d. let M = matrix (now (starts .entry)) (now (rows .entry)) (now (values .entry)) in ⌜ RowsGrow n M (unmarked M (now (place .entry)) c (now (codes .entry))) (c + 1) d (now («rows_out» .entry)) (now («rows_out» .exit)) ⌝ }
     ensures { λ d. let M = matrix (now (starts .entry)) (now (rows .entry)) (now (values .entry)) in ⌜ ValuesGrow n M (unmarked M (now (place .entry)) c (now (codes .entry))) (c + 1) d (now («values_out» .entry)) (now («values_out» .exit)) ⌝ }
 {
-    let count = n as usize;
+    let columns = n as usize;
     let from = run_starts[c] as usize;
+    let count = run_starts[c + 1] as usize - from;
     let mut d = c + 1;
-    while d < count {
+    while d < columns {
         if !same_rows(starts, rows, c, d) {
             break;
         }
@@ -121,9 +139,11 @@ fn write_followers(
             &mut *rows_out,
             &mut *values_out,
             codes,
+            &rows[first..end],
             &values[first..end],
             from,
             start,
+            count,
         );
         d += 1;
     }

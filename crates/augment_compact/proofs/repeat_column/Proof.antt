@@ -1,180 +1,118 @@
-use Prim.Native.Nat.{ℕ, _+_, _-_, _≤_, _<_}
-use native.Mathlib.Numerals.{add-one}
+use Prim.Native.Nat.{ℕ, _+_}
+use native.Mathlib.Nat.{le-of-eq}
 use native.Mathlib.Omega.{arith}
-use mathlib.Core.Path.{_≡_, refl, ap, sym, _∙_}
+use mathlib.Core.Path.{_≡_, ap, sym, _∙_}
 use mathlib.Core.List.{List, map}
-use lib.ListN.{length, getD, set, length-set, length-map}
-use lib.Seq.{paste, paste-zero, paste-suc}
-use lib.Ieee.{Float, nan}
+use lib.ListN.{length, length-map}
+use lib.Ieee.{Float}
 use Rattle.layout.specs.General.Lists.{part}
-use Rattle.layout.proofs.Lists.Members.{getD-map}
-use Rattle.cut_gather.specs.Gathered.{markedValue}
-use Rattle.cut_columns.proofs.Parts.{length-part}
-use Rattle.layout.proofs.Lists.Starts.{part-getD}
-use Rattle.augment_compact.proofs.Groups.{paste-before, paste-done}
+use Rattle.layout.proofs.Lists.Buffers.{written-whole}
+use Rattle.cut_gather.specs.Gathered.{summedValue}
+use Rattle.cut_columns.proofs.Parts.{length-part, part-kept, part-over}
+use Rattle.augment_compact.proofs.Groups.{part-front}
 use Rattle.augment_compact.proofs.repeat_column.Statement.{statement}
 use Rattle.augment_compact.proofs.repeat_column.Tie as tie
 
-abbrev Inv-loop : tie.InvT-loop
-Inv-loop rows-out₀ values-out₀ codes values from start i₀ rows-out values-out i =
-    (i ≤ length values) × (length rows-out ≡ length rows-out₀) × (length values-out ≡ length values-out₀)
-    × (rows-out ≡ paste rows-out₀ start (part from (from + length values) rows-out₀) i)
-    × (values-out ≡ paste values-out₀ start (map (markedValue codes values) (part from (from + length values) rows-out₀)) i)
-
-abbrev μ-loop : tie.MeasureT-loop
-μ-loop rows-out₀ values-out₀ codes values from start i₀ rows-out values-out i = length values - i
-
 -- the rows that are repeated, and how many they are
-abbrev again : tie.Start Inv-loop μ-loop → List ℕ
-again s = part (s .args .from) (s .args .from + length (s .args .values .now)) (s .args .rows-out .now)
+abbrev again : tie.Start → List ℕ
+again s = part (s .args .from) (s .args .from + s .args .count) (s .args .rows-out .now)
 
-count : (s : tie.Start Inv-loop μ-loop) → length (again s) ≡ length (s .args .values .now)
-count s = length-part (s .args .from) (s .args .from + length (s .args .values .now)) (s .args .rows-out .now) (omega arith) (omega (arith, s .pre .1)) ∙ omega arith
+size : (s : tie.Start) → length (again s) ≡ s .args .count
+size s = length-part (s .args .from) (s .args .from + s .args .count) (s .args .rows-out .now) (omega arith) (omega (arith, s .pre .1 .1)) ∙ omega arith
 
--- the row read in this iteration
-row-here : (l : tie.At-loop Inv-loop μ-loop) → let s = l .before in l .loop .i < length (s .args .values .now)
-    → getD (l .loop .rows-out) (s .args .from + l .loop .i) 0 ≡ getD (again s) (l .loop .i) 0
-row-here l h =
-    let s = l .before in
+-- the values' part has one index for each of them
+size-out : (s : tie.Start) → length (part (s .args .start) (s .args .start + s .args .count) (s .args .values-out .now)) ≡ s .args .count
+size-out s = length-part (s .args .start) (s .args .start + s .args .count) (s .args .values-out .now) (omega arith) (s .pre .1 .1 .2) ∙ omega arith
+
+-- they are unchanged where they were
+still : (r : tie.After-repeat-rows) → let s = r .before .before .before .before .before .before .before in part (s .args .from) (s .args .from + s .args .count) (r .repeat-rows .last .0) ≡ again s
+still r =
+    let s = r .before .before .before .before .before .before .before in
     let a = s .args in
-    let i = l .loop .i in
-    ap (λ (xs : List ℕ). getD xs (a .from + i) 0) (l .loop .inv .3)
-    ∙ paste-before (a .rows-out .now) (a .start) (again s) i (a .from + i) 0 (omega (arith, s .pre .1)) (omega (arith, s .pre .1))
-    ∙ sym (part-getD 0 (a .from) (a .from + length (a .values .now)) i (a .rows-out .now) (omega arith))
+    ap (part (a .from) (a .from + a .count)) (r .repeat-rows .ensures)
+    ∙ part-front (a .from) (a .from + a .count) (a .start) (again s) (a .rows-out .now) (omega arith) (s .pre .1 .1 .0) (omega (arith, s .pre .1 .1))
 
--- its code is a mark of one of the values
-mark-here : (l : tie.At-loop Inv-loop μ-loop) → let s = l .before in l .loop .i < length (s .args .values .now)
-    → let r = getD (l .loop .rows-out) (s .args .from + l .loop .i) 0 in
-    (r < length (s .args .codes .now)) × (1048576 ≤ getD (s .args .codes .now) r 0) × (getD (s .args .codes .now) r 0 < 1048576 + length (s .args .values .now))
-mark-here l h = let s = l .before in rw (row-here l h) (s .pre .0 (l .loop .i) (omega (arith, count s)))
+add-end : tie.Need-add-end
+add-end c = let s = c .before .before .before .before .before in omega (arith, s .pre .1 .1)
 
-loop-holds : tie.Need-loop-holds Inv-loop μ-loop
-loop-holds c =
-    let s = c in
-    let a = s .args in (
-      omega arith,
-      refl,
-      refl,
-      paste-zero (a .rows-out .now) (a .start) (again s),
-      paste-zero (a .values-out .now) (a .start) (map (markedValue (a .codes .now) (a .values .now)) (again s)),
+add-stop : tie.Need-add-stop
+add-stop c = let s = c .before .before .before .before .before in omega (arith, s .pre .1 .1)
+
+repeat-rows-requires : tie.Need-repeat-rows-requires
+repeat-rows-requires c κs = let s = c .before .before .before .before .before .before in (s .pre .1 .1 .0, s .pre .1 .1 .1)
+
+mul-gather-column : tie.Need-mul-gather-column
+mul-gather-column c = let s = c .before .before .before .before .before .before .before .before .before in omega (arith, s .pre .1 .1)
+
+sub-gather-column : tie.Need-sub-gather-column
+sub-gather-column c = omega arith
+
+part-gather-column-start : tie.Need-part-gather-column-start
+part-gather-column-start c = omega arith
+
+part-gather-column-end : tie.Need-part-gather-column-end
+part-gather-column-end c = c .before .before .before .before .before .before .before .before .before .pre .1 .1 .2
+
+mul-gather-column-2 : tie.Need-mul-gather-column-2
+mul-gather-column-2 c = let s = c .before .before .before .before .before .before .before .before .before .before in omega (arith, s .pre .1 .1)
+
+sub-gather-column-2 : tie.Need-sub-gather-column-2
+sub-gather-column-2 c = omega arith
+
+part-gather-column-start-2 : tie.Need-part-gather-column-start-2
+part-gather-column-start-2 c = omega arith
+
+part-gather-column-end-2 : tie.Need-part-gather-column-end-2
+part-gather-column-end-2 c = let s = c .before .before .before .before .before .before .before .before .before .before .before in omega (arith, s .pre .1 .1, c .before .before .before .before .repeat-rows .kept .0)
+
+gather-column-requires : tie.Need-gather-column-requires
+gather-column-requires c κs =
+    let r = c .before .before .before .before .before in
+    let s = r .before .before .before .before .before .before .before in
+    rw (still r) (
+      (s .pre .0 .0, le-of-eq (size s ∙ sym (size-out s)), s .pre .0 .1),
+      (s .pre .1 .0 .0, size s ∙ s .pre .1 .0 .1),
     )
 
-add-r : tie.Need-add-r Inv-loop μ-loop
-add-r c = omega arith
+same-length : tie.Need-same-length
+same-length c = c .before .before .before .before .before .before .before .before .repeat-rows .kept .0
 
-mul-r : tie.Need-mul-r Inv-loop μ-loop
-mul-r c = omega arith
+same-length-2 : tie.Need-same-length-2
+same-length-2 c =
+    let a = c .before .before .before .before .before .before .before .before .before .before .before .before .before .before .before .args in
+    part-kept (a .start) (a .start + a .count) (c .before .before .gather-column .last .0) (a .values-out .now) (c .before .before .gather-column .kept .0)
 
-slice-read-r : tie.Need-slice-read-r Inv-loop μ-loop
-slice-read-r c = omega arith
-
-cast-t : tie.Need-cast-t Inv-loop μ-loop
-cast-t c = omega (arith, mark-here (c .before .before) (omega arith))
-
-mul-t : tie.Need-mul-t Inv-loop μ-loop
-mul-t c = omega (arith, mark-here (c .before .before) (omega arith))
-
-shared-slice-read-t : tie.Need-shared-slice-read-t Inv-loop μ-loop
-shared-slice-read-t c = omega (arith, mark-here (c .before .before .before) (omega arith))
-
-sub-t : tie.Need-sub-t Inv-loop μ-loop
-sub-t c = omega (arith, mark-here (c .before .before .before) (omega arith))
-
-add-rows-out : tie.Need-add-rows-out Inv-loop μ-loop
-add-rows-out c = omega arith
-
-mul-rows-out : tie.Need-mul-rows-out Inv-loop μ-loop
-mul-rows-out c = omega arith
-
-slice-write-rows-out : tie.Need-slice-write-rows-out Inv-loop μ-loop
-slice-write-rows-out c = omega arith
-
-cast-values-out : tie.Need-cast-values-out Inv-loop μ-loop
-cast-values-out c = omega (arith, mark-here (c .before .before .before) (omega arith))
-
-mul-values-out : tie.Need-mul-values-out Inv-loop μ-loop
-mul-values-out c = omega (arith, mark-here (c .before .before .before) (omega arith))
-
-shared-slice-read-values-out : tie.Need-shared-slice-read-values-out Inv-loop μ-loop
-shared-slice-read-values-out c = omega (arith, mark-here (c .before .before .before .before) (omega arith))
-
-add-values-out : tie.Need-add-values-out Inv-loop μ-loop
-add-values-out c = omega arith
-
-mul-values-out-2 : tie.Need-mul-values-out-2 Inv-loop μ-loop
-mul-values-out-2 c = omega arith
-
-slice-write-values-out : tie.Need-slice-write-values-out Inv-loop μ-loop
-slice-write-values-out c = omega arith
-
-add-i : tie.Need-add-i Inv-loop μ-loop
-add-i c = omega arith
-
-loop-less : tie.Need-loop-less Inv-loop μ-loop
-loop-less c = omega arith
-
-loop-again : tie.Need-loop-again Inv-loop μ-loop
-loop-again c =
-    let l = c .before .before .before .before in
-    let s = l .before in
-    let a = s .args in
-    let i = l .loop .i in
-    let li : i < length (a .values .now) = omega arith in
-    let ys = again s in
-    let f : ℕ → Float = markedValue (a .codes .now) (a .values .now) in
-    let e = row-here l li in (
-      omega arith,
-      simp length-set (l .loop .inv .1),
-      simp length-set (l .loop .inv .2),
-      rw (e, l .loop .inv .3, add-one i) (paste-suc (a .rows-out .now) (a .start) ys i 0 (omega (arith, s .pre .1)) (omega (arith, count s))),
-      rw (e, l .loop .inv .4, add-one i) (ap (λ (x : Float). set (paste (a .values-out .now) (a .start) (map f ys) i) (a .start + i) x) (sym (getD-map f ys i 0 nan (omega (arith, count s)))) ∙ paste-suc (a .values-out .now) (a .start) (map f ys) i nan (omega (arith, s .pre .1)) (omega (arith, count s, length-map ys f))),
-    )
-
-same-length : tie.Need-same-length Inv-loop μ-loop
-same-length c = c .before .loop .inv .1
-
-same-length-2 : tie.Need-same-length-2 Inv-loop μ-loop
-same-length-2 c = c .before .loop .inv .2
-
-returns : tie.Need-returns Inv-loop μ-loop
+returns : tie.Need-returns
 returns c =
-    let l = c .before in
-    let s = l .before in
+    let g = c .before .before in
+    let r = c .before .before .before .before .before .before .before .before in
+    let s = r .before .before .before .before .before .before .before in
     let a = s .args in
-    let i = l .loop .i in
-    let all : i ≡ length (a .values .now) = omega (arith, c .loop-test .left, l .loop .inv .0) in
-    let ys = again s in
-    let f : ℕ → Float = markedValue (a .codes .now) (a .values .now) in (
-      l .loop .inv .3 ∙ paste-done (a .rows-out .now) (a .start) ys i (omega (arith, all, count s)) (omega (arith, s .pre .1)),
-      l .loop .inv .4 ∙ paste-done (a .values-out .now) (a .start) (map f ys) i (omega (arith, all, count s, length-map ys f)) (omega (arith, s .pre .1)),
+    let stop = a .start + a .count in
+    let f : ℕ → Float = summedValue (a .codes .now) (a .rows .now) (a .values .now) in
+    let count : length (map f (again s)) ≡ a .count = length-map (again s) f ∙ size s in (
+      r .repeat-rows .ensures,
+      part-over (a .start) stop (g .gather-column .last .0) (map f (again s)) (a .values-out .now)
+          (g .gather-column .ensures ∙ rw (still r) (written-whole (map f (again s)) (part (a .start) stop (a .values-out .now)) (size-out s ∙ sym count)))
+          (count ∙ omega arith) (omega arith) (s .pre .1 .1 .2),
     )
 
 pub repeat-column-spec : {M : Type 1} → statement M
 repeat-column-spec =
     tie.close
     (tie.spec
-    Inv-loop
-    μ-loop
-    loop-holds
-    add-r
-    mul-r
-    slice-read-r
-    cast-t
-    mul-t
-    shared-slice-read-t
-    sub-t
-    add-rows-out
-    mul-rows-out
-    slice-write-rows-out
-    cast-values-out
-    mul-values-out
-    shared-slice-read-values-out
-    add-values-out
-    mul-values-out-2
-    slice-write-values-out
-    add-i
-    loop-less
-    loop-again
+    add-end
+    add-stop
+    repeat-rows-requires
+    mul-gather-column
+    sub-gather-column
+    part-gather-column-start
+    part-gather-column-end
+    mul-gather-column-2
+    sub-gather-column-2
+    part-gather-column-start-2
+    part-gather-column-end-2
+    gather-column-requires
     same-length
     same-length-2
     returns)

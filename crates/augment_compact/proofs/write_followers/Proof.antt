@@ -7,16 +7,16 @@ use lib.ListN.{length, getD, take}
 use lib.Dec.{T}
 use lib.Ieee.{Float}
 use borrow.Author.Tests.{not-false}
-use Rattle.layout.specs.General.Lists.{join, part, sameNumbers, written}
+use Rattle.layout.specs.General.Lists.{join, part, sameNumbers, written, neverFalls}
 use Rattle.layout.specs.Problems.Problem.{Csc}
 use Rattle.layout.specs.Checks.{columnRows}
 use Rattle.layout.specs.Cuts.Compact.{Entry, column, csc}
-use Rattle.layout.specs.Cuts.Runs.{sums, runCount}
+use Rattle.layout.specs.Cuts.Runs.{runs, sums, runCount}
 use Rattle.layout.proofs.Columns.Columns.{RightStarts, starts-right}
 use Rattle.layout.proofs.Lists.Walks.{numbers-equal}
 use Rattle.csc.specs.Matrix.{matrix}
-use Rattle.csc.proofs.Runs.{count-le}
-use Rattle.cut_gather.specs.Gathered.{MarksInside, markedValue}
+use Rattle.csc.proofs.Runs.{count-more, count-le}
+use Rattle.cut_gather.specs.Gathered.{MarksInside, summedValue}
 use Rattle.cut_columns.specs.Column.{codedColumn}
 use Rattle.cut_columns.specs.Marks.{markedBelow}
 use Rattle.cut_columns.proofs.Parts.{length-part}
@@ -29,14 +29,14 @@ use Rattle.augment_compact.proofs.write_followers.Statement.{statement}
 use Rattle.augment_compact.proofs.write_followers.Tie as tie
 
 abbrev Inv-loop : tie.InvT-loop
-Inv-loop rows-out₀ values-out₀ codes place n starts rows values run-starts c count from d₀ rows-out values-out d =
+Inv-loop rows-out₀ values-out₀ codes place n starts rows values run-starts c columns from count d₀ rows-out values-out d =
     (c < d) × (d ≤ n) × (length rows-out ≡ length rows-out₀) × (length values-out ≡ length values-out₀)
     × (part (getD run-starts c 0) (getD run-starts (c + 1) 0) rows-out ≡ markedBelow codes (length codes))
     × RowsGrow n (matrix starts rows values) (unmarked (matrix starts rows values) place c codes) (c + 1) d rows-out₀ rows-out
     × ValuesGrow n (matrix starts rows values) (unmarked (matrix starts rows values) place c codes) (c + 1) d values-out₀ values-out
 
 abbrev μ-loop : tie.MeasureT-loop
-μ-loop rows-out₀ values-out₀ codes place n starts rows values run-starts c count from d₀ rows-out values-out d = count - d
+μ-loop rows-out₀ values-out₀ codes place n starts rows values run-starts c columns from count d₀ rows-out values-out d = columns - d
 
 abbrev M : tie.Start Inv-loop μ-loop → Csc
 M s = matrix (s .args .starts .now) (s .args .rows .now) (s .args .values .now)
@@ -71,34 +71,33 @@ start-at s field k l =
     s .pre .0 .2 .1 k l
     ∙ sym (columns-start (s .args .n) (M s) (plain s) (s .args .place .now) (right s) (s .pre .0 .1) (marking s .placing) field k l)
 
+-- how many rows each of these columns has in the outputs
+abbrev count : tie.Start Inv-loop μ-loop → ℕ
+count s = getD (s .args .run-starts .now) (s .args .c + 1) 0 - getD (s .args .run-starts .now) (s .args .c) 0
+
 -- what is known where the rows of this iteration's column are those of column c
 record Follows (s : tie.Start Inv-loop μ-loop) (d : ℕ) : Type 0 where
   inside : d < s .args .n
   same : columnRows (M s) d ≡ columnRows (M s) (s .args .c)
-  size : length (part (getD (s .args .starts .now) d 0) (getD (s .args .starts .now) (d + 1) 0) (s .args .values .now)) ≡ length (columnRows (M s) (s .args .c))
-  end : getD (s .args .run-starts .now) (s .args .c) 0 + length (columnRows (M s) (s .args .c)) ≡ getD (s .args .run-starts .now) (s .args .c + 1) 0
+  size : count s ≡ length (runs (rows-at s d (d + 1)))
   behind : getD (s .args .run-starts .now) (s .args .c + 1) 0 ≤ getD (s .args .run-starts .now) d 0
-  room : getD (s .args .run-starts .now) d 0 + length (columnRows (M s) (s .args .c)) ≤ runCount (s .args .n) (M s)
+  room : getD (s .args .run-starts .now) d 0 + count s ≤ runCount (s .args .n) (M s)
 
 follows-here : (s : tie.Start Inv-loop μ-loop) (d : ℕ) → s .args .c < d → d < s .args .n → columnRows (M s) d ≡ columnRows (M s) (s .args .c) → Follows s d
 follows-here s d l k same =
     let a = s .args in
     let starts = group-starts (a .n) (M s) (plain s) (a .place .now) (right s) (s .pre .0 .1) (a .c) (s .pre .1 .0 .0) (a .codes .now) (marking s) (a .run-starts .now) (s .pre .0 .2) d l k same in
-    let w = within s d k in
+    let size : count s ≡ length (runs (columnRows (M s) d)) = omega (arith, starts .0) in
     record {
       inside = k;
       same = same;
-      size =
-          length-part (getD (a .starts .now) d 0) (getD (a .starts .now) (d + 1) 0) (a .values .now) (w .1) (omega (arith, w .2, right s .even))
-          ∙ sym (length-part (getD (a .starts .now) d 0) (getD (a .starts .now) (d + 1) 0) (a .rows .now) (w .1) (w .2))
-          ∙ ap (λ (b : ℕ). length (rows-at s d b)) (add-one d) ∙ ap length same;
-      end = starts .0;
+      size = size ∙ sym (ap (λ (b : ℕ). length (runs (rows-at s d b))) (add-one d));
       behind = starts .1;
-      room = starts .2;
+      room = omega (arith, size, starts .2);
     }
 
 loop-holds : tie.Need-loop-holds Inv-loop μ-loop
-loop-holds c = let s = c .before .before .before .before .before .before .before .before .before in (omega arith, omega (arith, s .pre .1 .0 .0), refl, refl, s .pre .1 .1 .1, λ old w. w, λ old w. w)
+loop-holds c = let s = c .before .before .before .before .before .before .before .before .before .before in (omega arith, omega (arith, s .pre .1 .0 .0), refl, refl, s .pre .1 .1 .1, λ old w. w, λ old w. w)
 
 mul-from : tie.Need-mul-from Inv-loop μ-loop
 mul-from c = let s = c .before .before .before .before .before .before .before .before in omega (arith, s .pre .0 .2 .0, s .pre .1 .0 .0)
@@ -112,20 +111,45 @@ cast-from c =
     let l : s .args .c ≤ s .args .n = omega (arith, s .pre .1 .0 .0) in
     omega (arith, s .pre .0 .2 .1 (s .args .c) l, count-le (M s) (s .args .c) (s .args .n) l, s .pre .1 .1 .0 .0)
 
+-- the runs of column c start where they end or before
+run-rise : (s : tie.Start Inv-loop μ-loop)
+    → (getD (s .args .run-starts .now) (s .args .c) 0 ≤ getD (s .args .run-starts .now) (s .args .c + 1) 0) × (getD (s .args .run-starts .now) (s .args .c + 1) 0 ≤ runCount (s .args .n) (M s))
+run-rise s =
+    let a = s .args in
+    let l : a .c < a .n = s .pre .1 .0 .0 in
+    let first = s .pre .0 .2 .1 (a .c) (omega arith) in
+    let next = s .pre .0 .2 .1 (a .c + 1) (omega arith) in
+    (omega (arith, first, next, count-more (M s) (a .c)), omega (arith, next, count-le (M s) (a .c + 1) (a .n) (omega arith)))
+
+add-count : tie.Need-add-count Inv-loop μ-loop
+add-count c = let s = c .before .before .before .before .before .before .before .before .before in omega (arith, s .pre .1 .0 .0)
+
+mul-count : tie.Need-mul-count Inv-loop μ-loop
+mul-count c = let s = c .before .before .before .before .before .before .before .before .before in omega (arith, s .pre .0 .2 .0, s .pre .1 .0 .0)
+
+shared-slice-read-count : tie.Need-shared-slice-read-count Inv-loop μ-loop
+shared-slice-read-count c = let s = c .before .before .before .before .before .before .before .before .before .before in omega (arith, s .pre .0 .2 .0, s .pre .1 .0 .0)
+
+cast-count : tie.Need-cast-count Inv-loop μ-loop
+cast-count c = let s = c .before .before .before .before .before .before .before .before .before .before in omega (arith, run-rise s, s .pre .1 .1 .0)
+
+sub-count : tie.Need-sub-count Inv-loop μ-loop
+sub-count c = run-rise (c .before .before .before .before .before .before .before .before .before .before) .0
+
 add-d : tie.Need-add-d Inv-loop μ-loop
-add-d c = let s = c .before .before .before .before .before .before .before .before .before in omega (arith, s .pre .1 .0 .0)
+add-d c = let s = c .before .before .before .before .before .before .before .before .before .before in omega (arith, s .pre .1 .0 .0)
 
 same-rows-requires : tie.Need-same-rows-requires Inv-loop μ-loop
 same-rows-requires c κs =
     let l = c .before in
-    let s = l .before .before .before .before .before .before .before .before .before .before in
+    let s = l .before .before .before .before .before .before .before .before .before .before .before in
     (within s (s .args .c) (s .pre .1 .0 .0), within s (l .loop .d) (omega arith))
 
 -- the test passed: the column has the rows of column c
-passed : (e : tie.Else1 Inv-loop μ-loop) → let l = e .before .before .before in Follows (l .before .before .before .before .before .before .before .before .before .before) (l .loop .d)
+passed : (e : tie.Else1 Inv-loop μ-loop) → let l = e .before .before .before in Follows (l .before .before .before .before .before .before .before .before .before .before .before) (l .loop .d)
 passed e =
     let l = e .before .before .before in
-    let s = l .before .before .before .before .before .before .before .before .before .before in
+    let s = l .before .before .before .before .before .before .before .before .before .before .before in
     let d = l .loop .d in
     let yes = e .before .same-rows .ensures in
     let ok : T (sameNumbers (rows-at s (s .args .c) (s .args .c + 1)) (rows-at s d (d + 1))) = subst T (sym (sym yes ∙ not-false _ (e .if1 .left))) tt in
@@ -133,73 +157,94 @@ passed e =
     (ap (rows-at s d) (sym (add-one d)) ∙ sym (numbers-equal (rows-at s (s .args .c) (s .args .c + 1)) (rows-at s d (d + 1)) ok) ∙ ap (rows-at s (s .args .c)) (add-one (s .args .c)))
 
 mul-first : tie.Need-mul-first Inv-loop μ-loop
-mul-first c = let l = c .before .before .before in let s = l .before .before .before .before .before .before .before .before .before .before in omega (arith, within s (l .loop .d) (passed (c) .inside))
+mul-first c = let l = c .before .before .before in let s = l .before .before .before .before .before .before .before .before .before .before .before in omega (arith, within s (l .loop .d) (passed (c) .inside))
 
 shared-slice-read-first : tie.Need-shared-slice-read-first Inv-loop μ-loop
-shared-slice-read-first c = let l = c .before .before .before .before in let s = l .before .before .before .before .before .before .before .before .before .before in omega (arith, within s (l .loop .d) (passed (c .before) .inside))
+shared-slice-read-first c = let l = c .before .before .before .before in let s = l .before .before .before .before .before .before .before .before .before .before .before in omega (arith, within s (l .loop .d) (passed (c .before) .inside))
 
 cast-first : tie.Need-cast-first Inv-loop μ-loop
-cast-first c = let l = c .before .before .before .before in let s = l .before .before .before .before .before .before .before .before .before .before in omega (arith, within s (l .loop .d) (passed (c .before) .inside))
+cast-first c = let l = c .before .before .before .before in let s = l .before .before .before .before .before .before .before .before .before .before .before in omega (arith, within s (l .loop .d) (passed (c .before) .inside))
 
 add-end : tie.Need-add-end Inv-loop μ-loop
-add-end c = let l = c .before .before .before .before in let s = l .before .before .before .before .before .before .before .before .before .before in omega (arith, within s (l .loop .d) (passed (c .before) .inside))
+add-end c = let l = c .before .before .before .before in let s = l .before .before .before .before .before .before .before .before .before .before .before in omega (arith, within s (l .loop .d) (passed (c .before) .inside))
 
 mul-end : tie.Need-mul-end Inv-loop μ-loop
-mul-end c = let l = c .before .before .before .before in let s = l .before .before .before .before .before .before .before .before .before .before in omega (arith, within s (l .loop .d) (passed (c .before) .inside))
+mul-end c = let l = c .before .before .before .before in let s = l .before .before .before .before .before .before .before .before .before .before .before in omega (arith, within s (l .loop .d) (passed (c .before) .inside))
 
 shared-slice-read-end : tie.Need-shared-slice-read-end Inv-loop μ-loop
-shared-slice-read-end c = let l = c .before .before .before .before .before in let s = l .before .before .before .before .before .before .before .before .before .before in omega (arith, within s (l .loop .d) (passed (c .before .before) .inside))
+shared-slice-read-end c = let l = c .before .before .before .before .before in let s = l .before .before .before .before .before .before .before .before .before .before .before in omega (arith, within s (l .loop .d) (passed (c .before .before) .inside))
 
 cast-end : tie.Need-cast-end Inv-loop μ-loop
-cast-end c = let l = c .before .before .before .before .before in let s = l .before .before .before .before .before .before .before .before .before .before in omega (arith, within s (l .loop .d) (passed (c .before .before) .inside))
+cast-end c = let l = c .before .before .before .before .before in let s = l .before .before .before .before .before .before .before .before .before .before .before in omega (arith, within s (l .loop .d) (passed (c .before .before) .inside))
 
 mul-start : tie.Need-mul-start Inv-loop μ-loop
-mul-start c = let l = c .before .before .before .before .before in let s = l .before .before .before .before .before .before .before .before .before .before in omega (arith, s .pre .0 .2 .0, passed (c .before .before) .inside)
+mul-start c = let l = c .before .before .before .before .before in let s = l .before .before .before .before .before .before .before .before .before .before .before in omega (arith, s .pre .0 .2 .0, passed (c .before .before) .inside)
 
 shared-slice-read-start : tie.Need-shared-slice-read-start Inv-loop μ-loop
-shared-slice-read-start c = let l = c .before .before .before .before .before .before in let s = l .before .before .before .before .before .before .before .before .before .before in omega (arith, s .pre .0 .2 .0, passed (c .before .before .before) .inside)
+shared-slice-read-start c = let l = c .before .before .before .before .before .before in let s = l .before .before .before .before .before .before .before .before .before .before .before in omega (arith, s .pre .0 .2 .0, passed (c .before .before .before) .inside)
 
 cast-start : tie.Need-cast-start Inv-loop μ-loop
-cast-start c = let l = c .before .before .before .before .before .before in let s = l .before .before .before .before .before .before .before .before .before .before in omega (arith, passed (c .before .before .before) .room, s .pre .1 .1 .0)
+cast-start c = let l = c .before .before .before .before .before .before in let s = l .before .before .before .before .before .before .before .before .before .before .before in omega (arith, passed (c .before .before .before) .room, s .pre .1 .1 .0)
 
 mul-repeat-column : tie.Need-mul-repeat-column Inv-loop μ-loop
-mul-repeat-column c = let l = c .before .before .before .before .before .before .before .before in let s = l .before .before .before .before .before .before .before .before .before .before in omega (arith, within s (l .loop .d) (passed (c .before .before .before .before .before) .inside), right s .even)
+mul-repeat-column c = let l = c .before .before .before .before .before .before .before .before in let s = l .before .before .before .before .before .before .before .before .before .before .before in omega (arith, within s (l .loop .d) (passed (c .before .before .before .before .before) .inside))
 
 sub-repeat-column : tie.Need-sub-repeat-column Inv-loop μ-loop
-sub-repeat-column c = let l = c .before .before .before .before .before .before .before .before in let s = l .before .before .before .before .before .before .before .before .before .before in within s (l .loop .d) (passed (c .before .before .before .before .before) .inside) .1
+sub-repeat-column c = let l = c .before .before .before .before .before .before .before .before in let s = l .before .before .before .before .before .before .before .before .before .before .before in within s (l .loop .d) (passed (c .before .before .before .before .before) .inside) .1
 
 part-repeat-column-start : tie.Need-part-repeat-column-start Inv-loop μ-loop
-part-repeat-column-start c = let l = c .before .before .before .before .before .before .before .before in let s = l .before .before .before .before .before .before .before .before .before .before in within s (l .loop .d) (passed (c .before .before .before .before .before) .inside) .1
+part-repeat-column-start c = let l = c .before .before .before .before .before .before .before .before in let s = l .before .before .before .before .before .before .before .before .before .before .before in within s (l .loop .d) (passed (c .before .before .before .before .before) .inside) .1
 
 part-repeat-column-end : tie.Need-part-repeat-column-end Inv-loop μ-loop
-part-repeat-column-end c = let l = c .before .before .before .before .before .before .before .before in let s = l .before .before .before .before .before .before .before .before .before .before in omega (arith, within s (l .loop .d) (passed (c .before .before .before .before .before) .inside), right s .even)
+part-repeat-column-end c = let l = c .before .before .before .before .before .before .before .before in let s = l .before .before .before .before .before .before .before .before .before .before .before in within s (l .loop .d) (passed (c .before .before .before .before .before) .inside) .2
+
+mul-repeat-column-2 : tie.Need-mul-repeat-column-2 Inv-loop μ-loop
+mul-repeat-column-2 c = let l = c .before .before .before .before .before .before .before .before .before in let s = l .before .before .before .before .before .before .before .before .before .before .before in omega (arith, within s (l .loop .d) (passed (c .before .before .before .before .before .before) .inside), right s .even)
+
+sub-repeat-column-2 : tie.Need-sub-repeat-column-2 Inv-loop μ-loop
+sub-repeat-column-2 c = let l = c .before .before .before .before .before .before .before .before .before in let s = l .before .before .before .before .before .before .before .before .before .before .before in within s (l .loop .d) (passed (c .before .before .before .before .before .before) .inside) .1
+
+part-repeat-column-start-2 : tie.Need-part-repeat-column-start-2 Inv-loop μ-loop
+part-repeat-column-start-2 c = let l = c .before .before .before .before .before .before .before .before .before in let s = l .before .before .before .before .before .before .before .before .before .before .before in within s (l .loop .d) (passed (c .before .before .before .before .before .before) .inside) .1
+
+part-repeat-column-end-2 : tie.Need-part-repeat-column-end-2 Inv-loop μ-loop
+part-repeat-column-end-2 c = let l = c .before .before .before .before .before .before .before .before .before in let s = l .before .before .before .before .before .before .before .before .before .before .before in omega (arith, within s (l .loop .d) (passed (c .before .before .before .before .before .before) .inside), right s .even)
 
 -- the rows that are repeated are the marked rows
 repeated : (e : tie.Else1 Inv-loop μ-loop) → let l = e .before .before .before in
-    let a = l .before .before .before .before .before .before .before .before .before .before .args in
-    let k = length (part (getD (a .starts .now) (l .loop .d) 0) (getD (a .starts .now) (l .loop .d + 1) 0) (a .values .now)) in
-    part (getD (a .run-starts .now) (a .c) 0) (getD (a .run-starts .now) (a .c) 0 + k) (l .loop .rows-out) ≡ markedBelow (a .codes .now) (length (a .codes .now))
+    let s = l .before .before .before .before .before .before .before .before .before .before .before in
+    part (getD (s .args .run-starts .now) (s .args .c) 0) (getD (s .args .run-starts .now) (s .args .c) 0 + count s) (l .loop .rows-out) ≡ swept s
 repeated e =
     let l = e .before .before .before in
-    let a = l .before .before .before .before .before .before .before .before .before .before .args in
-    let p = passed e in
-    let from = getD (a .run-starts .now) (a .c) 0 in
-    ap (λ (b : ℕ). part from b (l .loop .rows-out)) (ap (λ (k : ℕ). from + k) (p .size) ∙ p .end) ∙ l .loop .inv .4
+    let s = l .before .before .before .before .before .before .before .before .before .before .before in
+    let from = getD (s .args .run-starts .now) (s .args .c) 0 in
+    let end : from + count s ≡ getD (s .args .run-starts .now) (s .args .c + 1) 0 = omega (arith, run-rise s .0) in
+    ap (λ (b : ℕ). part from b (l .loop .rows-out)) end ∙ l .loop .inv .4
 
 repeat-column-requires : tie.Need-repeat-column-requires Inv-loop μ-loop
 repeat-column-requires c κs =
-    let e = c .before .before .before .before .before .before in
+    let e = c .before .before .before .before .before .before .before in
     let l = e .before .before .before in
-    let s = l .before .before .before .before .before .before .before .before .before .before in
+    let s = l .before .before .before .before .before .before .before .before .before .before .before in
     let a = s .args in
+    let d = l .loop .d in
     let p = passed e in
-    let k = length (part (getD (a .starts .now) (l .loop .d) 0) (getD (a .starts .now) (l .loop .d + 1) 0) (a .values .now)) in (
-      subst (λ (rs : List ℕ). MarksInside (a .codes .now) k rs) (sym (repeated e))
-          (group-inside (a .n) (M s) (plain s) (a .place .now) (right s) (s .pre .0 .1) (a .c) (s .pre .1 .0 .0) (a .codes .now) (marking s) k (omega (arith, p .size))),
+    let w = within s d (p .inside) in
+    let rows = rows-at s d (d + 1) in
+    let width : length rows ≡ length (columnRows (M s) (a .c)) = ap (λ (b : ℕ). length (rows-at s d b)) (add-one d) ∙ ap length (p .same) in (
       (
-        omega (arith, p .size, p .end, p .behind),
-        omega (arith, p .size, p .room, s .pre .1 .1 .0 .0, l .loop .inv .2),
-        omega (arith, p .size, p .room, s .pre .1 .1 .0 .1, l .loop .inv .3),
+        subst (λ (rs : List ℕ). MarksInside (a .codes .now) (length rows) rs) (sym (repeated e))
+            (group-inside (a .n) (M s) (plain s) (a .place .now) (right s) (s .pre .0 .1) (a .c) (s .pre .1 .0 .0) (a .codes .now) (marking s) (length rows) (omega (arith, width))),
+        length-part (getD (a .starts .now) d 0) (getD (a .starts .now) (d + 1) 0) (a .values .now) (w .1) (omega (arith, w .2, right s .even))
+            ∙ sym (length-part (getD (a .starts .now) d 0) (getD (a .starts .now) (d + 1) 0) (a .rows .now) (w .1) (w .2)),
+      ),
+      (
+        (subst (λ (b : ℕ). T (neverFalls (rows-at s d b))) (sym (add-one d)) (s .pre .0 .1 d (p .inside)), p .size),
+        (
+          omega (arith, run-rise s .0, p .behind),
+          omega (arith, p .room, s .pre .1 .1 .0 .0, l .loop .inv .2),
+          omega (arith, p .room, s .pre .1 .1 .0 .1, l .loop .inv .3),
+        ),
       ),
     )
 
@@ -212,9 +257,9 @@ loop-less c = omega arith
 loop-again : tie.Need-loop-again Inv-loop μ-loop
 loop-again c =
     let f = c .before .before .before .before in
-    let e = f .before .before .before .before .before .before .before in
+    let e = f .before .before .before .before .before .before .before .before in
     let l = e .before .before .before in
-    let s = l .before .before .before .before .before .before .before .before .before .before in
+    let s = l .before .before .before .before .before .before .before .before .before .before .before in
     let a = s .args in
     let d = l .loop .d in
     let p = passed e in
@@ -227,16 +272,17 @@ loop-again c =
     let v : Entry → Float = λ e. e .value in
     let rows-right : map r (codedColumn (plain s) (column A d)) ≡ swept s =
     group-rows (a .n) (M s) (plain s) (a .place .now) (right s) (s .pre .0 .1) (a .c) (s .pre .1 .0 .0) (a .codes .now) (marking s) d (p .inside) (p .same) in
-    let values-right : map v (codedColumn (plain s) (column A d)) ≡ map (markedValue (a .codes .now) (values (suc d))) (swept s) =
+    let values-right : map v (codedColumn (plain s) (column A d)) ≡ map (summedValue (a .codes .now) (rows-at s d (suc d)) (values (suc d))) (swept s) =
     group-values (a .n) (M s) (plain s) (a .place .now) (right s) (s .pre .0 .1) (a .c) (s .pre .1 .0 .0) (a .codes .now) (marking s) d (p .inside) (p .same) in
-    let gathered : map (markedValue (a .codes .now) (values (d + 1))) (part from (from + length (values (d + 1))) (l .loop .rows-out)) ≡ map v (codedColumn (plain s) (column A d)) =
-    ap (map (markedValue (a .codes .now) (values (d + 1)))) (repeated e) ∙ ap (λ (b : ℕ). map (markedValue (a .codes .now) (values b)) (swept s)) (add-one d) ∙ sym values-right in (
+    let gathered : map (summedValue (a .codes .now) (rows-at s d (d + 1)) (values (d + 1))) (part from (from + count s) (l .loop .rows-out)) ≡ map v (codedColumn (plain s) (column A d)) =
+    ap (map (summedValue (a .codes .now) (rows-at s d (d + 1)) (values (d + 1)))) (repeated e)
+    ∙ ap (λ (b : ℕ). map (summedValue (a .codes .now) (rows-at s d b) (values b)) (swept s)) (add-one d) ∙ sym values-right in (
       omega arith,
       omega (arith, p .inside),
       f .repeat-column .kept .0 ∙ l .loop .inv .2,
       f .repeat-column .kept .1 .0 ∙ l .loop .inv .3,
       ap (part from to) (f .repeat-column .ensures .0)
-          ∙ part-front from to start (part from (from + length (values (d + 1))) (l .loop .rows-out)) (l .loop .rows-out) (omega (arith, p .end)) (p .behind) (omega (arith, p .room, s .pre .1 .1 .0 .0, l .loop .inv .2))
+          ∙ part-front from to start (part from (from + count s) (l .loop .rows-out)) (l .loop .rows-out) (run-rise s .0) (p .behind) (omega (arith, p .room, s .pre .1 .1 .0 .0, l .loop .inv .2))
           ∙ l .loop .inv .4,
       λ old w.
           f .repeat-column .ensures .0
@@ -277,6 +323,11 @@ write-followers-spec =
     mul-from
     shared-slice-read-from
     cast-from
+    add-count
+    mul-count
+    shared-slice-read-count
+    cast-count
+    sub-count
     add-d
     loop-holds
     same-rows-requires
@@ -294,6 +345,10 @@ write-followers-spec =
     sub-repeat-column
     part-repeat-column-start
     part-repeat-column-end
+    mul-repeat-column-2
+    sub-repeat-column-2
+    part-repeat-column-start-2
+    part-repeat-column-end-2
     repeat-column-requires
     add-d-2
     loop-less

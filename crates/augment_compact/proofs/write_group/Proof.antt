@@ -228,7 +228,7 @@ marking e =
     let left : MarksLeft true (a .place .now) (columnRows (M s) (a .c)) (a .codes .now) (f .move-column .last .1 .1 .0) =
     subst (λ (k : ℕ). MarksLeft true (a .place .now) (rows-to s k) (a .codes .now) (f .move-column .last .1 .1 .0)) (add-one (a .c))
     (subst (λ (b : Bool). MarksLeft b (a .place .now) (rows-to s (a .c + 1)) (a .codes .now) (f .move-column .last .1 .1 .0)) (not-false (f .move-column .result) (e .if1 .left)) (f .move-column .ensures .1 .1 .0)) in
-    record { placing = s .pre .1 .0 .0; alone = left .1; marks = left .0 }
+    record { placing = s .pre .1 .0 .0; marks = left }
 
 -- and without them the codes are those before
 back : (e : tie.Else1) → let f = e .before .before .before .before .before .before .before .before .before in
