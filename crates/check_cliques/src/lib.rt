@@ -48,7 +48,7 @@ pub fn tree_right(words: &[u32], at: usize) -> bool
     0 < count
 }
 
-// Makes check 6 on all `count` patterns.
+// Makes check 6 on all `count` patterns. The last pattern's end is not looked for.
 pub fn trees_right(count: u32, words: &[u32]) -> bool
     requires { ⌜ endsRight (readPatterns count (now words)) ≡ true ⌝ }
     ensures { λ r. ⌜ r ≡ all treeRight (patterns count (now (words .entry))) ⌝ }
@@ -58,6 +58,9 @@ pub fn trees_right(count: u32, words: &[u32]) -> bool
     while 0 < left {
         if !tree_right(words, at) {
             return false;
+        }
+        if left == 1 {
+            return true;
         }
         at = supernode_tree::pattern_next(words, at);
         left -= 1;

@@ -8,7 +8,8 @@ ghost use Rattle.supernode_tree.specs.Reads.{isWhole, patternAt};
 ghost use Rattle.sparsity_pattern.specs.Sparsity.{patternRight, originsRiseFrom, patternsReadFrom};
 use supernode_tree::Pattern;
 
-// Returns whether each pattern's `orig_index` is above the one before it, and that of the first is not below `first`.
+// Returns whether each pattern's `orig_index` is above the one before it, and that of the first is not below `first`. The last pattern's end is not
+// looked for.
 fn origins_rise(first: u64, count: u32, words: &[u32]) -> bool
     requires { ⌜ endsRight (readPatterns count (now words)) ≡ true ⌝ }
     ensures { λ r. ⌜ r ≡ originsRiseFrom first (patterns count (now (words .entry))) ⌝ }
@@ -23,6 +24,9 @@ fn origins_rise(first: u64, count: u32, words: &[u32]) -> bool
             return false;
         }
         least = origin + 1;
+        if left == 1 {
+            return true;
+        }
         at = supernode_tree::pattern_next(words, at);
         left -= 1;
     }
@@ -44,7 +48,7 @@ fn pattern_right(cones: &[u32], words: &[u32], at: usize) -> bool
     utils::is_short_permutation(&words[a..e])
 }
 
-// Returns whether each pattern names a PSD cone of its dimension and its ordering is a permutation.
+// Returns whether each pattern names a PSD cone of its dimension and its ordering is a permutation. The last pattern's end is not looked for.
 fn patterns_right(cones: &[u32], count: u32, words: &[u32]) -> bool
     requires { ⌜ endsRight (readPatterns count (now words)) ≡ true ⌝ }
     ensures { λ r. ⌜ r ≡ all (patternRight (now (cones .entry))) (patterns count (now (words .entry))) ⌝ }
@@ -54,6 +58,9 @@ fn patterns_right(cones: &[u32], count: u32, words: &[u32]) -> bool
     while 0 < left {
         if !pattern_right(cones, words, at) {
             return false;
+        }
+        if left == 1 {
+            return true;
         }
         at = supernode_tree::pattern_next(words, at);
         left -= 1;

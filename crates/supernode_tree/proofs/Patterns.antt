@@ -58,5 +58,9 @@ module _ (ws : List ℕ) (at k : ℕ) (more : 0 < k) (w : WholePatterns ws at k)
     pub all-stops : r ≡ false → x ≡ false
     all-stops = cases .0
 
+    -- the first is the last
+    pub all-last : k ≡ 1 → r ≡ true → x ≡ true
+    all-last one y = cases .1 y ∙ ap (λ (i : ℕ). all f (valueOr [] (readPatterns (i - 1) (rest (readPattern (drop at ws)))))) one
+
     pub all-goes : (next : ℕ) → rest (readPattern (drop at ws)) ≡ drop next ws → r ≡ true → x ≡ all f (patternsFrom ws next (k - 1))
     all-goes next q y = cases .1 y ∙ ap (λ (l : List ℕ). all f (valueOr [] (readPatterns (k - 1) l))) q

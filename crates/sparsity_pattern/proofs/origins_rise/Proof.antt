@@ -1,12 +1,12 @@
 use Prim.Native.Nat.{ℕ, suc, _+_, _-_}
 use mathlib.Core.Path.{_≡_, sym, ap, _∙_}
 use mathlib.Core.Bool.{true}
-use mathlib.Core.List.{List, map}
+use mathlib.Core.List.{List, [], map}
 use lib.ListN.{drop}
 use borrow.Author.Tests.{le-leb, lt-leb}
-use Rattle.layout.specs.Problems.Patterns.{Pattern, patterns, readPattern}
+use Rattle.layout.specs.Problems.Patterns.{Pattern, patterns, readPattern, readPatterns}
 use Rattle.layout.proofs.Lists.Tests.{and-true, and-false}
-use Rattle.supernode_tree.specs.Reads.{isWhole, patternAt, headOf}
+use Rattle.supernode_tree.specs.Reads.{isWhole, rest, valueOr, patternAt, headOf}
 use Rattle.supernode_tree.proofs.Cliques.{head-of-whole, pattern-head}
 use Rattle.supernode_tree.proofs.Patterns.{patternsFrom, WholePatterns, patterns-whole, patterns-start, patterns-none, pattern-first, patterns-first, whole-later, patterns-next}
 use Rattle.sparsity_pattern.specs.Sparsity.{risesFrom, originsRiseFrom}
@@ -62,8 +62,20 @@ returns c =
 add-least : tie.Need-add-least Inv-loop μ-loop
 add-least c = search needs
 
+-- the pattern is the last
+returns-2 : tie.Need-returns-2 Inv-loop μ-loop
+returns-2 c =
+    let h = c .before .before .before in
+    let l = h .before .before in
+    let ws = l .before .before .args .words .now in
+    let least = l .loop .least in
+    let o = patternAt ws (l .loop .at) .origIndex in
+    sym (l .loop .inv .1 ∙ ap (λ (ps : List Pattern). risesFrom least (map origin ps)) (patterns-first ws (l .loop .at) (l .loop .left) (h .before .loop-test .taken) (l .loop .inv .0))
+    ∙ and-true _ _ (le-leb least o (omega (arith, origin-at h)))
+    ∙ ap (λ (i : ℕ). risesFrom (suc o) (map origin (valueOr [] (readPatterns (i - 1) (rest (readPattern (drop (l .loop .at) ws))))))) (c .if2 .taken))
+
 pattern-next-requires : tie.Need-pattern-next-requires Inv-loop μ-loop
-pattern-next-requires c κs = here-at (c .before .before .before)
+pattern-next-requires c κs = here-at (c .before .before .before .before)
 
 sub-left : tie.Need-sub-left Inv-loop μ-loop
 sub-left c = search needs
@@ -73,7 +85,7 @@ loop-less c = search needs
 
 loop-again : tie.Need-loop-again Inv-loop μ-loop
 loop-again c =
-    let h = c .before .before .before in
+    let h = c .before .before .before .before in
     let l = h .before .before in
     let more = h .before .loop-test .taken in
     let ws = l .before .before .args .words .now in
@@ -88,8 +100,8 @@ loop-again c =
           ∙ ap (λ (n : ℕ). risesFrom n (map origin (patternsFrom ws next (l .loop .left - 1)))) e,
     )
 
-returns-2 : tie.Need-returns-2 Inv-loop μ-loop
-returns-2 c =
+returns-3 : tie.Need-returns-3 Inv-loop μ-loop
+returns-3 c =
     let l = c .before in
     sym (l .loop .inv .1 ∙ ap (λ (ps : List Pattern). risesFrom (l .loop .least) (map origin ps)) (patterns-none (l .before .before .args .words .now) (l .loop .at) (l .loop .left) (c .loop-test .left)))
 
@@ -104,8 +116,9 @@ origins-rise-spec =
     cast-origin
     returns
     add-least
+    returns-2
     pattern-next-requires
     sub-left
     loop-less
     loop-again
-    returns-2)
+    returns-3)
