@@ -369,7 +369,8 @@ pub fn second_pass(d: &mut Draws, first: &Problem, scale: Scale) -> Problem {
     p
 }
 
-/// Returns pairs of passes whose pool is at a bound of check 1, or one above it, and whether the pool is refused.
+/// Returns pairs of passes whose pool is at a bound of check 1 or above it, and whether the pool is refused: at the bound first, then above
+/// it in the same order. Equal passes are checked once, so there are both equal and unequal ones on either side.
 pub fn pools_at_limits() -> Vec<(String, [Problem; 2], bool)> {
     let pass = |rows: u32, cones: Vec<u32>, entries: u32| Problem {
         n: 1,
@@ -386,13 +387,16 @@ pub fn pools_at_limits() -> Vec<(String, [Problem; 2], bool)> {
         ..Problem::default()
     };
     let mut out = vec![];
-    for over in [0, 1] {
-        let tall = [32_768, 32_768 + over].map(|rows| pass(rows, vec![1, rows, 0], 0));
-        out.push((format!("rows 65536, {over} over"), tall, over > 0));
-        let many = [512, 512 + over as usize].map(|count| pass(0, vec![0; 3 * count], 0));
-        out.push((format!("cones 1024, {over} over"), many, over > 0));
-        let full = [131_072, 131_072 + over].map(|entries| pass(1, vec![1, 1, 0], entries));
-        out.push((format!("entries 262144, {over} over"), full, over > 0));
+    for (over, equal) in [(0, true), (0, false), (1, true), (1, false)] {
+        let sizes = |half: u32| if equal { [half + over; 2] } else { [half - 1 + over, half + 1] };
+        let passes = ["unequal", "equal"][equal as usize];
+        let name = |bound: &str| format!("{bound}, {} it, {passes} passes", ["at", "above"][over as usize]);
+        let tall = sizes(32_768).map(|rows| pass(rows, vec![1, rows, 0], 0));
+        out.push((name("rows 65536"), tall, over > 0));
+        let many = sizes(512).map(|count| pass(0, vec![0; 3 * count as usize], 0));
+        out.push((name("cones 1024"), many, over > 0));
+        let full = sizes(131_072).map(|entries| pass(1, vec![1, 1, 0], entries));
+        out.push((name("entries 262144"), full, over > 0));
     }
     out
 }

@@ -209,7 +209,8 @@ fn timed(f: &mut dyn FnMut(), batch: u32) -> f64 {
     (now() - started) / batch as f64
 }
 
-fn middle(mut times: Vec<f64>) -> f64 {
+/// Returns the median.
+pub fn middle(mut times: Vec<f64>) -> f64 {
     times.sort_by(f64::total_cmp);
     times[times.len() / 2]
 }
@@ -217,9 +218,9 @@ fn middle(mut times: Vec<f64>) -> f64 {
 /// The largest number of rounds; `--rounds` sets it.
 pub static MOST_ROUNDS: AtomicUsize = AtomicUsize::new(101);
 
-/// Returns the median of each over at least five rounds, and more for as many seconds; in a round each is timed in turn, so that
-/// other load on the machine affects all alike.
-pub fn rounds(seconds: f64, fs: &mut [&mut dyn FnMut()]) -> Vec<f64> {
+/// Returns the times of each in at least five rounds, and more for as many seconds; in a round each is timed in turn, so that other load
+/// on the machine affects all alike.
+pub fn all_rounds(seconds: f64, fs: &mut [&mut dyn FnMut()]) -> Vec<Vec<f64>> {
     let most = MOST_ROUNDS.load(Ordering::Relaxed);
     let batches: Vec<u32> = fs.iter_mut().map(|f| batch(f)).collect();
     let mut times: Vec<Vec<f64>> = vec![vec![]; fs.len()];
@@ -229,7 +230,12 @@ pub fn rounds(seconds: f64, fs: &mut [&mut dyn FnMut()]) -> Vec<f64> {
             times[i].push(timed(f, batches[i]));
         }
     }
-    times.into_iter().map(middle).collect()
+    times
+}
+
+// the median of each over such rounds
+fn rounds(seconds: f64, fs: &mut [&mut dyn FnMut()]) -> Vec<f64> {
+    all_rounds(seconds, fs).into_iter().map(middle).collect()
 }
 
 const SECONDS: f64 = 0.8;
