@@ -1,1 +1,2 @@
 pub mod Inverted
+pub mod Filled

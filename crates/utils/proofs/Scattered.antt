@@ -27,7 +27,7 @@ has-rest w x xs n h = elim (has-cons w x xs .0 h) [ inl e ↦ absurd (n e) | inr
 
 -- ---- one number at a time
 
-length-scattered : (k : ℕ) (xs old : List ℕ) → length (scattered k xs old) ≡ length old
+pub length-scattered : (k : ℕ) (xs old : List ℕ) → length (scattered k xs old) ≡ length old
 length-scattered k [] old = refl
 length-scattered k (x ∷ xs) old = length-scattered (suc k) xs (set old x k) ∙ length-set old x k
 
@@ -41,7 +41,7 @@ scattered-done xs old i h = rw (drop-of-length-le xs h)
 -- ---- the result
 
 -- an index that is not in the list is unchanged
-scattered-other : (k : ℕ) (xs old : List ℕ) (w d : ℕ) → (T (has w xs) → ⊥) → getD (scattered k xs old) w d ≡ getD old w d
+pub scattered-other : (k : ℕ) (xs old : List ℕ) (w d : ℕ) → (T (has w xs) → ⊥) → getD (scattered k xs old) w d ≡ getD old w d
 scattered-other k [] old w d out = refl
 scattered-other k (x ∷ xs) old w d out =
     scattered-other (suc k) xs (set old x k) w d (λ h. out (has-cons w x xs .1 (inr h)))

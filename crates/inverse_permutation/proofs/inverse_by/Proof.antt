@@ -14,8 +14,8 @@ use borrow.Author.Needs.{needs}
 use Rattle.inverse_permutation.proofs.inverse_by.Statement.{statement}
 use Rattle.inverse_permutation.proofs.inverse_by.Tie as tie
 
-invperm-requires : tie.Need-invperm-requires
-invperm-requires c κs = search needs
+invert-requires : tie.Need-invert-requires
+invert-requires c κs = search needs
 
 same-length : tie.Need-same-length
 same-length c = search needs
@@ -26,22 +26,22 @@ returns c =
     let s = w .before .before .before .before .before in
     let ps = s .args .p .now in
     let old = s .args .out .now in
-    record { number = sym (refused-order ps (length old) (sym (w .invperm .ensures .0) ∙ not-true _ (c .if1 .taken))); out = refl }
+    record { number = sym (refused-order ps (length old) (sym (w .invert .ensures .0) ∙ not-true _ (c .if1 .taken))); out = refl }
 
 same-length-2 : tie.Need-same-length-2
 same-length-2 c = search needs
 
 -- past the first test p is a permutation, and the table starts with its inverse
 permutes : (c : tie.Else1) → isPermutation (c .before .before .before .before .before .before .before .before .args .p .now) ≡ true
-permutes c = sym (c .before .before .before .invperm .ensures .0) ∙ not-false _ (c .if1 .left)
+permutes c = sym (c .before .before .before .invert .ensures .0) ∙ not-false _ (c .if1 .left)
 
 front : (c : tie.Else1) → let s = c .before .before .before .before .before .before .before .before in
-    take (length (s .args .p .now)) (c .before .before .before .invperm .last .1 .0) ≡ inverse (s .args .p .now)
+    take (length (s .args .p .now)) (c .before .before .before .invert .last .1 .0) ≡ inverse (s .args .p .now)
 front c =
     let w = c .before .before .before in
     let s = w .before .before .before .before .before in
     let ps = s .args .p .now in
-    ap (take (length ps)) (w .invperm .ensures .1 (not-false _ (c .if1 .left)))
+    ap (take (length ps)) (w .invert .ensures .1 (not-false _ (c .if1 .left)))
     ∙ scattered-front ps (s .args .table .now) (passes _ (permutes c)) (s .pre .1 .0)
 
 returns-2 : tie.Need-returns-2
@@ -87,7 +87,7 @@ pub inverse-by-spec : {M : Type 1} → statement M
 inverse-by-spec =
     tie.close
     (tie.spec
-    invperm-requires
+    invert-requires
     same-length
     returns
     same-length-2
