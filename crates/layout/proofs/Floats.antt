@@ -2,6 +2,7 @@ pub mod FloatOrder
 pub mod Nans
 pub mod Bits
 pub mod Counts
+pub mod Division
 pub mod Magnitudes
 pub mod Nearest
 pub mod Roundoff

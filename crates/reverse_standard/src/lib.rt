@@ -101,16 +101,13 @@ fn at_least_one(count: u32) -> u32
     1
 }
 
-// Averages the sum `v` of `count` columns of H in a row of z. It divides by 1 where `count` is below 2, so that the compiler can select
-// instead of branching on counts that cannot be predicted. Returns the quotient where `count` is above 1, and `v` otherwise.
+// Averages the sum `v` of `count` columns of H in a row of z. It divides by 1 where `count` is below 2, which gives `v` itself, so that no branch
+// and no selection between `v` and the quotient depends on counts that cannot be predicted. Returns the quotient where `count` is above 1, and `v`
+// otherwise.
 fn row_average(v: f64, count: u32) -> f64
     ensures { λ r. ⌜ r ≡ shared count v ⌝ }
 {
-    let average = quotient(v, at_least_one(count));
-    if count < 2 {
-        return v;
-    }
-    average
+    quotient(v, at_least_one(count))
 }
 
 // Divides each row of `z` by its number of columns of H where that is above 1, and sets these counts in `counts` to 0 for the next use.
