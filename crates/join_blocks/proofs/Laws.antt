@@ -1,34 +1,39 @@
--- Values joined entry by entry and list by list, the counts of the standard route, and the order of the cliques.
+-- Values joined entry by entry, list by list and block by block, the counts of the standard route, and the rows of a pattern's cliques.
 use Prim.Native.Nat.{ℕ, zero, suc, _+_, _-_, _≤_, _<_}
 use native.Mathlib.Nat.{le-of-eq}
 use native.Mathlib.Numerals.{add-one}
 use native.Mathlib.Omega.{arith}
 use mathlib.Core.Path.{_≡_, refl, ap, ap₂, sym, subst, _∙_}
 use mathlib.Core.Bool.{Bool, true, false}
-use mathlib.Core.List.{List, [], _∷_, _++_, map, map-map, reverse}
-use lib.ListN.{length, getD, take, drop, set, length-drop, length-map, length-reverse}
-use lib.Seq.{take-suc, drop-cons, drop-drop, getD-drop, length-take-le, getD-set-same, getD-set-other}
-use lib.Dec.{eqb}
+use mathlib.Core.Logic.{inl, inr}
+use mathlib.Core.List.{List, [], _∷_, _++_, map, map-map, reverse, reverse-cons}
+use lib.ListN.{length, getD, take, drop, set, length-append, length-drop, length-map, length-reverse, List·getD-append}
+use lib.Seq.{take-all, take-suc, drop-cons, drop-drop, getD-drop, length-take-le, getD-set-same, getD-set-other, getD-append-seam}
+use lib.Dec.{T, eqb}
 use lib.Ieee.{Float, nan}
 use borrow.Author.Tests.{eqb-true, eqb-false}
-use Rattle.layout.specs.General.Lists.{below, join, walk}
+use Rattle.layout.specs.General.Lists.{below, join, walk, rises}
 use Rattle.layout.specs.General.Triangle.{triangle}
-use Rattle.layout.specs.Problems.Patterns.{Pattern, blockSize, cliqueAt, cliqueCount}
-use Rattle.layout.specs.Rows.Blocks.{block, blockRows, pairRow}
+use Rattle.layout.specs.Problems.Patterns.{Pattern, noClique, members, blockSize, cliqueAt, cliqueCount}
+use Rattle.layout.specs.Rows.Blocks.{block, blockRows, pairs, pairRow}
 use Rattle.layout.specs.Checks.{RightPattern}
-use Rattle.layout.specs.Joinings.Reverse.{columnCount}
+use Rattle.layout.specs.Joinings.Reverse.{addAt, addColumns, columnCount}
 use Rattle.layout.proofs.Lists.Counting.{count-append}
 use Rattle.layout.proofs.Lists.Distinct.{length-keep}
+use Rattle.layout.proofs.Lists.Tests.{lt-or-le}
 use Rattle.layout.proofs.Lists.Walks.{walk-append}
-use Rattle.layout.proofs.Lists.Joins.{reverse-below}
-use Rattle.layout.proofs.Lists.Starts.{part-at}
+use Rattle.layout.proofs.Lists.Joins.{join-same, reverse-below}
+use Rattle.layout.proofs.Lists.Starts.{join-map, part-at}
+use Rattle.layout.proofs.Patterns.Pairs.{length-pairs}
 use Rattle.layout.proofs.Rows.Rows.{block-length}
-use Rattle.rows_blocks.specs.Cliques.{rowsHere, SortableClique, SortableCliques}
-use Rattle.rows_blocks.proofs.Patterns.{standard-rows-count, original-rows-count}
-use Rattle.rows_blocks.proofs.Offsets.{StandAt, reverse-map, rows-block, rows-up, rows-down}
-use Rattle.reverse_standard.specs.Routes.{zValue, inRouteOrder, Starts}
-use Rattle.reverse_standard.proofs.Routes.{reverse-at}
-use Rattle.join_blocks.specs.Joins.{zAt, Counts, Countable, ownRows, downSizes}
+use Rattle.rows_blocks.specs.Vertices.{sortedOf}
+use Rattle.rows_blocks.specs.Columns.{ColumnsFit}
+use Rattle.rows_blocks.specs.Cliques.{verticesHere, rowsHere}
+use Rattle.rows_blocks.proofs.Cliques.{vertices-rise, vertices-fit}
+use Rattle.rows_blocks.proofs.Patterns.{sorted-by, standard-rows-count, original-rows-count}
+use Rattle.rows_blocks.proofs.Offsets.{StandAt, reverse-map, rows-block}
+use Rattle.reverse_standard.specs.Routes.{zValue}
+use Rattle.join_blocks.specs.Joins.{zAt, joinZ, Counts, Countable, blockRowsOf, ownRows, rowsUp, downSizes}
 
 -- a result of f x is that of f y for an equal y
 pub by-same : {A B : Type 0} (f : A → B) {x y : A} {r : B} → r ≡ f x → x ≡ y → r ≡ f y
@@ -68,6 +73,13 @@ module _ {A B S : Type 0} (f : A → B → S → S) where
       p ∙ ap (walk f ys (drop t vs)) q
       ∙ ap (λ (ws : List B). walk f ys ws (walk f xs (drop first vs) s)) (ap (λ (n : ℕ). drop n vs) e ∙ sym (drop-drop (length xs) first vs))
       ∙ sym (walk-append f xs ys (drop first vs) s) ∙ ap (λ (os : List A). walk f os (drop first vs) s) m
+
+  -- after a call walked ys, whose values start at index t, zs are left to walk from index r on
+  walk-left : (ys zs : List A) (vs : List B) (old : S) {new : S} (t r : ℕ) → new ≡ walk f ys (drop t vs) old → r ≡ t + length ys
+      → walk f zs (drop r vs) new ≡ walk f (ys ++ zs) (drop t vs) old
+  walk-left ys zs vs old {new} t r p e =
+      ap (λ (ws : List B). walk f zs ws new) (ap (λ (n : ℕ). drop n vs) e ∙ sym (drop-drop (length ys) t vs))
+      ∙ ap (walk f zs (drop (length ys) (drop t vs))) p ∙ sym (walk-append f ys zs (drop t vs) old)
 
 -- ---- counts
 
@@ -118,28 +130,138 @@ countable-left true n k l xs a b e h g c =
     (omega (arith, c .0), λ o q. omega (arith, c .1 o q, g o (omega (arith, c .0)), length-keep (eqb o) xs))
 countable-left false n k l xs a b e h g c = tt
 
--- ---- the cliques in the order of the route
+-- ---- blocks joined one after the other
 
-pub length-order : (standard : Bool) (os : List ℕ) → length (inRouteOrder standard os) ≡ length os
-length-order true os = refl
-length-order false os = length-reverse os
+-- The rows os are left to join, with values from index t of s and z on: joining them to s₁, z₁ and c₁ joins the rows `all` to s₀, z₀ and c₀, with values from
+-- index `first` on.
+pub record Left (standard : Bool) (s z : List Float) (first : ℕ) (all : List ℕ) (s₀ z₀ : List Float) (c₀ : List ℕ) (t : ℕ) (os : List ℕ) (s₁ z₁ : List Float) (c₁ : List ℕ) : Type 0 where
+  pub ends : t + length os ≡ first + length all
+  pub s-long : length s₁ ≡ length s₀
+  pub z-long : length z₁ ≡ length z₀
+  pub counts-long : length c₁ ≡ length c₀
+  pub s-left : addColumns os (drop t s) s₁ ≡ addColumns all (drop first s) s₀
+  pub z-left : joinZ standard os (drop t z) z₁ ≡ joinZ standard all (drop first z) z₀
+  pub countable : Countable standard (length s₀) (length os) c₁
+  pub counted : (c : List ℕ) → length c ≡ length c₁ → Counts standard os c₁ c → Counts standard all c₀ c
 
--- the cliques are complete in the order of the route too
-pub standing-order : (standard : Bool) (ws ordering os : List ℕ) → SortableCliques ws ordering os → SortableCliques ws ordering (inRouteOrder standard os)
-standing-order true ws ordering os h c l = h c l
-standing-order false ws ordering os h c l =
-    let m : c < length os = omega (arith, length-reverse os) in
-    subst (SortableClique ws ordering) (sym (reverse-at os c m)) (h (length os - 1 - c) (omega arith))
+-- what `join_block` requires and what it ensures, of the block over vertices vs
+abbrev pub BlockFits : Bool → List ℕ → ℕ → List Float → List Float → List Float → List Float → List ℕ → Type 0
+BlockFits standard vs t s z s₁ z₁ c₁ =
+    (T (rises vs) × ColumnsFit 0 vs (length s₁))
+    × (((t + triangle (length vs) ≤ length s) × (t + triangle (length vs) ≤ length z))
+    × (((length z₁ ≡ length s₁) × (length s₁ ≤ 65536)) × Countable standard (length s₁) (triangle (length vs)) c₁))
 
--- a pattern's rows from the offsets of its cliques
-pub rows-order : (standard : Bool) (p : Pattern) → RightPattern p → (ws os : List ℕ) (k : ℕ) → cliqueCount p ≡ k → k ≤ length os → StandAt ws (p .cliques) os
-    → join (rowsHere 0 ws (p .ordering)) (inRouteOrder standard (take k os)) ≡ ownRows standard p
-rows-order true p ok ws os k count room st = rows-up p ok ws os k count room st 0
-rows-order false p ok ws os k count room st = rows-down p ok ws os k count room st 0 0
+abbrev pub BlockJoined : Bool → List ℕ → ℕ → List Float → List Float → List Float → List Float → List ℕ → ℕ → List Float → List Float → List ℕ → Type 0
+BlockJoined standard vs t s z s₁ z₁ c₁ r s₂ z₂ c₂ =
+    (r ≡ t + triangle (length vs))
+    × ((s₂ ≡ addColumns (blockRowsOf vs) (drop t s) s₁) × ((z₂ ≡ joinZ standard (blockRowsOf vs) (drop t z) z₁) × Counts standard (blockRowsOf vs) c₁ c₂))
 
-pub length-own : (standard : Bool) (p : Pattern) → RightPattern p → length (ownRows standard p) ≡ blockRows p
-length-own true p ok = standard-rows-count p ok 0
-length-own false p ok = original-rows-count p ok 0 0
+pub length-block : (vs : List ℕ) → length (blockRowsOf vs) ≡ triangle (length vs)
+length-block vs = length-map (pairs vs) (pairRow 0) ∙ length-pairs vs
+
+module _ (standard : Bool) (s z : List Float) (first : ℕ) (all : List ℕ) (s₀ z₀ : List Float) (c₀ : List ℕ) where
+  pub none-joined : Countable standard (length s₀) (length all) c₀ → Left standard s z first all s₀ z₀ c₀ first all s₀ z₀ c₀
+  none-joined h =
+      record {
+        ends = refl;
+        s-long = refl;
+        z-long = refl;
+        counts-long = refl;
+        s-left = refl;
+        z-left = refl;
+        countable = h;
+        counted = λ c e g. g;
+      }
+
+  module _ (t : ℕ) (os : List ℕ) (s₁ z₁ : List Float) (c₁ : List ℕ) (left : Left standard s z first all s₀ z₀ c₀ t os s₁ z₁ c₁) where
+    pub all-joined : os ≡ []
+        → (t ≡ first + length all) × ((s₁ ≡ addColumns all (drop first s) s₀) × ((z₁ ≡ joinZ standard all (drop first z) z₀) × Counts standard all c₀ c₁))
+    all-joined e = (
+      omega (arith, left .ends, ap length e),
+      (
+        ap (λ (rs : List ℕ). addColumns rs (drop t s) s₁) (sym e) ∙ left .s-left,
+        (
+          ap (λ (rs : List ℕ). joinZ standard rs (drop t z) z₁) (sym e) ∙ left .z-left,
+          left .counted c₁ refl (subst (λ (rs : List ℕ). Counts standard rs c₁ c₁) (sym e) (counts-none standard c₁)),
+        ),
+      ),
+    )
+
+    -- the next block is that of the clique at word `at`, with vertices vs
+    module _ (ws ordering : List ℕ) (at : ℕ) (vs rest : List ℕ) (found : vs ≡ verticesHere ws ordering at) (more : os ≡ blockRowsOf vs ++ rest) where
+      size : length os ≡ triangle (length vs) + length rest
+      size = ap length more ∙ length-append (blockRowsOf vs) rest ∙ ap (λ (n : ℕ). n + length rest) (length-block vs)
+
+      pub block-fits : first + length all ≤ length s → length z ≡ length s
+          → (triangle (length ordering) ≤ length s₀) × (length z₀ ≡ length s₀) × (length s₀ ≤ 65536) → BlockFits standard vs t s z s₁ z₁ c₁
+      block-fits s-room e room =
+          let s-fits : t + triangle (length vs) ≤ length s = omega (arith, size, left .ends) in (
+            (
+              subst (λ (us : List ℕ). T (rises us)) (sym found) (vertices-rise ws ordering at),
+              subst (λ (us : List ℕ). ColumnsFit 0 us (length s₁)) (sym found) (vertices-fit ws ordering at 0 (length s₁) (omega (arith, left .s-long, room .0))),
+            ),
+            (
+              (s-fits, omega (arith, s-fits, e)),
+              (
+                (omega (arith, left .s-long, left .z-long, room .1), omega (arith, left .s-long, room .2)),
+                countable-less standard (length s₀) (length s₁) (length os) (triangle (length vs)) c₁ (le-of-eq (left .s-long)) (omega (arith, size)) (left .countable),
+              ),
+            ),
+          )
+
+      pub block-left : (r : ℕ) (s₂ z₂ : List Float) (c₂ : List ℕ) → length s₂ ≡ length s₁ → length z₂ ≡ length z₁ → length c₂ ≡ length c₁
+          → BlockJoined standard vs t s z s₁ z₁ c₁ r s₂ z₂ c₂ → Left standard s z first all s₀ z₀ c₀ r rest s₂ z₂ c₂
+      block-left r s₂ z₂ c₂ s-kept z-kept counts-kept (to, (s-is, (z-is, counts-are))) =
+          let next : r ≡ t + length (blockRowsOf vs) = to ∙ ap (λ (n : ℕ). t + n) (sym (length-block vs)) in
+          record {
+            ends = omega (arith, to, size, left .ends);
+            s-long = s-kept ∙ left .s-long;
+            z-long = z-kept ∙ left .z-long;
+            counts-long = counts-kept ∙ left .counts-long;
+            s-left = walk-left addAt (blockRowsOf vs) rest s s₁ t r s-is next ∙ ap (λ (rs : List ℕ). addColumns rs (drop t s) s₁) (sym more) ∙ left .s-left;
+            z-left = walk-left (zAt standard) (blockRowsOf vs) rest z z₁ t r z-is next ∙ ap (λ (rs : List ℕ). joinZ standard rs (drop t z) z₁) (sym more) ∙ left .z-left;
+            countable =
+                countable-left standard (length s₀) (length os) (length rest) (blockRowsOf vs) c₁ c₂ counts-kept (omega (arith, size, length-block vs)) counts-are (left .countable);
+            counted = λ c e g. left .counted c (e ∙ counts-kept) (counts-joined standard (blockRowsOf vs) rest os c₁ c₂ c e counts-are g (sym more));
+          }
+
+-- ---- a pattern's cliques
+
+-- an element of a reversed list, counted from the end of the list
+pub reverse-at : (xs : List ℕ) (i : ℕ) → i < length xs → getD (reverse xs) i 0 ≡ getD xs (length xs - 1 - i) 0
+reverse-at [] i h = absurd (omega arith)
+reverse-at (x ∷ xs) i h =
+    ap (λ (ys : List ℕ). getD ys i 0) (reverse-cons x xs)
+    ∙ elim (lt-or-le i (length xs)) [
+      | inl l ↦
+          List·getD-append (reverse xs) (x ∷ []) 0 i (omega (arith, length-reverse xs)) ∙ reverse-at xs i l
+          ∙ ap (λ (k : ℕ). getD (x ∷ xs) k 0) (behind l)
+      | inr g ↦
+          ap (λ (k : ℕ). getD (reverse xs ++ (x ∷ [])) k 0) (last g) ∙ getD-append-seam (reverse xs) x [] 0
+          ∙ ap (λ (k : ℕ). getD (x ∷ xs) k 0) (first g)
+    ]
+  where
+    behind : i < length xs → suc (length xs - 1 - i) ≡ length (x ∷ xs) - 1 - i
+    behind l = omega arith
+
+    last : length xs ≤ i → i ≡ length (reverse xs)
+    last g = omega (arith, length-reverse xs)
+
+    first : length xs ≤ i → 0 ≡ length (x ∷ xs) - 1 - i
+    first g = omega arith
+
+module _ (p : Pattern) (ok : RightPattern p) where
+  -- a pattern's rows from its cliques
+  pub rows-cliques : rowsUp (p .ordering) (p .cliques) ≡ ownRows true p
+  rows-cliques =
+      ap (join (λ q. blockRowsOf (sortedOf (p .ordering) (members q)))) (sym (part-at noClique (p .cliques) 0 (cliqueCount p) (omega arith) ∙ take-all (cliqueCount p) (p .cliques) (le-of-eq refl)))
+      ∙ join-map (λ q. blockRowsOf (sortedOf (p .ordering) (members q))) (cliqueAt p) (below (cliqueCount p))
+      ∙ join-same (λ c. blockRowsOf (sortedOf (p .ordering) (members (cliqueAt p c)))) (λ c. map (pairRow 0) (block p c)) (below (cliqueCount p))
+      (λ c h. ap blockRowsOf (sorted-by p ok (members (cliqueAt p c))))
+
+  pub length-own : (standard : Bool) → length (ownRows standard p) ≡ blockRows p
+  length-own true = standard-rows-count p ok 0
+  length-own false = original-rows-count p ok 0 0
 
 -- the block sizes from the offsets of the cliques
 map-down : (f g : ℕ → ℕ) (k : ℕ) → ((c : ℕ) → c < k → f c ≡ g c) → map f (reverse (below k)) ≡ map g (reverse (below k))
@@ -147,20 +269,15 @@ map-down f g zero h = refl
 map-down f g (suc k) h =
     ap (map f) (reverse-below k) ∙ ap₂ {C = List ℕ} (λ n ns. n ∷ ns) (h k (omega arith)) (map-down f g k (λ c l. h c (omega arith))) ∙ ap (map g) (sym (reverse-below k))
 
-pub starts-order : (standard : Bool) (p : Pattern) → RightPattern p → (ws os : List ℕ) (k : ℕ) → cliqueCount p ≡ k → k ≤ length os → StandAt ws (p .cliques) os
-    → (entries : List ℕ) (entry first : ℕ) → Starts standard entries entry first (downSizes p)
-    → Starts standard entries entry first (map (λ o. length (rowsHere 0 ws (p .ordering) o)) (inRouteOrder standard (take k os)))
-starts-order true p ok ws os k count room st entries entry first h = tt
-starts-order false p ok ws os k count room st entries entry first h = subst (Starts false entries entry first) (sym same) h
+pub sizes-down : (p : Pattern) → RightPattern p → (ws os : List ℕ) (k : ℕ) → cliqueCount p ≡ k → k ≤ length os → StandAt ws (p .cliques) os
+    → map (λ o. length (rowsHere 0 ws (p .ordering) o)) (reverse (take k os)) ≡ downSizes p
+sizes-down p ok ws os k count room st =
+    ap (λ (l : List ℕ). map f (reverse l)) (sym (part-at 0 os 0 k (omega arith))) ∙ ap (map f) (reverse-map (λ c. getD os c 0) (below k))
+    ∙ map-map f (λ c. getD os c 0) (reverse (below k)) ∙ map-down (λ c. f (getD os c 0)) (λ c. triangle (blockSize (cliqueAt p c))) k (λ c l. size c (omega arith))
+    ∙ ap (λ (n : ℕ). map (λ c. triangle (blockSize (cliqueAt p c))) (reverse (below n))) (sym count)
   where
     f : ℕ → ℕ
     f o = length (rowsHere 0 ws (p .ordering) o)
 
     size : (c : ℕ) → c < cliqueCount p → f (getD os c 0) ≡ triangle (blockSize (cliqueAt p c))
     size c l = ap length (rows-block p ok ws os st 0 c l) ∙ length-map (block p c) (pairRow 0) ∙ block-length p ok c l
-
-    same : map f (reverse (take k os)) ≡ downSizes p
-    same =
-        ap (λ (l : List ℕ). map f (reverse l)) (sym (part-at 0 os 0 k (omega arith))) ∙ ap (map f) (reverse-map (λ c. getD os c 0) (below k))
-        ∙ map-map f (λ c. getD os c 0) (reverse (below k)) ∙ map-down (λ c. f (getD os c 0)) (λ c. triangle (blockSize (cliqueAt p c))) k (λ c l. size c (omega arith))
-        ∙ ap (λ (n : ℕ). map (λ c. triangle (blockSize (cliqueAt p c))) (reverse (below n))) (sym count)

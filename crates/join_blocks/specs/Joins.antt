@@ -6,11 +6,12 @@ use mathlib.Core.Bool.{Bool, true, false}
 use mathlib.Core.List.{List, map, reverse}
 use lib.ListN.{length, getD}
 use lib.Ieee.{Float}
-use Rattle.layout.specs.General.Lists.{walk, below}
+use Rattle.layout.specs.General.Lists.{walk, below, join}
 use Rattle.layout.specs.General.Triangle.{triangle}
-use Rattle.layout.specs.Problems.Patterns.{Pattern, cliqueAt, cliqueCount, blockSize}
+use Rattle.layout.specs.Problems.Patterns.{Pattern, Clique, noClique, members, cliqueAt, cliqueCount, blockSize}
 use Rattle.layout.specs.Rows.Blocks.{pairs, pairRow, originalRow, patternRows}
 use Rattle.layout.specs.Joinings.Reverse.{addAt, putAt, columnCount}
+use Rattle.rows_blocks.specs.Vertices.{Sortable, sortedOf}
 use Rattle.rows_blocks.specs.Columns.{columnPairs}
 use Rattle.rows_blocks.specs.Codes.{standardPatternRows}
 
@@ -46,6 +47,14 @@ blockRowsOf vs = map (pairRow 0) (pairs vs)
 abbrev pub ownRows : Bool → Pattern → List ℕ
 ownRows true p = standardPatternRows p 0
 ownRows false p = map originalRow (patternRows p 0 0)
+
+-- the rows of the cliques' blocks, first to last, by the ordering and the cliques instead of the pattern
+abbrev pub rowsUp : List ℕ → List Clique → List ℕ
+rowsUp ordering cs = join (λ q. blockRowsOf (sortedOf ordering (members q))) cs
+
+-- the members of each clique can be sorted
+abbrev pub AllSortable : List ℕ → List Clique → Type 0
+AllSortable ordering cs = (c : ℕ) → c < length cs → Sortable ordering (members (getD cs c noClique))
 
 -- the number of rows of each block, in the compact route's order
 abbrev pub downSizes : Pattern → List ℕ

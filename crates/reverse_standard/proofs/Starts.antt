@@ -1,12 +1,11 @@
--- Where blocks start according to the cone map: the next block, block i, and the blocks after a prefix.
-use Prim.Native.Nat.{ℕ, zero, suc, _+_, _*_, _≤_, _<_}
-use native.Mathlib.Nat.{not-suc-le-zero, le-of-suc-le-suc}
+-- Where blocks start according to the cone map: the next block, and the blocks after a prefix.
+use Prim.Native.Nat.{ℕ, suc, _+_, _*_, _<_}
 use native.Mathlib.Numerals.{add-one}
 use native.Mathlib.Omega.{arith}
 use mathlib.Core.Path.{_≡_, refl, sym, ap, subst, _∙_}
 use mathlib.Core.Bool.{Bool, true, false}
 use mathlib.Core.List.{List, [], _∷_, _++_, map}
-use lib.ListN.{length, getD, take, drop, length-drop}
+use lib.ListN.{length, getD, drop, length-drop}
 use lib.Seq.{drop-drop, getD-drop}
 use Rattle.layout.specs.General.Lists.{sum}
 use Rattle.layout.specs.Cuts.Compact.{MapEntry, wholeCone, mapWords}
@@ -23,21 +22,6 @@ start-here false ws k first n ns h = (h .0, h .1)
 pub starts-next : (standard : Bool) (ws : List ℕ) (k first n : ℕ) (ns : List ℕ) → Starts standard ws k first (n ∷ ns) → Starts standard ws (k + 1) (first + n) ns
 starts-next true ws k first n ns h = tt
 starts-next false ws k first n ns h = subst (λ (j : ℕ). Starts false ws j (first + n) ns) (sym (add-one k)) (h .2)
-
--- block i starts after the rows of the i blocks before it
-pub start-at : (standard : Bool) (ws : List ℕ) (k first : ℕ) (ns : List ℕ) (i : ℕ) → Starts standard ws k first ns → i < length ns
-    → HasEntry standard ws (k + i) × (startOf standard (first + sum (take i ns)) ws (k + i) ≡ first + sum (take i ns))
-start-at true ws k first ns i h l = (tt, refl)
-start-at false ws k first [] i h l = absurd (not-suc-le-zero l)
-start-at false ws k first (n ∷ ns) zero h l =
-    let e : k ≡ k + 0 = omega arith in
-    let f : first ≡ first + 0 = omega arith in
-    (omega (arith, h .0), ap (λ (j : ℕ). getD ws (j * 5 + 3) 0) (sym e) ∙ h .1 ∙ f)
-start-at false ws k first (n ∷ ns) (suc i) h l =
-    let next = start-at false ws (suc k) (first + n) ns i (h .2) (le-of-suc-le-suc l) in
-    let e : suc k + i ≡ k + suc i = omega arith in
-    let f : first + n + sum (take i ns) ≡ first + (n + sum (take i ns)) = omega arith in
-    (omega (arith, next .0), ap (λ (j : ℕ). getD ws (j * 5 + 3) 0) (sym e) ∙ next .1 ∙ f)
 
 -- the starts of concatenated blocks are those of each part, the second part starting after the first
 pub starts-append : (standard : Bool) (ws : List ℕ) (k first : ℕ) (ms ns : List ℕ) → Starts standard ws k first (ms ++ ns)

@@ -2,7 +2,7 @@
 use Prim.Native.Nat.{ℕ, suc, _+_, _*_, _≤_}
 use mathlib.Core.Path.{_≡_}
 use mathlib.Core.Bool.{Bool, true, false}
-use mathlib.Core.List.{List, [], _∷_, reverse}
+use mathlib.Core.List.{List, [], _∷_}
 use lib.ListN.{length, getD}
 use lib.Ieee.{Float, add, binary64}
 
@@ -10,11 +10,6 @@ use lib.Ieee.{Float, add, binary64}
 abbrev pub zValue : Bool → Float → Float → Float
 zValue true old v = add binary64 old v
 zValue false old v = v
-
--- the cliques in the order in which the route walks them
-abbrev pub inRouteOrder : Bool → List ℕ → List ℕ
-inRouteOrder true os = os
-inRouteOrder false os = reverse os
 
 -- where the values of a block start: the counted offset on the standard route, the first row in entry k of the cone map's words on the compact one
 abbrev pub startOf : Bool → ℕ → List ℕ → ℕ → ℕ

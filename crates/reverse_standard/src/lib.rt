@@ -1,10 +1,9 @@
-// What the two routes of a joining do differently. The standard one sums every row from +0.0, walks the cliques from first to last, counts where each
-// block's values start, adds z and averages it where blocks overlap. The compact one walks from last to first, reads the starts from the cone map and
-// keeps the last z. `standard` is true on the standard route.
+// What the two routes of a joining do differently with values. The standard one sums every row from +0.0, counts where each block's values start, adds z
+// and averages it where blocks overlap. The compact one reads the starts from the cone map and keeps the last z. `standard` is true on the standard route.
 ghost use mathlib.Core.Path.{_≡_};
 ghost use mathlib.Core.List.{map};
 ghost use Prim.Native.Nat.{_≤_, _<_};
-ghost use lib.ListN.{length, getD};
+ghost use lib.ListN.{length};
 ghost use mathlib.Core.Bool.{cond};
 ghost use lib.Dec.{ltb};
 ghost use lib.IntN.{pos};
@@ -12,7 +11,7 @@ ghost use lib.Ieee.{add, div, ofInt, binary64};
 ghost use Rattle.layout.specs.General.Lists.{below};
 ghost use Rattle.layout.specs.General.Floats.{zero64, one64};
 ghost use Rattle.reverse_standard.specs.Averages.{averagedBy, shared, Clears};
-ghost use Rattle.reverse_standard.specs.Routes.{zValue, inRouteOrder, startOf, HasEntry};
+ghost use Rattle.reverse_standard.specs.Routes.{zValue, startOf, HasEntry};
 
 // The number of words of a cone map entry, and the index of its first augmented row among them.
 const ENTRY_WORDS: usize = 5;
@@ -57,18 +56,6 @@ pub fn z_value(standard: bool, old: f64, new: f64) -> f64
         return old + new;
     }
     new
-}
-
-// Returns the offset of the `i`-th clique that the route walks: the standard route goes from first to last, the compact one from last to first.
-pub fn offset_at(standard: bool, offsets: &[usize], i: usize) -> usize
-    requires { ⌜ i < length (now offsets) ⌝ }
-    ensures { λ r. ⌜ r ≡ getD (inRouteOrder standard (now (offsets .entry))) i 0 ⌝ }
-{
-    let mut k = offsets.len() - 1 - i;
-    if standard {
-        k = i;
-    }
-    offsets[k]
 }
 
 // Returns where the values of the route's next block start: `counted` on the standard route, the first row in entry `entry` of the cone map on the
