@@ -11,7 +11,7 @@ use borrow.Author.Tests.{le-leb, leb-true, ltb-true, eq-eqb, eqb-true, eqb-false
 use Rattle.layout.specs.General.Lists.{all, sum, isPermutation}
 use Rattle.layout.specs.Problems.Cones.{records, isPsd}
 use Rattle.layout.specs.General.Triangle.{triangle}
-use Rattle.layout.specs.Problems.Patterns.{Read, read, short, andThen, readMany, Pattern, Clique, Head, withCliques, noPattern, readHead, readClique, readCliques, readPattern, readPatterns, patterns, endsRight, wholly}
+use Rattle.layout.specs.Problems.Patterns.{Read, read, short, andThen, readMany, Pattern, Clique, Head, withCliques, noPattern, cliqueCount, readHead, readClique, readCliques, readPattern, readPatterns, patterns, endsRight, wholly}
 use Rattle.layout.specs.Rows.Blocks.{blockRows, overlapRows}
 use Rattle.layout.specs.Checks.{conesBounded, sizesBounded, noCone, namesItsCone, orderingsRight, patternsRead, treeRight, cliquesRight, RightPattern}
 use Rattle.supernode_tree.specs.Reads.{headOf, patternRead, PatternInside, valueOr, isWhole, rest, patternAt}
@@ -167,6 +167,7 @@ module _ (cones ws : List ℕ) (w : Walk) (p : PatternAt) (e : patternRead ws (F
         few-overlaps = few-all (b .overlaps) k (t .few-overlaps) clique-room;
         origin = ap (λ (i : Pattern). i .origIndex) v ∙ sym (ap (λ (i : Head). i .origIndex) same-head);
         size = ap (λ (i : Pattern). i .vertexCount) v ∙ sym (ap (λ (i : Head). i .vertexCount) same-head);
+        count = ap cliqueCount v ∙ n ∙ sym (ap (λ (i : Head). i .cliqueCount) same-head);
         stands = whole-of-cliques (drop (w .next) ws) h (drop (p .cliques) ws) (sym e) (s .stand);
         after = rest-of-cliques (drop (w .next) ws) h (drop (p .cliques) ws) (sym e) ∙ t .after;
         inside = t .inside;
@@ -401,6 +402,7 @@ pub record Summing (ws : List ℕ) (count : ℕ) (w : Walk) (left : ℕ) : Type 
   pub dim : w .dim + sum (map blockRows (patternsFrom ws (w .next) left)) ≡ sum (map blockRows (patternsFrom ws 0 count))
   pub cut : w .cut + sum (map patternRowCount (patternsFrom ws (w .next) left)) ≡ sum (map patternRowCount (patternsFrom ws 0 count))
   pub overlaps : w .overlaps + sum (map overlapRows (patternsFrom ws (w .next) left)) ≡ sum (map overlapRows (patternsFrom ws 0 count))
+  pub cliques : w .cliques + sum (map cliqueCount (patternsFrom ws (w .next) left)) ≡ sum (map cliqueCount (patternsFrom ws 0 count))
 
 -- if the patterns left end with the words, all patterns do, and the totals add up
 abbrev pub Going : ℕ → List ℕ → Walk → ℕ → Type 0
@@ -412,18 +414,20 @@ pub record Bounded (count : ℕ) (w : Walk) (left : ℕ) : Type 0 where
   pub dim : w .dim + left * 8421376 ≤ count * 8421376
   pub cut : w .cut + left * 8421376 ≤ count * 8421376
   pub overlaps : w .overlaps + left * 8421376 ≤ count * 8421376
+  pub cliques : w .cliques + left * 8421376 ≤ count * 8421376
 
 abbrev started : Walk
-started = record { next = 0; least = 0; dim = 0; cut = 0; overlaps = 0 }
+started = record { next = 0; least = 0; dim = 0; cut = 0; overlaps = 0; cliques = 0 }
 
 pub bounded-start : (count : ℕ) → Bounded count started count
-bounded-start count = record { dim = omega arith; cut = omega arith; overlaps = omega arith }
+bounded-start count = record { dim = omega arith; cut = omega arith; overlaps = omega arith; cliques = omega arith }
 
-pub bounded-done : (count : ℕ) (w : Walk) (left : ℕ) → Bounded count w left → (d : ℕ) → d ≡ w .dim → d ≤ count * 8421376
-bounded-done count w left s d e = omega (arith, s .dim)
+pub bounded-done : (count : ℕ) (w : Walk) (left : ℕ) → Bounded count w left → (r : Accepted) → r .dim ≡ w .dim → r .cliques ≡ w .cliques
+    → (r .dim ≤ count * 8421376) × (r .cliques ≤ count * 8421376)
+bounded-done count w left s r d c = (omega (arith, s .dim), omega (arith, s .cliques))
 
 pub going-start : (count : ℕ) (ws : List ℕ) → Going count ws started count
-going-start count ws e = (e, record { dim = omega arith; cut = omega arith; overlaps = omega arith })
+going-start count ws e = (e, record { dim = omega arith; cut = omega arith; overlaps = omega arith; cliques = omega arith })
 
 module _ (cones ws : List ℕ) (count : ℕ) (w : Walk) (b : Blocks) (left : ℕ) (more : 0 < left) (h : PatternHolds cones ws w b) where
   small-sum : (d x : ℕ) → count < 4294967296 → x ≤ 8421376 → d + left * 8421376 ≤ count * 8421376 → d + x < 18446744073709551616
@@ -431,10 +435,12 @@ module _ (cones ws : List ℕ) (count : ℕ) (w : Walk) (b : Blocks) (left : ℕ
 
   pub fits-all : count < 4294967296 → Bounded count w left
       → (w .dim + b .dim < 18446744073709551616) × (w .cut + 32896 < 18446744073709551616) × (w .overlaps + b .overlaps < 18446744073709551616)
+      × (w .cliques + 256 < 18446744073709551616)
   fits-all few s = (
     small-sum (w .dim) (b .dim) few (h .few-rows) (s .dim),
     small-sum (w .cut) 32896 few (lit≤ tt) (s .cut),
     small-sum (w .overlaps) (b .overlaps) few (h .few-overlaps) (s .overlaps),
+    small-sum (w .cliques) 256 few (lit≤ tt) (s .cliques),
   )
 
   module _ (r : Walk) (a : Added ws w b r) where
@@ -446,6 +452,7 @@ module _ (cones ws : List ℕ) (count : ℕ) (w : Walk) (b : Blocks) (left : ℕ
       dim = less-left (w .dim) (b .dim) (r .dim) (a .2) (h .few-rows) (s .dim);
       cut = less-left (w .cut) (triangle (headAt ws (w .next) .vertexCount)) (r .cut) (a .3) (le-trans (triangle-small (headAt ws (w .next) .vertexCount) (h .head .small)) (lit≤ tt)) (s .cut);
       overlaps = less-left (w .overlaps) (b .overlaps) (r .overlaps) (a .4) (h .few-overlaps) (s .overlaps);
+      cliques = less-left (w .cliques) (headAt ws (w .next) .cliqueCount) (r .cliques) (a .5) (le-trans (h .head .few) (lit≤ tt)) (s .cliques);
     }
 
     after : rest (readPattern (drop (w .next) ws)) ≡ drop (r .next) ws
@@ -489,6 +496,7 @@ module _ (cones ws : List ℕ) (count : ℕ) (w : Walk) (b : Blocks) (left : ℕ
               dim = sum-more blockRows (w .dim) (b .dim) (r .dim) _ (a .2) (h .dim) (s .dim);
               cut = sum-more patternRowCount (w .cut) (triangle (headAt ws (w .next) .vertexCount)) (r .cut) _ (a .3) (ap triangle (sym (h .size))) (s .cut);
               overlaps = sum-more overlapRows (w .overlaps) (b .overlaps) (r .overlaps) _ (a .4) (h .overlaps) (s .overlaps);
+              cliques = sum-more cliqueCount (w .cliques) (headAt ws (w .next) .cliqueCount) (r .cliques) _ (a .5) (sym (h .count)) (s .cliques);
             },
           )
 
@@ -497,12 +505,13 @@ sum-done f ws at left n s z h = omega (arith, ap (λ (ps : List Pattern). sum (m
 
 -- if the walk ends at the end of the words, its totals are those over all patterns
 pub going-done : (count : ℕ) (ws : List ℕ) (w : Walk) (left : ℕ) (r : Accepted) → left ≤ 0 → Going count ws w left
-    → w .next ≡ length ws → r .dim ≡ w .dim → r .cut ≡ w .cut → r .overlaps ≡ w .overlaps → Summed (patterns count ws) r
-going-done count ws w left r z go e d c o =
+    → w .next ≡ length ws → r .dim ≡ w .dim → r .cut ≡ w .cut → r .overlaps ≡ w .overlaps → r .cliques ≡ w .cliques → Summed (patterns count ws) r
+going-done count ws w left r z go e d c o k =
     let none : left ≡ 0 = omega arith in
     let (ends, s) = go (ap (λ (k : ℕ). endsRight (readPatterns k (drop (w .next) ws))) none ∙ ends-at [] ws (w .next) ∙ le-leb (length ws) (w .next) (omega arith)) in
     let same = sym (patterns-start ws count ends) in (
       d ∙ sum-done blockRows ws (w .next) left (w .dim) _ z (s .dim) ∙ ap (λ (ps : List Pattern). sum (map blockRows ps)) same,
       c ∙ sum-done patternRowCount ws (w .next) left (w .cut) _ z (s .cut) ∙ ap (λ (ps : List Pattern). sum (map patternRowCount ps)) same,
       o ∙ sum-done overlapRows ws (w .next) left (w .overlaps) _ z (s .overlaps) ∙ ap (λ (ps : List Pattern). sum (map overlapRows ps)) same,
+      k ∙ sum-done cliqueCount ws (w .next) left (w .cliques) _ z (s .cliques) ∙ ap (λ (ps : List Pattern). sum (map cliqueCount ps)) same,
     )

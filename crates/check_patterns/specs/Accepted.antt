@@ -7,7 +7,7 @@ use lib.ListN.{length, getD, drop}
 use lib.Dec.{T, eqb, leb, ltb}
 use Rattle.layout.specs.General.Lists.{has, all, distinct, sum, isPermutation}
 use Rattle.layout.specs.General.Triangle.{triangle}
-use Rattle.layout.specs.Problems.Patterns.{Read, Clique, Head, Pattern, noClique, noPattern, readClique, readHead, readCliques, readPattern, patterns}
+use Rattle.layout.specs.Problems.Patterns.{Read, Clique, Head, Pattern, noClique, noPattern, cliqueCount, readClique, readHead, readCliques, readPattern, patterns}
 use Rattle.layout.specs.Rows.Blocks.{blockRows, overlapRows}
 use Rattle.layout.specs.Checks.{treeRight, cliquesRight, patternsRead}
 use Rattle.supernode_tree.specs.Reads.{headOf, patternRead, PatternInside, valueOr, isWhole, Whole, rest, cliquesFrom, patternAt, cliqueHere}
@@ -27,9 +27,11 @@ use Rattle.check_patterns.specs.declared.Accepted.{Accepted}
 abbrev pub patternRowCount : Pattern → ℕ
 patternRowCount p = triangle (p .vertexCount)
 
--- the totals over the patterns: block rows, rows of decomposed cones, overlaps
+-- the totals over the patterns: block rows, rows of decomposed cones, overlaps, cliques
 abbrev pub Summed : List Pattern → Accepted → Type 0
-Summed ps r = (r .dim ≡ sum (map blockRows ps)) × (r .cut ≡ sum (map patternRowCount ps)) × (r .overlaps ≡ sum (map overlapRows ps))
+Summed ps r =
+    (r .dim ≡ sum (map blockRows ps)) × (r .cut ≡ sum (map patternRowCount ps)) × (r .overlaps ≡ sum (map overlapRows ps))
+    × (r .cliques ≡ sum (map cliqueCount ps))
 
 -- ---- marks
 
@@ -156,6 +158,7 @@ pub record PatternHolds (cones ws : List ℕ) (w : Walk) (b : Blocks) : Type 0 w
   pub few-overlaps : b .overlaps ≤ 8421376
   pub origin : patternAt ws (w .next) .origIndex ≡ headAt ws (w .next) .origIndex
   pub size : patternAt ws (w .next) .vertexCount ≡ headAt ws (w .next) .vertexCount
+  pub count : cliqueCount (patternAt ws (w .next)) ≡ headAt ws (w .next) .cliqueCount
   pub stands : isWhole (readPattern (drop (w .next) ws)) ≡ true
   pub after : rest (readPattern (drop (w .next) ws)) ≡ drop (b .next) ws
   pub inside : b .next ≤ length ws
@@ -170,6 +173,7 @@ abbrev pub Added : List ℕ → Walk → Blocks → Walk → Type 0
 Added ws w b r =
     (r .next ≡ b .next) × (r .least ≡ headAt ws (w .next) .origIndex + 1) × (r .dim ≡ w .dim + b .dim)
     × (r .cut ≡ w .cut + triangle (headAt ws (w .next) .vertexCount)) × (r .overlaps ≡ w .overlaps + b .overlaps)
+    × (r .cliques ≡ w .cliques + headAt ws (w .next) .cliqueCount)
 
 -- the patterns before offset `next` pass checks 5, 6 and 7, so each check of all patterns is that of the `left` patterns from there on, of which
 -- none may name a cone before `least`

@@ -1,4 +1,4 @@
-// Makes checks 5, 6 and 7 on the patterns and counts the rows of their blocks, in two walks over the cliques. Scratch buffers of 256 are enough: a valid
+// Makes checks 5, 6 and 7 on the patterns and counts their cliques and the rows of their blocks, in two walks over the cliques. Scratch buffers of 256 are enough: a valid
 // pattern has at most its cone's 256 vertices; no snode is empty, so there are at most as many cliques; and a separator's members
 // are vertices of later snodes, so no block is larger than its cone.
 ghost use mathlib.Core.Path.{_≡_};
@@ -220,13 +220,14 @@ fn separators_hold(words: &[u32], p: Pattern, offsets: &[usize], marks: &mut [bo
 // ---- patterns
 
 // The totals over the patterns that passed: the offset of the word after them, the least cone number that the next pattern may have, the rows
-// of the blocks, the rows of the decomposed cones, and the overlaps.
+// of the blocks, the rows of the decomposed cones, the overlaps, and the cliques.
 struct Walk {
     next: usize,
     least: u64,
     dim: u64,
     cut: u64,
     overlaps: u64,
+    cliques: u64,
 }
 
 // Checks that the head of the pattern at offset `at` is complete and names a PSD cone of its size, numbered `least` or more, and that the pattern has
@@ -307,8 +308,8 @@ fn pattern_holds(
 
 // Returns the totals `w` with the pattern at `w.next` and its blocks `b` added.
 fn with_pattern(words: &[u32], w: Walk, b: Blocks) -> Walk
-    requires { ⌜ (isWhole (readHead (drop (w .next) (now words))) ≡ true) × (headAt (now words) (w .next) .vertexCount ≤ 256) ⌝ }
-    requires { ⌜ (w .dim + b .dim < 18446744073709551616) × (w .cut + 32896 < 18446744073709551616) × (w .overlaps + b .overlaps < 18446744073709551616) ⌝ }
+    requires { ⌜ (isWhole (readHead (drop (w .next) (now words))) ≡ true) × (headAt (now words) (w .next) .vertexCount ≤ 256) × (headAt (now words) (w .next) .cliqueCount ≤ 256) ⌝ }
+    requires { ⌜ (w .dim + b .dim < 18446744073709551616) × (w .cut + 32896 < 18446744073709551616) × (w .overlaps + b .overlaps < 18446744073709551616) × (w .cliques + 256 < 18446744073709551616) ⌝ }
     ensures { λ r. ⌜ Added (now (words .entry)) w b r ⌝ }
 {
     let p = Pattern::here(words, w.next);
@@ -318,23 +319,25 @@ fn with_pattern(words: &[u32], w: Walk, b: Blocks) -> Walk
         dim: w.dim + b.dim,
         cut: w.cut + rows(p.vertex_count),
         overlaps: w.overlaps + b.overlaps,
+        cliques: w.cliques + p.clique_count as u64,
     }
 }
 
-// Whether checks 5, 6 and 7 pass and, where they do, the rows of the blocks, the rows of the decomposed cones, and the overlaps. The patterns before offset
-// `next` pass; from there on `left` patterns are left, whose first may not name a cone before `least`.
+// Whether checks 5, 6 and 7 pass and, where they do, the rows of the blocks, the rows of the decomposed cones, the overlaps, and the cliques. The patterns
+// before offset `next` pass; from there on `left` patterns are left, whose first may not name a cone before `least`.
 pub struct Accepted {
     pub holds: bool,
     pub dim: u64,
     pub cut: u64,
     pub overlaps: u64,
+    pub cliques: u64,
     pub next: usize,
     pub least: u64,
     pub left: u32,
 }
 
 fn answer(holds: bool, w: Walk, left: u32) -> Accepted
-    ensures { λ r. ⌜ (r .holds ≡ holds) × (r .dim ≡ w .dim) × (r .cut ≡ w .cut) × (r .overlaps ≡ w .overlaps) ⌝ }
+    ensures { λ r. ⌜ (r .holds ≡ holds) × (r .dim ≡ w .dim) × (r .cut ≡ w .cut) × (r .overlaps ≡ w .overlaps) × (r .cliques ≡ w .cliques) ⌝ }
     ensures { λ r. ⌜ (r .next ≡ w .next) × (r .least ≡ w .least) × (r .left ≡ left) ⌝ }
 {
     Accepted {
@@ -342,6 +345,7 @@ fn answer(holds: bool, w: Walk, left: u32) -> Accepted
         dim: w.dim,
         cut: w.cut,
         overlaps: w.overlaps,
+        cliques: w.cliques,
         next: w.next,
         least: w.least,
         left: left,
@@ -353,7 +357,7 @@ fn answer(holds: bool, w: Walk, left: u32) -> Accepted
 pub fn patterns_hold(cones: &[u32], count: u32, words: &[u32]) -> Accepted
     requires { ⌜ conesBounded (now cones) ≡ true ⌝ }
     ensures { λ r. ⌜ r .holds ≡ (patternsRead (now (cones .entry)) count (now (words .entry)) && all treeRight (patterns count (now (words .entry))) && all cliquesRight (patterns count (now (words .entry)))) ⌝ }
-    ensures { λ r. ⌜ (r .holds ≡ true → Summed (patterns count (now (words .entry))) r × (r .dim ≤ count * 8421376)) ⌝ }
+    ensures { λ r. ⌜ (r .holds ≡ true → Summed (patterns count (now (words .entry))) r × (r .dim ≤ count * 8421376) × (r .cliques ≤ count * 8421376)) ⌝ }
     ensures { λ r. ⌜ PassedBefore (now (cones .entry)) count (now (words .entry)) (r .next) (r .least) (r .left) ⌝ }
 {
     let mut marks = [false; scratch::VERTICES];
@@ -365,6 +369,7 @@ pub fn patterns_hold(cones: &[u32], count: u32, words: &[u32]) -> Accepted
         dim: 0,
         cut: 0,
         overlaps: 0,
+        cliques: 0,
     };
     let mut left = count;
     while 0 < left {

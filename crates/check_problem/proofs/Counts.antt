@@ -1,4 +1,4 @@
--- The number of augmented rows and of overlaps of all parts, from sums over the patterns.
+-- The number of augmented rows, of overlaps and of new cones of all parts, from sums over the patterns.
 use Prim.Native.Nat.{ℕ, suc, _+_, _≤_}
 use native.Mathlib.Omega.{arith}
 use mathlib.Core.Path.{_≡_, refl, sym, ap, subst, _∙_}
@@ -9,12 +9,14 @@ use lib.Dec.{T, leb, eqb, eqb→eq, le→leb}
 use borrow.Author.Tests.{eqb-false}
 use Rattle.layout.specs.General.Lists.{all, sum}
 use Rattle.layout.specs.Problems.Cones.{Cone, records, rowCount}
-use Rattle.layout.specs.Problems.Patterns.{Pattern, patterns}
-use Rattle.layout.specs.Rows.Blocks.{Part, whole, cut, partsFrom, blockRows, blockRowCount, coneRows, overlapCount, overlapRows}
+use Rattle.layout.specs.Problems.Patterns.{Pattern, cliqueCount, patterns}
+use Rattle.layout.specs.Rows.Blocks.{Part, whole, cut, partsFrom, blockRows, blockRowCount, coneRows, overlapCount, overlapRows, coneCount}
 use Rattle.layout.specs.Checks.{Sound, namesItsCone}
 use Rattle.layout.specs.Calls.Join.{joinedParts}
 use Rattle.layout.proofs.Lists.Tests.{and-iff, leb-iff, ltb-iff}
-use Rattle.layout.proofs.Rows.Laid.{sound-total}
+use Rattle.layout.proofs.Checks.Accepted.{sound-ends, sound-rise, sound-names}
+use Rattle.layout.proofs.Patterns.PatternWords.{words-of-patterns}
+use Rattle.layout.proofs.Rows.Laid.{sound-total, parts-count}
 use Rattle.sparsity_pattern.specs.Sparsity.{risesFrom}
 use Rattle.sparsity_pattern.proofs.Sparsity.{rises-start}
 use Rattle.check_patterns.specs.Accepted.{patternRowCount}
@@ -25,12 +27,13 @@ cutPatterns [] = []
 cutPatterns (whole i c row ∷ ps) = cutPatterns ps
 cutPatterns (cut i row k p ∷ ps) = p ∷ cutPatterns ps
 
--- in a decomposed cone, the rows of its blocks replace the cone's rows
+-- in a decomposed cone, the rows of its blocks replace the cone's rows, and a cone for each clique replaces the cone
 cut-sums : (ps : List Part) → let cuts = cutPatterns ps in
     (blockRowCount ps + sum (map patternRowCount cuts) ≡ sum (map coneRows ps) + sum (map blockRows cuts)) × (overlapCount ps ≡ sum (map overlapRows cuts))
-cut-sums [] = (refl, refl)
-cut-sums (whole i c row ∷ ps) = let (rows, overlaps) = cut-sums ps in (omega arith, omega arith)
-cut-sums (cut i row k p ∷ ps) = let (rows, overlaps) = cut-sums ps in (omega arith, omega arith)
+    × (coneCount ps + length cuts ≡ length ps + sum (map cliqueCount cuts))
+cut-sums [] = (refl, refl, refl)
+cut-sums (whole i c row ∷ ps) = let (rows, overlaps, cones) = cut-sums ps in (omega arith, omega arith, omega arith)
+cut-sums (cut i row k p ∷ ps) = let (rows, overlaps, cones) = cut-sums ps in (omega arith, omega arith, omega arith)
 
 abbrev origin : Pattern → ℕ
 origin p = p .origIndex
@@ -68,14 +71,16 @@ pub sound-counts : {m : ℕ} {cones : List ℕ} {count : ℕ} {words : List ℕ}
     → let ps = patterns count words in
     let xs = joinedParts cones count words in
     (blockRowCount xs + sum (map patternRowCount ps) ≡ m + sum (map blockRows ps)) × (overlapCount xs ≡ sum (map overlapRows ps))
+    × (coneCount xs + count ≡ length (records cones) + sum (map cliqueCount ps))
 sound-counts {m} {cones} {count} {words} h =
     let ps = patterns count words in
     let xs = joinedParts cones count words in
-    let named = simp and-iff at (h .named) in
     let same : cutPatterns xs ≡ ps =
-    all-cut (records cones) 0 0 0 (records cones) ps (omega arith) (subst T (rises-start (map origin ps)) (named .0 .0 .1)) (named .0 .1) in
-    let (rows, overlaps) = cut-sums xs in
+    all-cut (records cones) 0 0 0 (records cones) ps (omega arith) (subst T (rises-start (map origin ps)) (sound-rise h)) (sound-names h) in
+    let many : length ps ≡ count = words-of-patterns count words (sound-ends h) .1 in
+    let (rows, overlaps, cliques) = cut-sums xs in
     let total = sound-total h in (
       omega (arith, rows, total, ap (λ (qs : List Pattern). sum (map patternRowCount qs)) same, ap (λ (qs : List Pattern). sum (map blockRows qs)) same),
       overlaps ∙ ap (λ (qs : List Pattern). sum (map overlapRows qs)) same,
+      omega (arith, cliques, many, parts-count 0 0 0 (records cones) ps, ap length same, ap (λ (qs : List Pattern). sum (map cliqueCount qs)) same),
     )

@@ -4,7 +4,6 @@ ghost use mathlib.Core.Bool.{true, false, _&&_};
 ghost use Prim.Native.Nat.{_≤_, _<_};
 ghost use lib.Dec.{T};
 ghost use Rattle.layout.specs.Problems.Problem.{problem};
-ghost use Rattle.layout.specs.Rows.Blocks.{blockRowCount, overlapCount};
 ghost use Rattle.layout.specs.General.Lists.{all};
 ghost use Rattle.layout.specs.Problems.Patterns.{patterns};
 ghost use Rattle.layout.specs.Checks.{conesBounded, conesRead, treeRight, cliquesRight};
@@ -13,6 +12,7 @@ ghost use Rattle.layout.specs.Calls.Answers.{problemRefusal};
 ghost use Rattle.layout.specs.Files.FileWords.{unvalued};
 ghost use Rattle.csc.specs.Matrix.{matrix};
 ghost use Rattle.sparsity_pattern.specs.Sparsity.{patternsReadFrom};
+ghost use Rattle.check_problem.specs.Counts.{Counts};
 ghost use Rattle.check_problem.specs.Order.{bounds, matricesRefusal, recordsRefusal, tablesRefusal, patternsRefusal, patternsRefusalFrom, joinedRefusal};
 use constants::limit;
 use constants::refusal;
@@ -139,36 +139,40 @@ fn refuse_patterns(cones: &[u32], least: u64, count: u32, words: &[u32]) -> u32
     refusal::CLIQUES
 }
 
-// The number of the first check that fails, or 0; where it is 0, also the number of block rows and of overlaps.
-pub struct Joined {
+// The number of the first check that fails, or 0; where it is 0, also the number of block rows, of overlaps and of new cones.
+pub struct Outcome {
     pub refusal: u32,
     pub rows: u64,
     pub overlaps: u64,
+    pub cones: u64,
 }
 
-fn refused_as(refusal: u32) -> Joined
+fn refused_as(refusal: u32) -> Outcome
     ensures { λ r. ⌜ r .refusal ≡ refusal ⌝ }
 {
-    Joined {
+    Outcome {
         refusal: refusal,
         rows: 0,
         overlaps: 0,
+        cones: 0,
     }
 }
 
-// Makes checks 5, 6 and 7 once 1 and 4 have passed: a single pass over the patterns decides whether they hold and counts rows and overlaps.
+// Makes checks 5, 6 and 7 once 1 and 4 have passed: a single pass over the patterns decides whether they hold and counts rows, overlaps and cones.
 // Where one fails, checks 5 and 6 are made from the pattern on at which the pass stopped, in order to find the number.
-fn count_patterns(m: u32, cones: &[u32], count: u32, words: &[u32]) -> Joined
+fn count_patterns(m: u32, cones: &[u32], count: u32, words: &[u32]) -> Outcome
     requires { ⌜ (m ≤ 65536) × T (conesBounded (now cones)) × T (conesRead m (now cones)) ⌝ }
     ensures { λ r. ⌜ r .refusal ≡ patternsRefusal (now (cones .entry)) count (now (words .entry)) ⌝ }
-    ensures { λ r. ⌜ (r .refusal ≡ 0 → (r .rows ≡ blockRowCount (joinedParts (now (cones .entry)) count (now (words .entry)))) × (r .overlaps ≡ overlapCount (joinedParts (now (cones .entry)) count (now (words .entry))))) ⌝ }
+    ensures { λ r. ⌜ (r .refusal ≡ 0 → Counts (joinedParts (now (cones .entry)) count (now (words .entry))) r) ⌝ }
 {
     let walk = check_patterns::patterns_hold(cones, count, words);
     if walk.holds {
-        return Joined {
+        let records = supportedcone::record_count(cones);
+        return Outcome {
             refusal: refusal::DONE,
             rows: m as u64 + walk.dim - walk.cut,
             overlaps: walk.overlaps,
+            cones: records as u64 + walk.cliques - count as u64,
         };
     }
     let next = walk.next;
@@ -219,7 +223,52 @@ pub fn check_lengths(
     patterns.refusal
 }
 
-// Makes checks 1 to 7 on a problem, where each cone is read with its own values of α. Returns the number of the first check that fails, or 0.
+// Makes checks 1 to 7 on a problem, where each cone is read with its own values of α. Returns the number of the first check that fails, or 0 with
+// the counts.
+pub fn count_problem(
+    n: u32,
+    m: u32,
+    p_starts: &[u32],
+    p_rows: &[u32],
+    p_values: &[f64],
+    q: &[f64],
+    a_starts: &[u32],
+    a_rows: &[u32],
+    a_values: &[f64],
+    b: &[f64],
+    cones: &[u32],
+    alphas: &[f64],
+    count: u32,
+    words: &[u32],
+) -> Outcome
+    ensures { λ r.
+        let p = problem n m (now («p_starts» .entry)) (now («p_rows» .entry)) (now («p_values» .entry)) (now (q .entry)) (now («a_starts» .entry)) (now («a_rows» .entry)) (now («a_values» .entry)) (now (b .entry)) (now (cones .entry)) (now (alphas .entry)) count (now (words .entry)) in
+        ⌜ r .refusal ≡ problemRefusal p ⌝ }
+    ensures { λ r. ⌜ (r .refusal ≡ 0 → Counts (joinedParts (now (cones .entry)) count (now (words .entry))) r) ⌝ }
+{
+    let tables = check_tables(
+        n,
+        m,
+        p_starts,
+        p_rows,
+        p_values.len(),
+        q.len(),
+        a_starts,
+        a_rows,
+        a_values.len(),
+        b.len(),
+        cones,
+    );
+    if tables != refusal::DONE {
+        return refused_as(tables);
+    }
+    if !supportedcone::alphas_as_many(cones, alphas) {
+        return refused_as(refusal::CONES);
+    }
+    count_patterns(m, cones, count, words)
+}
+
+// Makes the same checks. Returns the number of the first that fails, or 0.
 pub fn check_problem(
     n: u32,
     m: u32,
@@ -240,33 +289,29 @@ pub fn check_problem(
         let p = problem n m (now («p_starts» .entry)) (now («p_rows» .entry)) (now («p_values» .entry)) (now (q .entry)) (now («a_starts» .entry)) (now («a_rows» .entry)) (now («a_values» .entry)) (now (b .entry)) (now (cones .entry)) (now (alphas .entry)) count (now (words .entry)) in
         ⌜ r ≡ problemRefusal p ⌝ }
 {
-    let tables = check_tables(
+    let checked = count_problem(
         n,
         m,
         p_starts,
         p_rows,
-        p_values.len(),
-        q.len(),
+        p_values,
+        q,
         a_starts,
         a_rows,
-        a_values.len(),
-        b.len(),
+        a_values,
+        b,
         cones,
+        alphas,
+        count,
+        words,
     );
-    if tables != refusal::DONE {
-        return tables;
-    }
-    if !supportedcone::alphas_as_many(cones, alphas) {
-        return refusal::CONES;
-    }
-    let patterns = count_patterns(m, cones, count, words);
-    patterns.refusal
+    checked.refusal
 }
 
 // Makes checks 1, 4, 5, 6 and 7 on the inputs of a joining. Returns the number of the first check that fails, or 0 with the counts.
-pub fn check_joined(n: u32, m: u32, cones: &[u32], count: u32, words: &[u32]) -> Joined
+pub fn check_joined(n: u32, m: u32, cones: &[u32], count: u32, words: &[u32]) -> Outcome
     ensures { λ r. ⌜ r .refusal ≡ joinedRefusal n m (now (cones .entry)) count (now (words .entry)) ⌝ }
-    ensures { λ r. ⌜ (r .refusal ≡ 0 → (r .rows ≡ blockRowCount (joinedParts (now (cones .entry)) count (now (words .entry)))) × (r .overlaps ≡ overlapCount (joinedParts (now (cones .entry)) count (now (words .entry))))) ⌝ }
+    ensures { λ r. ⌜ (r .refusal ≡ 0 → Counts (joinedParts (now (cones .entry)) count (now (words .entry))) r) ⌝ }
 {
     if !join_bounded(n, m, cones) {
         return refused_as(refusal::BOUND);

@@ -91,7 +91,7 @@ const RECORD_WORDS: u32 = record::WORDS as u32;
 
 const ENTRY_WORDS: u32 = entry::WORDS as u32;
 
-// Writes the length of each of the cut's outputs to `out`, from the counts that `walk_cones::get_decomposed_dim_and_overlaps` gives.
+// Writes the length of each of the cut's outputs to `out`, from the counts that `check_problem::count_problem` gives.
 pub fn write_sizes(
     route: u32,
     n: u32,

@@ -1,23 +1,18 @@
 -- A route given by its number: the preconditions and results of the writers on each.
 use Prim.Native.Nat.{ℕ, _≤_}
 use native.Mathlib.Omega.{arith}
-use mathlib.Core.Path.{_≡_, refl, sym, ap, subst, _∙_}
+use mathlib.Core.Path.{_≡_, refl, sym, subst, _∙_}
 use mathlib.Core.List.{List, []}
 use lib.ListN.{length}
 use Rattle.layout.specs.General.Lists.{written}
 use Rattle.layout.specs.Problems.Problem.{Problem, Route, withB, compact}
-use Rattle.layout.specs.Rows.Blocks.{Part, blockRowCount}
+use Rattle.layout.specs.Rows.Blocks.{blockRowCount}
 use Rattle.layout.specs.Checks.{layout}
 use Rattle.layout.specs.Calls.Cut.{augmented, Constrained, constrainedOf, HoldsConstrained}
-use Rattle.layout.specs.Calls.Join.{addedCount}
 use Rattle.augment_standard.specs.Constraints.{Accepted}
 use Rattle.cut_standard.specs.Fits.{ConstrainedFits}
 use Rattle.cut_compact.specs.System.{SystemFits}
 use Rattle.cut_compact.proofs.Laws.{few-rows}
-
--- the number of columns that a route adds
-pub added-on : (ps : List Part) {route other : Route} → route ≡ other → addedCount other ps ≡ addedCount route ps
-added-on ps e = ap (λ (r : Route). addedCount r ps) (sym e)
 
 -- a precondition for a route holds for an equal one
 pub fits-on : {p : Problem} {k : ℕ} {out : Constrained} {route other : Route} → route ≡ other → ConstrainedFits route p k out → ConstrainedFits other p k out

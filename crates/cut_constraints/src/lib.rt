@@ -1,42 +1,17 @@
-// Writes A, b, the cones and the cone map of a whole problem that a route accepts, and counts what the writers need.
+// Writes A, b, the cones and the cone map of a whole problem that a route accepts.
 ghost use mathlib.Core.Path.{_≡_};
 ghost use Prim.Native.Nat.{_≤_};
 ghost use lib.ListN.{length};
 ghost use Rattle.layout.specs.General.Lists.{written};
 ghost use Rattle.layout.specs.Problems.Problem.{compact};
 ghost use Rattle.layout.specs.Rows.Blocks.{blockRowCount};
-ghost use Rattle.layout.specs.Checks.{Sound, layout};
-ghost use Rattle.layout.specs.Calls.Join.{joinedParts, addedCount};
+ghost use Rattle.layout.specs.Checks.{layout};
 ghost use Rattle.layout.specs.Calls.Answers.{routeOf};
 ghost use Rattle.layout.specs.Calls.Cut.{augmented, constrained, constrainedOf, HoldsConstrained};
 ghost use Rattle.augment_standard.specs.Constraints.{constraints};
 ghost use Rattle.cut_standard.specs.Fits.{ConstrainedFits};
 use constants::route;
 use rows_tables::Table;
-
-// The number of block rows of a cut, and the number of columns that the route adds.
-pub struct Added {
-    pub rows: usize,
-    pub columns: usize,
-}
-
-// Counts the block rows of accepted `cones` and patterns, and the columns that the route adds: one per block row, or one per overlap if compact.
-pub fn count_added(route: u32, m: u32, cones: &[u32], count: u32, words: &[u32]) -> Added
-    requires { ⌜ Sound m (now cones) count (now words) ⌝ }
-    ensures { λ r. ⌜ (r .rows ≡ blockRowCount (joinedParts (now (cones .entry)) count (now (words .entry)))) × (r .columns ≡ addedCount (routeOf route) (joinedParts (now (cones .entry)) count (now (words .entry)))) ⌝ }
-{
-    let d = walk_cones::get_decomposed_dim_and_overlaps(m, cones, count, words);
-    if route == route::STANDARD {
-        return Added {
-            rows: d.rows as usize,
-            columns: d.rows as usize,
-        };
-    }
-    Added {
-        rows: d.rows as usize,
-        columns: d.overlaps as usize,
-    }
-}
 
 // Writes A, b and the cones of the compact cut of accepted constraints, with `rows` augmented rows and `k` overlaps.
 pub fn decomp_augment_compact(

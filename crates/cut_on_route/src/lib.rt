@@ -50,7 +50,7 @@ pub fn cut(
         alphas_out.len(),
         map_out.len(),
     ];
-    let refused = decomp::refuse_cut(
+    let c = decomp::refuse_cut(
         route,
         n,
         m,
@@ -68,10 +68,9 @@ pub fn cut(
         pattern_words,
         &rooms,
     );
-    if refused != 0 {
-        return refused;
+    if c.refusal != 0 {
+        return c.refusal;
     }
-    let d = cut_constraints::count_added(route, m, cones, pattern_count, pattern_words);
     cut_standard::write_objective(
         n,
         p_starts,
@@ -79,7 +78,7 @@ pub fn cut(
         p_values,
         q,
         alphas,
-        d.columns,
+        c.columns,
         p_starts_out,
         p_rows_out,
         p_values_out,
@@ -97,8 +96,8 @@ pub fn cut(
         cones,
         pattern_count,
         pattern_words,
-        d.rows,
-        d.columns,
+        c.rows,
+        c.columns,
         a_starts_out,
         a_rows_out,
         a_values_out,

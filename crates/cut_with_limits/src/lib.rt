@@ -2,7 +2,6 @@
 ghost use Rattle.layout.specs.Problems.Problem.{problem};
 ghost use Rattle.layout.specs.Calls.Cut.{outputs};
 ghost use Rattle.layout.specs.Calls.CutBetween.{limits, CutBetween};
-use constants::route;
 use rows_tables::Table;
 
 // Cuts a problem on the compact route with the right sides `low` and `high`, and writes both augmented b, value by value to the same rows. Returns
@@ -56,7 +55,7 @@ pub fn cut_between(
         map_out.len(),
     ];
     let high_room = b_high_out.len();
-    let refused = side_refusals::refuse_between(
+    let c = side_refusals::refuse_between(
         n,
         m,
         p_starts,
@@ -75,10 +74,9 @@ pub fn cut_between(
         &rooms,
         high_room,
     );
-    if refused != 0 {
-        return refused;
+    if c.refusal != 0 {
+        return c.refusal;
     }
-    let d = cut_constraints::count_added(route::COMPACT, m, cones, pattern_count, pattern_words);
     cut_standard::write_objective(
         n,
         p_starts,
@@ -86,7 +84,7 @@ pub fn cut_between(
         p_values,
         q,
         alphas,
-        d.columns,
+        c.columns,
         p_starts_out,
         p_rows_out,
         p_values_out,
@@ -106,8 +104,8 @@ pub fn cut_between(
         cones,
         pattern_count,
         pattern_words,
-        d.rows,
-        d.columns,
+        c.rows,
+        c.columns,
         a_starts_out,
         a_rows_out,
         a_values_out,

@@ -2,7 +2,6 @@
 ghost use Rattle.layout.specs.Problems.Problem.{problem};
 ghost use Rattle.layout.specs.Calls.Cut.{outputs};
 ghost use Rattle.layout.specs.Calls.CutMany.{CutMany};
-use constants::route;
 use rows_tables::Table;
 
 // Cuts a problem with `count` right sides, one after another in `b`, on the compact route: writes everything but b once, and the augmented b of each
@@ -54,7 +53,7 @@ pub fn cut_many(
         alphas_out.len(),
         map_out.len(),
     ];
-    let refused = side_refusals::refuse_many(
+    let c = side_refusals::refuse_many(
         count,
         n,
         m,
@@ -72,10 +71,9 @@ pub fn cut_many(
         pattern_words,
         &rooms,
     );
-    if refused != 0 {
-        return refused;
+    if c.refusal != 0 {
+        return c.refusal;
     }
-    let d = cut_constraints::count_added(route::COMPACT, m, cones, pattern_count, pattern_words);
     cut_standard::write_objective(
         n,
         p_starts,
@@ -83,7 +81,7 @@ pub fn cut_many(
         p_values,
         q,
         alphas,
-        d.columns,
+        c.columns,
         p_starts_out,
         p_rows_out,
         p_values_out,
@@ -104,8 +102,8 @@ pub fn cut_many(
         cones,
         pattern_count,
         pattern_words,
-        d.rows,
-        d.columns,
+        c.rows,
+        c.columns,
         a_starts_out,
         a_rows_out,
         a_values_out,

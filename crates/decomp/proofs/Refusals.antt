@@ -1,15 +1,17 @@
--- The refusal number of `sizes` from checks 1 to 7, the route's checks and the output length, and bounds on the counts of an accepted problem.
+-- The refusal number of `count_sizes` from checks 1 to 7, the route's checks and the output length, bounds on the counts of an accepted problem, and what
+-- is handed on with either.
 use Prim.Native.Nat.{ℕ, _≤_}
-use mathlib.Core.Path.{_≡_, sym, ap, _∙_}
+use mathlib.Core.Path.{_≡_, sym, ap, subst, _∙_}
 use mathlib.Core.Bool.{Bool}
 use mathlib.Core.List.{List, [], _∷_}
 use lib.ListN.{length}
 use Rattle.layout.specs.General.Lists.{written}
-use Rattle.layout.specs.Problems.Problem.{Problem, Route}
-use Rattle.layout.specs.Rows.Blocks.{blockRowCount, overlapCount, coneCount}
+use Rattle.layout.specs.Problems.Problem.{Problem, Route, standard, compact}
+use Rattle.layout.specs.Rows.Blocks.{Part, blockRowCount, overlapCount, coneCount}
 use Rattle.layout.specs.Checks.{layout, check10, check, firstFailing, refusal}
 use Rattle.layout.specs.Calls.Answers.{orElse, roomRefusal, routeOf, onRoute, problemRefusal}
-use Rattle.layout.specs.Calls.Sizes.{sizesRefusal}
+use Rattle.layout.specs.Calls.Join.{addedCount}
+use Rattle.layout.specs.Calls.Sizes.{sizesRefusal, Sizes}
 use Rattle.layout.specs.Calls.Cut.{sizes}
 use Rattle.check_problem.proofs.Order.{problem-then-route, first-given}
 use Rattle.chordal_info.specs.Sizes.{entriesKept, Fitting, routeSizes}
@@ -17,6 +19,8 @@ use Rattle.chordal_info.specs.Routes.{routeTests}
 use Rattle.chordal_info.proofs.Routes.{entries-check}
 use Rattle.chordal_info.proofs.Sizes.{route-sizes}
 use Rattle.chordal_info.proofs.Counts.{accepted-fitting}
+use Rattle.decomp.specs.Added.{columnsAdded, Adds}
+use Rattle.decomp.specs.declared.Counted.{Counted}
 use Rattle.decomp.proofs.Answers.{on-route}
 
 -- the first failing one of checks 9 and 10, or 0
@@ -65,3 +69,20 @@ module _ (route : Route) (p : Problem) (ok : refusal route p ≡ 0) (rows overla
       → new ≡ written (routeSizes route (p .n) (p .m) (length (p .P .values)) (entriesKept route (p .n) (p .A .starts) (p .A .rows)) (length (p .alphas)) rows overlaps cones) old
       → new ≡ written (sizes route p) old
   sizes-written old w = w ∙ ap (λ (l : List ℕ). written l old) counts-sizes
+
+-- ---- what is handed on
+
+-- the promise of a number is that of an equal one
+pub sizes-said : {k : ℕ} {p : Problem} {before after : List ℕ} {x r : ℕ} → r ≡ x → Sizes k p before after x → Sizes k p before after r
+sizes-said {k} {p} {before} {after} e h = subst (Sizes k p before after) (sym e) h
+
+-- a refusal is handed on without counts
+pub handed-on : {k : ℕ} {p : Problem} {before after : List ℕ} {x : ℕ} {r : Counted} → r .refusal ≡ x → (x ≡ 0 → ⊥)
+    → Sizes k p before after x → Sizes k p before after (r .refusal) × (r .refusal ≡ 0 → Adds (routeOf k) (layout p) r)
+handed-on e n h = (sizes-said e h, λ z. absurd (n (sym e ∙ z)))
+
+-- the columns that a route adds to a problem with these parts
+pub columns-added : (route : Route) (ps : List Part) {rows overlaps : ℕ} → rows ≡ blockRowCount ps → overlaps ≡ overlapCount ps
+    → columnsAdded route rows overlaps ≡ addedCount route ps
+columns-added standard ps e f = e
+columns-added compact ps e f = f

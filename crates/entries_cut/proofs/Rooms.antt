@@ -81,10 +81,6 @@ pub objective-cut-by : (p : Problem) (r k : ℕ) → (r ≡ 0 → k ≡ overlapC
 objective-cut-by p zero k e h = objective-cut p compact k (e refl) h
 objective-cut-by p (suc r) k e h = record { p-starts = h .p-starts; p-rows = h .p-rows; p-values = h .p-values; q = h .q; alphas = h .alphas }
 
--- the outputs also have room for the number of columns that was counted
-pub fit-counted : {p : Problem} {k : ℕ} {out : Constrained} → k ≡ overlapCount (layout p) → ConstrainedFits compact p (overlapCount (layout p)) out → ConstrainedFits compact p k out
-fit-counted {p} {k} {out} e h = subst (λ (j : ℕ). ConstrainedFits compact p j out) (sym e) h
-
 module _ {E : Type 0} (p : Problem) (before : EntryTables E) (e : cutRefusal compact p (entryRooms before) ≡ 0) where
   ok : Taken compact p (entryRooms before)
   ok = taken 1 p (entryRooms before) e .1
@@ -92,10 +88,10 @@ module _ {E : Type 0} (p : Problem) (before : EntryTables E) (e : cutRefusal com
   there : Rooms p (entryRooms before) compact (overlapCount (layout p))
   there = on-route p (entryRooms before) compact ok (overlapCount (layout p)) refl
 
-  pub constraints-fit : ConstrainedFits compact (only p) (overlapCount (layout p)) (before .constrained)
-  constraints-fit =
-      let room = there .1 in
-      record { accepted = accepted-constraints p (entryRooms before) compact ok (overlapCount (layout p)) refl; added = refl; starts = room .0; rows = room .1; values = room .2; slacks = room .3; cones = room .4 }
+  pub constraints-fit : (k : ℕ) → k ≡ overlapCount (layout p) → ConstrainedFits compact (only p) k (before .constrained)
+  constraints-fit k f =
+      let room = on-route p (entryRooms before) compact ok k f .1 in
+      record { accepted = accepted-constraints p (entryRooms before) compact ok k f; added = f; starts = room .0; rows = room .1; values = room .2; slacks = room .3; cones = room .4 }
 
   pub objective-fits : (k : ℕ) → k ≡ overlapCount (layout p) → ObjectiveFits (p .n) k (uncut p) (before .objective)
   objective-fits k f =

@@ -5,7 +5,7 @@ ghost use Prim.Native.Nat.{_*_, _≤_};
 ghost use lib.ListN.{length};
 ghost use Rattle.layout.specs.General.Lists.{written};
 ghost use Rattle.layout.specs.Problems.Problem.{problem, compact};
-ghost use Rattle.layout.specs.Rows.Blocks.{blockRowCount, overlapCount};
+ghost use Rattle.layout.specs.Rows.Blocks.{blockRowCount};
 ghost use Rattle.layout.specs.Checks.{Sound, layout};
 ghost use Rattle.layout.specs.Cuts.Compact.{coneMap, mapWords};
 ghost use Rattle.layout.specs.Calls.Cut.{augmented, cutRefusal, objective, HoldsObjective, constrained, constrainedOf, HoldsConstrained};
@@ -13,6 +13,7 @@ ghost use Rattle.layout.specs.Calls.Join.{joinedParts};
 ghost use Rattle.layout.specs.Calls.CutEntries.{entryOutputs, CutEntries};
 ghost use Rattle.entries_map.specs.Entries.{structOf};
 ghost use Rattle.augment_standard.specs.Constraints.{constraints};
+ghost use Rattle.decomp.specs.Added.{Adds};
 ghost use Rattle.cut_standard.specs.Fits.{extended, ObjectiveFits, ConstrainedFits};
 ghost use Rattle.entries_cut.specs.Rooms.{roomWords, unlessRefused};
 use constants::entry;
@@ -20,6 +21,7 @@ use constants::limit;
 use constants::refusal;
 use constants::route;
 use constants::scratch;
+use decomp::Counted;
 use entries_map::ConeMapEntry;
 use rows_tables::Table;
 
@@ -34,7 +36,7 @@ fn words_of(entries: usize) -> usize
 }
 
 // Makes checks 1 to 11 in order, for outputs of the given lengths (`*_room`, that of the map in entries). Returns the number of the
-// first check that fails, or 0.
+// first check that fails, or 0 with the counts.
 fn refuse_cut_compact(
     n: u32,
     m: u32,
@@ -61,10 +63,10 @@ fn refuse_cut_compact(
     cones_room: usize,
     alphas_room: usize,
     map_room: usize,
-) -> u32
+) -> Counted
     ensures { λ r.
         let p = problem n m (now («p_starts» .entry)) (now («p_rows» .entry)) (now («p_values» .entry)) (now (q .entry)) (now («a_starts» .entry)) (now («a_rows» .entry)) (now («a_values» .entry)) (now (b .entry)) (now (cones .entry)) (now (alphas .entry)) count (now (words .entry)) in
-        ⌜ r ≡ cutRefusal compact p («p_starts_room» ∷ «p_rows_room» ∷ «p_values_room» ∷ «q_room» ∷ «a_starts_room» ∷ «a_rows_room» ∷ «a_values_room» ∷ «b_room» ∷ «cones_room» ∷ «alphas_room» ∷ «map_room» * 5 ∷ []) ⌝ }
+        ⌜ (r .refusal ≡ cutRefusal compact p («p_starts_room» ∷ «p_rows_room» ∷ «p_values_room» ∷ «q_room» ∷ «a_starts_room» ∷ «a_rows_room» ∷ «a_values_room» ∷ «b_room» ∷ «cones_room» ∷ «alphas_room» ∷ «map_room» * 5 ∷ [])) × (r .refusal ≡ 0 → Adds compact (layout p) r) ⌝ }
 {
     let rooms = [
         p_starts_room,
@@ -99,9 +101,9 @@ fn refuse_cut_compact(
     )
 }
 
-// Writes A, b and the cones of the cut, or nothing where `refused` is not 0. Returns the number of columns added, 0 where refused.
+// Writes A, b and the cones of the cut, with the rows and columns that `c` counts, or nothing where it refuses.
 fn cut_constraints(
-    refused: u32,
+    c: Counted,
     n: u32,
     m: u32,
     a_starts: &[u32],
@@ -116,20 +118,19 @@ fn cut_constraints(
     a_values_out: &mut [f64],
     b_out: &mut [f64],
     cones_out: &mut [u32],
-) -> usize
+)
     requires { let p = constraints n m (now «a_starts») (now «a_rows») (now «a_values») (now b) (now cones) count (now words) in
         let out = constrained (now «a_starts_out») (now «a_rows_out») (now «a_values_out») (now «b_out») (now «cones_out») in
-        ⌜ (refused ≡ 0 → ConstrainedFits compact p (overlapCount (layout p)) out) ⌝ }
-    ensures { λ r.
+        ⌜ (c .refusal ≡ 0 → ConstrainedFits compact p (c .columns) out × (c .rows ≡ blockRowCount (layout p))) ⌝ }
+    ensures { λ _.
         let p = constraints n m (now («a_starts» .entry)) (now («a_rows» .entry)) (now («a_values» .entry)) (now (b .entry)) (now (cones .entry)) count (now (words .entry)) in
         let before = constrained (now («a_starts_out» .entry)) (now («a_rows_out» .entry)) (now («a_values_out» .entry)) (now («b_out» .entry)) (now («cones_out» .entry)) in
         let after = constrained (now («a_starts_out» .exit)) (now («a_rows_out» .exit)) (now («a_values_out» .exit)) (now («b_out» .exit)) (now («cones_out» .exit)) in
-        ⌜ (refused ≡ 0 → r ≡ overlapCount (layout p)) × HoldsConstrained refused (constrainedOf (augmented compact p)) before after ⌝ }
+        ⌜ HoldsConstrained (c .refusal) (constrainedOf (augmented compact p)) before after ⌝ }
 {
-    if refused != refusal::DONE {
-        return 0;
+    if c.refusal != refusal::DONE {
+        return;
     }
-    let d = cut_constraints::count_added(route::COMPACT, m, cones, count, words);
     cut_constraints::decomp_augment_compact(
         n,
         m,
@@ -140,21 +141,19 @@ fn cut_constraints(
         cones,
         count,
         words,
-        d.rows,
-        d.columns,
+        c.rows,
+        c.columns,
         a_starts_out,
         a_rows_out,
         a_values_out,
         b_out,
         cones_out,
     );
-    d.columns
 }
 
-// Writes P, q and the exponents of the cut, with `columns` added columns, or nothing where `refused` is not 0.
+// Writes P, q and the exponents of the cut, with the columns that `c` counts, or nothing where it refuses.
 fn cut_objective(
-    refused: u32,
-    columns: usize,
+    c: Counted,
     n: u32,
     p_starts: &[u32],
     p_rows: &[u32],
@@ -169,14 +168,14 @@ fn cut_objective(
 )
     requires { let o = objective (now «p_starts») (now «p_rows») (now «p_values») (now q) (now alphas) in
         let out = objective (now «p_starts_out») (now «p_rows_out») (now «p_values_out») (now «q_out») (now «alphas_out») in
-        ⌜ (refused ≡ 0 → ObjectiveFits n columns o out) ⌝ }
+        ⌜ (c .refusal ≡ 0 → ObjectiveFits n (c .columns) o out) ⌝ }
     ensures { λ _.
         let o = objective (now («p_starts» .entry)) (now («p_rows» .entry)) (now («p_values» .entry)) (now (q .entry)) (now (alphas .entry)) in
         let before = objective (now («p_starts_out» .entry)) (now («p_rows_out» .entry)) (now («p_values_out» .entry)) (now («q_out» .entry)) (now («alphas_out» .entry)) in
         let after = objective (now («p_starts_out» .exit)) (now («p_rows_out» .exit)) (now («p_values_out» .exit)) (now («q_out» .exit)) (now («alphas_out» .exit)) in
-        ⌜ HoldsObjective refused (extended columns o) before after ⌝ }
+        ⌜ HoldsObjective (c .refusal) (extended (c .columns) o) before after ⌝ }
 {
-    if refused != refusal::DONE {
+    if c.refusal != refusal::DONE {
         return;
     }
     cut_standard::write_objective(
@@ -186,7 +185,7 @@ fn cut_objective(
         p_values,
         q,
         alphas,
-        columns,
+        c.columns,
         p_starts_out,
         p_rows_out,
         p_values_out,
@@ -195,21 +194,21 @@ fn cut_objective(
     );
 }
 
-// Writes the words of the cone map to `table`, or nothing where `refused` is not 0. Returns the number of entries, 0 where refused.
+// Writes the words of the cone map to `table`, or nothing where `c` refuses. Returns the number of entries, 0 where refused.
 fn map_table(
-    refused: u32,
+    c: Counted,
     m: u32,
     cones: &[u32],
     count: u32,
     words: &[u32],
     table: &mut [u32],
 ) -> usize
-    requires { ⌜ (refused ≡ 0 → Sound m (now cones) count (now words) × (blockRowCount (joinedParts (now cones) count (now words)) ≤ 262144)) × (81920 ≤ length (now table)) ⌝ }
+    requires { ⌜ (c .refusal ≡ 0 → Sound m (now cones) count (now words) × (blockRowCount (joinedParts (now cones) count (now words)) ≤ 262144)) × (81920 ≤ length (now table)) ⌝ }
     ensures { λ r.
-        let es = unlessRefused refused (coneMap (joinedParts (now (cones .entry)) count (now (words .entry)))) in
+        let es = unlessRefused (c .refusal) (coneMap (joinedParts (now (cones .entry)) count (now (words .entry)))) in
         ⌜ (r ≡ length es) × (now (table .exit) ≡ written (mapWords es) (now (table .entry))) ⌝ }
 {
-    if refused != refusal::DONE {
+    if c.refusal != refusal::DONE {
         return 0;
     }
     rows_tables::write_table(Table::ConeMap, m, cones, count, words, table) / entry::WORDS
@@ -250,7 +249,7 @@ pub fn cut_compact_entries(
         let after = entryOutputs (now («p_starts_out» .exit)) (now («p_rows_out» .exit)) (now («p_values_out» .exit)) (now («q_out» .exit)) (now («a_starts_out» .exit)) (now («a_rows_out» .exit)) (now («a_values_out» .exit)) (now («b_out» .exit)) (now («cones_out» .exit)) (now («alphas_out» .exit)) (now («map_out» .exit)) in
         ⌜ CutEntries structOf p before after r ⌝ }
 {
-    let refused = refuse_cut_compact(
+    let c = refuse_cut_compact(
         n,
         m,
         p_starts,
@@ -277,8 +276,8 @@ pub fn cut_compact_entries(
         alphas_out.len(),
         map_out.len(),
     );
-    let columns = cut_constraints(
-        refused,
+    cut_constraints(
+        c,
         n,
         m,
         a_starts,
@@ -295,8 +294,7 @@ pub fn cut_compact_entries(
         cones_out,
     );
     cut_objective(
-        refused,
-        columns,
+        c,
         n,
         p_starts,
         p_rows,
@@ -310,7 +308,7 @@ pub fn cut_compact_entries(
         alphas_out,
     );
     let mut table = [0u32; scratch::MAP_WORDS];
-    let entries = map_table(refused, m, cones, count, words, &mut table);
+    let entries = map_table(c, m, cones, count, words, &mut table);
     entries_maps::write_entries(&table, entries, map_out);
-    refused
+    c.refusal
 }

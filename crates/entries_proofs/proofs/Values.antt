@@ -61,7 +61,7 @@ of-type 𝓤 H A W D x is e = subst (λ (τs : List Ty). Typed τs (D .val x ∷
 abbrev pub own-of : (D : Datum) → D .R .Denot → Fml
 own-of D x = D .R .own x (D .val x ∷ [])
 
-abbrev pub u32-of : ℕ → Fml
+abbrev u32-of : ℕ → Fml
 u32-of n = own-of u32s n
 
 abbrev pub usize-of : ℕ → Fml

@@ -45,7 +45,7 @@ module _ (p : Problem) (low high : List Float) (out : Limits) (done : limitsRefu
   split : (limitsFailing p low high ≡ 0) × (room ≡ 0)
   split = orElse-zero (limitsFailing p low high) (cond (roomy (limitsSizes p low high) (limitsRooms out)) 0 11) .0 done
 
-  pub low-accepted : refusal compact (withB p low) ≡ 0
+  low-accepted : refusal compact (withB p low) ≡ 0
   low-accepted = limits-iff p low high .0 (split .0) .0
 
   high-accepted : refusal compact (withB p high) ≡ 0
@@ -119,7 +119,7 @@ module _ (count : ℕ) (p : Problem) (out : Augmented) (done : sidesRefusal p co
   each : (k : ℕ) → k < count → refusal compact (withSide p (p .b) k) ≡ 0
   each = sides-iff p count (p .b) .0 (both .0) .1
 
-  pub first-accepted : refusal compact (withSide p (p .b) 0) ≡ 0
+  first-accepted : refusal compact (withSide p (p .b) 0) ≡ 0
   first-accepted = each 0 (fit .some)
 
   sides-room : T (roomy (set (sizes compact first) 7 (count * length (compactB first))) (lengths out))

@@ -1,4 +1,5 @@
-// The refusals, in order, of the compact cut with more than one right side: with low and high limits, and with many right sides.
+// The refusals, in order, of the compact cut with more than one right side: with low and high limits, and with many right sides. Each comes with the
+// counts that the cut's writers need.
 ghost use mathlib.Core.Path.{_≡_};
 ghost use mathlib.Core.Bool.{cond};
 ghost use Prim.Native.Nat.{_*_, _≤_, _<_};
@@ -8,11 +9,14 @@ ghost use Rattle.layout.specs.Problems.Problem.{problem, compact};
 ghost use Rattle.layout.specs.Calls.Answers.{roomy};
 ghost use Rattle.layout.specs.Calls.CutBetween.{limitsRefusal};
 ghost use Rattle.layout.specs.Calls.CutMany.{side, sidesRefusal};
+ghost use Rattle.layout.specs.Calls.Join.{joinedParts};
 ghost use Rattle.chordal_info.specs.Sizes.{entriesKept, routeSizes, Fitting};
+ghost use Rattle.decomp.specs.Added.{Adds};
 ghost use Rattle.side_numbers.specs.Order.{withAnother};
 ghost use Rattle.side_refusals.specs.Tables.{TablesFew};
 use constants::refusal;
 use constants::route;
+use decomp::Counted;
 
 // The index of b among the outputs of a cut.
 const RIGHT_SIDE: usize = 7;
@@ -69,7 +73,7 @@ fn check_limits_rooms(needs: &[u32], rooms: &[usize], high_room: usize) -> u32
 }
 
 // Makes checks 1 to 11 of the cut with limits in order. `rooms` holds the length of each output of the cut with `low`, `high_room` that of
-// the augmented `high`. Returns the number of the first check that fails, or 0.
+// the augmented `high`. Returns the number of the first check that fails, or 0 with the counts.
 pub fn refuse_between(
     n: u32,
     m: u32,
@@ -88,13 +92,14 @@ pub fn refuse_between(
     words: &[u32],
     rooms: &[usize],
     high_room: usize,
-) -> u32
+) -> Counted
     requires { ⌜ 8 ≤ length (now rooms) ⌝ }
     ensures { λ r.
         let p = problem n m (now («p_starts» .entry)) (now («p_rows» .entry)) (now («p_values» .entry)) (now (q .entry)) (now («a_starts» .entry)) (now («a_rows» .entry)) (now («a_values» .entry)) (now (low .entry)) (now (cones .entry)) (now (alphas .entry)) count (now (words .entry)) in
-        ⌜ r ≡ limitsRefusal p (now (low .entry)) (now (high .entry)) (withAnother «high_room» (now (rooms .entry))) ⌝ }
+        ⌜ r .refusal ≡ limitsRefusal p (now (low .entry)) (now (high .entry)) (withAnother «high_room» (now (rooms .entry))) ⌝ }
+    ensures { λ r. ⌜ (r .refusal ≡ 0 → Adds compact (joinedParts (now (cones .entry)) count (now (words .entry))) r) ⌝ }
 {
-    let r = check_problem::check_problem(
+    let d = check_problem::count_problem(
         n,
         m,
         p_starts,
@@ -110,16 +115,15 @@ pub fn refuse_between(
         count,
         words,
     );
-    let t = side_numbers::refuse_limits(r, m, low, high);
+    let t = side_numbers::refuse_limits(d.refusal, m, low, high);
     if t != 0 {
-        return t;
+        return decomp::refused_as(t);
     }
-    let d = walk_cones::get_decomposed_dim_and_overlaps(m, cones, count, words);
     let c = check_covered::sides_right(m, cones, count, words, a_rows, low, high, 0, 1);
     let rows_refused = chordal_info::rows_refusal(route::COMPACT, m, d.rows, d.overlaps);
     let u = side_numbers::refuse_limits_rows(c, rows_refused);
     if u != 0 {
-        return u;
+        return decomp::refused_as(u);
     }
     let mut needs = [0u32; 11];
     cut_needs(
@@ -134,7 +138,12 @@ pub fn refuse_between(
         d.cones,
         &mut needs,
     );
-    check_limits_rooms(&needs, rooms, high_room)
+    let short = check_limits_rooms(&needs, rooms, high_room);
+    Counted {
+        refusal: short,
+        rows: d.rows as usize,
+        columns: d.overlaps as usize,
+    }
 }
 
 // ---- many right sides
@@ -149,7 +158,7 @@ fn check_sides_rooms(needs: &mut [u32], count: u32, rooms: &[usize]) -> u32
 }
 
 // Makes checks 1 to 11 for 1 to 64 right sides in order; `first` is the first of `sides`. For further sides only check 9 depends on the
-// values. Returns the number of the first check that fails, or 0.
+// values. Returns the number of the first check that fails, or 0 with the counts.
 fn refuse_sides(
     count: u32,
     n: u32,
@@ -168,13 +177,14 @@ fn refuse_sides(
     pattern_count: u32,
     words: &[u32],
     rooms: &[usize],
-) -> u32
+) -> Counted
     requires { ⌜ (1 ≤ count) × (count ≤ 64) × (now first ≡ side m 0 (now sides)) ⌝ }
     ensures { λ r.
         let p = problem n m (now («p_starts» .entry)) (now («p_rows» .entry)) (now («p_values» .entry)) (now (q .entry)) (now («a_starts» .entry)) (now («a_rows» .entry)) (now («a_values» .entry)) (now (sides .entry)) (now (cones .entry)) (now (alphas .entry)) «pattern_count» (now (words .entry)) in
-        ⌜ r ≡ sidesRefusal p count (now (sides .entry)) (now (rooms .entry)) ⌝ }
+        ⌜ r .refusal ≡ sidesRefusal p count (now (sides .entry)) (now (rooms .entry)) ⌝ }
+    ensures { λ r. ⌜ (r .refusal ≡ 0 → Adds compact (joinedParts (now (cones .entry)) «pattern_count» (now (words .entry))) r) ⌝ }
 {
-    let r = check_problem::check_problem(
+    let d = check_problem::count_problem(
         n,
         m,
         p_starts,
@@ -190,11 +200,10 @@ fn refuse_sides(
         pattern_count,
         words,
     );
-    let t = side_numbers::refuse_lengths(r, m, count, sides.len());
+    let t = side_numbers::refuse_lengths(d.refusal, m, count, sides.len());
     if t != 0 {
-        return t;
+        return decomp::refused_as(t);
     }
-    let d = walk_cones::get_decomposed_dim_and_overlaps(m, cones, pattern_count, words);
     let c = check_covered::sides_right(
         m,
         cones,
@@ -209,7 +218,7 @@ fn refuse_sides(
     let rows_refused = chordal_info::rows_refusal(route::COMPACT, m, d.rows, d.overlaps);
     let u = side_numbers::refuse_first(c, rows_refused);
     if u != 0 {
-        return u;
+        return decomp::refused_as(u);
     }
     let mut needs = [0u32; 11];
     cut_needs(
@@ -225,11 +234,16 @@ fn refuse_sides(
         &mut needs,
     );
     let room = check_sides_rooms(&mut needs, count, rooms);
-    side_numbers::refuse_further(c, room)
+    let further = side_numbers::refuse_further(c, room);
+    Counted {
+        refusal: further,
+        rows: d.rows as usize,
+        columns: d.overlaps as usize,
+    }
 }
 
 // Makes checks 1 to 11 of the cut with `count` right sides in order, `count` itself included. Returns the number of the first check that
-// fails, or 0.
+// fails, or 0 with the counts.
 pub fn refuse_many(
     count: u32,
     n: u32,
@@ -247,14 +261,15 @@ pub fn refuse_many(
     pattern_count: u32,
     words: &[u32],
     rooms: &[usize],
-) -> u32
+) -> Counted
     ensures { λ r.
         let p = problem n m (now («p_starts» .entry)) (now («p_rows» .entry)) (now («p_values» .entry)) (now (q .entry)) (now («a_starts» .entry)) (now («a_rows» .entry)) (now («a_values» .entry)) (now (sides .entry)) (now (cones .entry)) (now (alphas .entry)) «pattern_count» (now (words .entry)) in
-        ⌜ r ≡ sidesRefusal p count (now (sides .entry)) (now (rooms .entry)) ⌝ }
+        ⌜ r .refusal ≡ sidesRefusal p count (now (sides .entry)) (now (rooms .entry)) ⌝ }
+    ensures { λ r. ⌜ (r .refusal ≡ 0 → Adds compact (joinedParts (now (cones .entry)) «pattern_count» (now (words .entry))) r) ⌝ }
 {
     let counted = side_numbers::check_count(count);
     if counted != 0 {
-        return counted;
+        return decomp::refused_as(counted);
     }
     let size = side_numbers::first_size(m, sides.len());
     refuse_sides(

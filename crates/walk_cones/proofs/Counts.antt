@@ -30,6 +30,3 @@ pattern-few p ok few = blocks-few (p .cliques) (blocks-small p 256 ok few)
 pub counted : (f : Part → ℕ) (x : Part) (before later : List Part) (n r s : ℕ) → before ≡ x ∷ later → r ≡ f x
     → n + sum (map f before) ≡ s → n + r + sum (map f later) ≡ s
 counted f x before later n r s e g h = omega (arith, ap (λ (l : List Part). sum (map f l)) e)
-
-pub counted-all : (f : Part → ℕ) (before : List Part) (n s : ℕ) → before ≡ [] → n + sum (map f before) ≡ s → n ≡ s
-counted-all f before n s e h = omega (arith, ap (λ (l : List Part). sum (map f l)) e)

@@ -1,7 +1,7 @@
 // The walk over the cones of a problem in order, each not decomposed (whole) or cut by its pattern. All other walks are built on this one.
 ghost use mathlib.Core.Path.{_≡_};
 ghost use Rattle.layout.specs.Problems.Cones.{records};
-ghost use Rattle.layout.specs.Rows.Blocks.{parts, blockRowCount, overlapCount, coneCount};
+ghost use Rattle.layout.specs.Rows.Blocks.{parts};
 ghost use Rattle.layout.specs.Problems.Patterns.{patterns, cliqueCount};
 ghost use Rattle.layout.specs.Checks.{Sound, RightPattern};
 ghost use Rattle.supernode_tree.specs.Reads.{patternAt};
@@ -86,49 +86,4 @@ pub fn clique_count(words: &[u32], at: usize) -> u32
 {
     let p = supernode_tree::Pattern::here(words, at);
     p.clique_count
-}
-
-// The total number of rows of the whole cones and the blocks, the number of overlaps among them, and the number of new cones.
-pub struct Dims {
-    pub rows: u64,
-    pub overlaps: u64,
-    pub cones: u64,
-}
-
-// Counts the block rows, overlaps and new cones that cutting accepted `cones` by their `count` patterns gives.
-pub fn get_decomposed_dim_and_overlaps(m: u32, cones: &[u32], count: u32, words: &[u32]) -> Dims
-    requires { ⌜ Sound m (now cones) count (now words) ⌝ }
-    ensures { λ r. ⌜ r .rows ≡ blockRowCount (parts (records (now (cones .entry))) (patterns count (now (words .entry)))) ⌝ }
-    ensures { λ r. ⌜ r .overlaps ≡ overlapCount (parts (records (now (cones .entry))) (patterns count (now (words .entry)))) ⌝ }
-    ensures { λ r. ⌜ r .cones ≡ coneCount (parts (records (now (cones .entry))) (patterns count (now (words .entry)))) ⌝ }
-{
-    let mut place = Place::start(m, cones, count, words);
-    let mut dim = 0u64;
-    let mut overlaps = 0u64;
-    let mut new_cones = 0u64;
-    loop {
-        let met = place.next(m, cones, words);
-        match met {
-            Met::Whole(rows, next) => {
-                dim += rows as u64;
-                new_cones += 1;
-                place = next;
-            }
-            Met::Cut(at, next) => {
-                let cliques = clique_count(words, at);
-                let blocks = supernode_tree::get_decomposed_dim_and_overlaps(words, at);
-                dim += blocks.dim;
-                overlaps += blocks.overlaps;
-                new_cones += cliques as u64;
-                place = next;
-            }
-            Met::Done => {
-                return Dims {
-                    rows: dim,
-                    overlaps: overlaps,
-                    cones: new_cones,
-                };
-            }
-        }
-    }
 }

@@ -39,7 +39,7 @@ module _ (e : tie.Else1) where
 
   counted : let a = start checked .args in
       Counted (joinedParts (a .cones .now) (a .count) (a .words .now)) (checked .check-joined .result .rows) (checked .check-joined .result .overlaps)
-  counted = checked .check-joined .ensures .1 (e .if1 .left)
+  counted = let g = checked .check-joined .ensures .1 (e .if1 .left) in (g .0, g .1)
 
 -- the number that `refuse_counted` returned
 answered : (g : tie.After-refuse-counted) → g .refuse-counted .result ≡ number (start (checked (g .before)))

@@ -63,7 +63,7 @@ with-pattern-requires c κs =
     let l = c .before .before .before .before .before .before .before .before .before .before .loop in
     let s = c .before .before .before .before .before .before .before .before .before .before .before .before .before .args in
     let h = found c in
-    ((h .head .stands, h .head .small), fits-all (s .cones .now) (s .words .now) (s .count) (l .w) (c .before .before .before .before .before .pattern-holds .result) (l .left) (c .before .before .before .before .before .before .before .before .before .loop-test .taken) h (omega arith) (l .inv .4))
+    ((h .head .stands, h .head .small, h .head .few), fits-all (s .cones .now) (s .words .now) (s .count) (l .w) (c .before .before .before .before .before .pattern-holds .result) (l .left) (c .before .before .before .before .before .before .before .before .before .loop-test .taken) h (omega arith) (l .inv .4))
 
 sub-left : tie.Need-sub-left Inv-loop μ-loop
 sub-left c = c .before .before .before .before .before .before .before .before .before .before .loop-test .taken
@@ -96,12 +96,14 @@ returns-2 c =
     let l = c .before .before .before .loop in
     let s = c .before .before .before .before .before .before .args in
     let a = c .answer2 .ensures in
+    let few = bounded-done (s .count) (l .w) (l .left) (l .inv .4) (c .answer2 .result) (a .0 .1) (a .0 .4) in
     let end = c .before .before .loop-test .left in (
       a .0 .0 ∙ passed-done (l .inv .6) end,
       (
         λ z. (
-          going-done (s .count) (s .words .now) (l .w) (l .left) (c .answer2 .result) end (l .inv .5) (eqb-true _ _ (sym (a .0 .0) ∙ z)) (a .0 .1) (a .0 .2) (a .0 .3),
-          bounded-done (s .count) (l .w) (l .left) (l .inv .4) (c .answer2 .result .dim) (a .0 .1),
+          going-done (s .count) (s .words .now) (l .w) (l .left) (c .answer2 .result) end (l .inv .5) (eqb-true _ _ (sym (a .0 .0) ∙ z)) (a .0 .1) (a .0 .2) (a .0 .3) (a .0 .4),
+          few .0,
+          few .1,
         ),
         passed-same (l .inv .6) (a .1 .0) (a .1 .1) (a .1 .2),
       ),

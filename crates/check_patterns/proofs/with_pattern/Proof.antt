@@ -33,17 +33,24 @@ add-t9 c = omega (arith, c .before .rows .ensures .1, c .before .before .before 
 add-t10 : tie.Need-add-t10
 add-t10 c = omega (arith, c .before .before .before .before .before .before .before .before .before .pre .1 .2)
 
+cast-t11 : tie.Need-cast-t11
+cast-t11 c = omega arith
+
+add-t12 : tie.Need-add-t12
+add-t12 c = let s = c .before .before .before .before .before .before .before .before .before .before .before in omega (arith, ap (λ (h : Head). h .cliqueCount) (same (c .before .before .before .before .before .before .before .before .before)), s .pre .0 .2, s .pre .1 .3)
+
 returns : tie.Need-returns
 returns c =
-    let w = c .before .before .before .before .before .before .before .before .before .args .w in
-    let h = same (c .before .before .before .before .before .before .before) in (
+    let w = c .before .before .before .before .before .before .before .before .before .before .before .args .w in
+    let h = same (c .before .before .before .before .before .before .before .before .before) in (
       refl,
       ap (λ (i : Head). i .origIndex + 1) h,
       refl,
-      ap (λ (i : ℕ). w .cut + i) (c .before .before .before .rows .ensures .0 ∙ ap (λ (i : Head). triangle (i .vertexCount)) h),
+      ap (λ (i : ℕ). w .cut + i) (c .before .before .before .before .before .rows .ensures .0 ∙ ap (λ (i : Head). triangle (i .vertexCount)) h),
       refl,
+      ap (λ (i : Head). w .cliques + i .cliqueCount) h,
     )
 
 pub with-pattern-spec : {M : Type 1} → statement M
 with-pattern-spec =
-    tie.close (tie.spec here-requires cast-t5 add-t6 add-t7 rows-requires add-t9 add-t10 returns)
+    tie.close (tie.spec here-requires cast-t5 add-t6 add-t7 rows-requires add-t9 add-t10 cast-t11 add-t12 returns)

@@ -1,11 +1,14 @@
 use Prim.Native.Nat.{_+_}
 use mathlib.Core.Path.{_≡_, sym, _∙_}
 use mathlib.Core.Bool.{_&&_}
+use lib.ListN.{length}
 use Rattle.layout.specs.General.Lists.{all}
 use Rattle.layout.specs.Problems.Patterns.{patterns}
-use Rattle.layout.specs.Checks.{patternsRead, treeRight, cliquesRight}
+use Rattle.layout.specs.Problems.Cones.{records}
+use Rattle.layout.specs.Checks.{Sound, patternsRead, treeRight, cliquesRight}
 use Rattle.layout.proofs.Lists.Tests.{and-iff, passed, passes}
-use Rattle.layout.specs.Rows.Blocks.{blockRowCount, overlapCount}
+use Rattle.layout.proofs.Checks.Accepted.{sound-cone-count}
+use Rattle.layout.specs.Rows.Blocks.{blockRowCount, overlapCount, coneCount}
 use Rattle.layout.specs.Calls.Join.{joinedParts}
 use Rattle.check_problem.specs.Order.{patternsRefusal}
 use Rattle.check_problem.proofs.Checked.{patterns-sound}
@@ -29,25 +32,43 @@ none-refused c =
     let (read, trees) = and-iff (patternsRead (a .cones .now) (a .count) (a .words .now)) (all treeRight ps) .0 both in
     rw (passed (patternsRead (a .cones .now) (a .count) (a .words .now)) read, passed (all treeRight ps) trees, passed (all cliquesRight ps) cliques)
 
+sound : (c : tie.Then1) → let a = c .before .before .before .before .args in Sound (a .m) (a .cones .now) (a .count) (a .words .now)
+sound c =
+    let s = c .before .before .before .before in
+    patterns-sound (s .args .m) (s .args .cones .now) (s .args .count) (s .args .words .now) (s .pre .0) (s .pre .1) (s .pre .2) (none-refused c)
+
 counts : (c : tie.Then1) → let a = c .before .before .before .before .args in
     let w = c .before .patterns-hold .result in
     let ps = joinedParts (a .cones .now) (a .count) (a .words .now) in
-    (blockRowCount ps + w .cut ≡ a .m + w .dim) × (w .overlaps ≡ overlapCount ps)
+    (blockRowCount ps + w .cut ≡ a .m + w .dim) × (w .overlaps ≡ overlapCount ps) × (coneCount ps + a .count ≡ length (records (a .cones .now)) + w .cliques)
 counts c =
-    let s = c .before .before .before .before in
-    let a = s .args in
     let sums = c .before .patterns-hold .ensures .1 .0 (c .if1 .taken) .0 in
-    let h = sound-counts (patterns-sound (a .m) (a .cones .now) (a .count) (a .words .now) (s .pre .0) (s .pre .1) (s .pre .2) (none-refused c)) in
-    (omega (arith, h .0, sums .0, sums .1), sums .2 ∙ sym (h .1))
+    let h = sound-counts (sound c) in
+    (omega (arith, h .0, sums .0, sums .1), sums .2 ∙ sym (h .1), omega (arith, h .2, sums .3))
 
-add-t9 : tie.Need-add-t9
-add-t9 c = let s = c .before .before .before .before .before in omega (arith, s .fits, s .pre .0, c .before .before .patterns-hold .ensures .1 .0 (c .before .if1 .taken) .1)
+record-count-requires : tie.Need-record-count-requires
+record-count-requires c κs = tt
 
-sub-t10 : tie.Need-sub-t10
-sub-t10 c = omega (arith, counts (c .before .before) .0)
+add-t10 : tie.Need-add-t10
+add-t10 c = let s = c .before .before .before .before .before .before in omega (arith, s .fits, s .pre .0, c .before .before .before .patterns-hold .ensures .1 .0 (c .before .before .if1 .taken) .1)
+
+sub-t11 : tie.Need-sub-t11
+sub-t11 c = omega (arith, counts (c .before .before .before) .0)
+
+add-t13 : tie.Need-add-t13
+add-t13 c =
+    let t = c .before .before .before .before in
+    let s = t .before .before .before .before in
+    omega (arith, s .fits, sound-cone-count (sound t), c .before .before .before .record-count .ensures, t .before .patterns-hold .ensures .1 .0 (t .if1 .taken) .2)
+
+sub-t15 : tie.Need-sub-t15
+sub-t15 c = omega (arith, counts (c .before .before .before .before) .2, c .before .before .before .record-count .ensures)
 
 returns : tie.Need-returns
-returns c = let (rows, overlaps) = counts (c .before .before) in (sym (none-refused (c .before .before)), λ _. (omega arith, overlaps))
+returns c =
+    let t = c .before .before .before .before in
+    let (rows, overlaps, cones) = counts t in
+    (sym (none-refused t), λ _. (omega arith, overlaps, omega (arith, c .before .before .before .record-count .ensures)))
 
 -- the patterns before the one where the pass stopped
 stopped : (c : tie.Else1) → let a = c .before .before .before .before .args in
@@ -94,8 +115,11 @@ count-patterns-spec =
     tie.close
     (tie.spec
     patterns-hold-requires
-    add-t9
-    sub-t10
+    record-count-requires
+    add-t10
+    sub-t11
+    add-t13
+    sub-t15
     returns
     mul-refuse-patterns
     sub-refuse-patterns

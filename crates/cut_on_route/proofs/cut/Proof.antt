@@ -2,8 +2,9 @@ use mathlib.Core.Path.{_≡_, refl, sym, _∙_}
 use Rattle.layout.specs.Problems.Problem.{Problem, problem}
 use Rattle.layout.specs.Calls.Cut.{Augmented, lengths, cutRefusal, outputs}
 use Rattle.layout.specs.Calls.Answers.{onRoute, routeOf}
-use Rattle.layout.proofs.Checks.Accepted.{accepted-sound}
+use Rattle.layout.specs.Checks.{layout}
 use Rattle.layout.proofs.Promises.{cut-refused, Taken, taken}
+use Rattle.decomp.specs.Added.{Adds}
 use Rattle.cut_laws.proofs.Rooms.{objective-fits, constrained-fits, map-fits, objective-cut, constrained-cut, map-cut}
 use Rattle.cut_on_route.proofs.cut.Statement.{statement}
 use Rattle.cut_on_route.proofs.cut.Tie as tie
@@ -32,34 +33,33 @@ refuse-cut-requires c κs = tt
 
 returns : tie.Need-returns
 returns c =
-    let s = start (c .before) in
-    cut-refused (c .before .refuse-cut .result) (c .if1 .taken) (s .args .route) (given s) (lent s) (c .before .refuse-cut .ensures)
+    let k = c .before .before in
+    let s = start k in
+    cut-refused (k .refuse-cut .result .refusal) (c .if1 .taken) (s .args .route) (given s) (lent s) (k .refuse-cut .ensures .0)
 
 -- nothing is refused
-number : (c : tie.Else1) → let s = start (c .before) in 0 ≡ onRoute (s .args .route) (λ rt. cutRefusal rt (given s) (lengths (lent s)))
-number c = sym (c .if1 .left) ∙ c .before .refuse-cut .ensures
+number : (c : tie.Else1) → let s = start (c .before .before) in 0 ≡ onRoute (s .args .route) (λ rt. cutRefusal rt (given s) (lengths (lent s)))
+number c = sym (c .if1 .left) ∙ c .before .before .refuse-cut .ensures .0
 
-accepted : (c : tie.Else1) → let s = start (c .before) in Taken (routeOf (s .args .route)) (given s) (lengths (lent s))
-accepted c = let s = start (c .before) in taken (s .args .route) (given s) (lengths (lent s)) (sym (number c)) .1
+accepted : (c : tie.Else1) → let s = start (c .before .before) in Taken (routeOf (s .args .route)) (given s) (lengths (lent s))
+accepted c = let s = start (c .before .before) in taken (s .args .route) (given s) (lengths (lent s)) (sym (number c)) .1
 
-count-added-requires : tie.Need-count-added-requires
-count-added-requires c κs =
-    let s = c .before .before .before .before .before .before .before .before .before .before .before .before .before .before .before .before .before .before .before .before .before .before .before .before .before in
-    accepted-sound (routeOf (s .args .route)) (given s) (accepted c .0)
+counts : (c : tie.Else1) → let s = start (c .before .before) in Adds (routeOf (s .args .route)) (layout (given s)) (c .before .before .refuse-cut .result)
+counts c = c .before .before .refuse-cut .ensures .1 (c .if1 .left)
 
 write-objective-requires : tie.Need-write-objective-requires
 write-objective-requires c κs =
     let d = c .before .before .before .before .before in
     let s = c .before .before .before .before .before .before .before .before .before .before .before .before .before .before .before .before .before .before .before .before .before .before .before .before .before .before .before .before .before .before .before in
-    objective-fits (given s) (lent s) (routeOf (s .args .route)) (accepted (d .before)) (d .count-added .result .columns) (d .count-added .ensures .1)
+    objective-fits (given s) (lent s) (routeOf (s .args .route)) (accepted d) (d .before .before .refuse-cut .result .columns) (counts d .1)
 
 write-constraints-requires : tie.Need-write-constraints-requires
 write-constraints-requires c κs =
     let d = c .before .before .before .before .before .before .before .before .before .before .before .before .before .before .before .before .before .before .before .before .before .before in
     let s = c .before .before .before .before .before .before .before .before .before .before .before .before .before .before .before .before .before .before .before .before .before .before .before .before .before .before .before .before .before .before .before .before .before .before .before .before .before .before .before .before .before .before .before .before .before .before .before .before in
-    let n = d .count-added .result in
+    let n = d .before .before .refuse-cut .result in
     let r = routeOf (s .args .route) in
-    (constrained-fits (given s) (lent s) r (accepted (d .before)) (n .columns) (d .count-added .ensures .1), d .count-added .ensures .0, map-fits (given s) (lent s) r (accepted (d .before)) (n .columns) (d .count-added .ensures .1))
+    (constrained-fits (given s) (lent s) r (accepted d) (n .columns) (counts d .1), counts d .0, map-fits (given s) (lent s) r (accepted d) (n .columns) (counts d .1))
 
 same-length : tie.Need-same-length
 same-length c = c .before .before .before .before .before .before .before .before .before .before .before .before .before .before .before .before .before .before .before .before .before .before .before .before .before .before .before .before .before .write-objective .kept .1 .1 .1 .1 .1 .1 .1 .0
@@ -101,9 +101,9 @@ returns-2 c =
     let p = given s in
     let r = routeOf (s .args .route) in
     let w = c .before .before .before .before .before .before .before .before .before .before .before .before .write-constraints .ensures in record {
-      number = number (d .before);
+      number = number d;
       tables = record {
-        objective = objective-cut p r (d .count-added .result .columns) (d .count-added .ensures .1) (c .before .before .before .before .before .before .before .before .before .before .before .before .before .before .before .before .before .before .before .before .before .before .before .before .before .before .before .before .before .write-objective .ensures);
+        objective = objective-cut p r (d .before .before .refuse-cut .result .columns) (counts d .1) (c .before .before .before .before .before .before .before .before .before .before .before .before .before .before .before .before .before .before .before .before .before .before .before .before .before .before .before .before .before .write-objective .ensures);
         constrained = constrained-cut p r (w .0);
         map = map-cut p r (s .args .map-out .now) (w .1);
       };
@@ -116,7 +116,6 @@ cut-spec =
     slice-aggregate-refuse-cut
     refuse-cut-requires
     returns
-    count-added-requires
     write-objective-requires
     write-constraints-requires
     same-length

@@ -2,15 +2,16 @@ use mathlib.Core.Path.{_≡_, refl, sym, _∙_}
 use lib.Dec.{lit≤}
 use Rattle.layout.specs.Problems.Problem.{Problem, problem, compact}
 use Rattle.layout.specs.Calls.Cut.{lengths, outputs, constrainedOf}
-use Rattle.layout.proofs.Checks.Accepted.{accepted-sound}
+use Rattle.layout.specs.Checks.{layout}
 use Rattle.layout.proofs.Promises.{Taken}
 use Rattle.layout.specs.Calls.CutBetween.{limitsRefusal, Limits, limits, limitsRooms}
 use Rattle.augment_standard.proofs.Constraints.{renamed, sound}
 use Rattle.cut_compact.proofs.Laws.{few-rows}
 use Rattle.cut_constraints.proofs.Routes.{system-fits}
+use Rattle.decomp.specs.Added.{Adds}
 use Rattle.cut_laws.proofs.Rooms.{only, objective-fits, constrained-fits, map-fits, objective-cut}
 use Rattle.cut_standard.specs.Fits.{ConstrainedFits}
-use Rattle.side_laws.proofs.Written.{between-refused, low-accepted, low-taken, both-fit, low-written, high-written}
+use Rattle.side_laws.proofs.Written.{between-refused, low-taken, both-fit, low-written, high-written}
 use Rattle.cut_with_limits.proofs.cut_between.Statement.{statement}
 use Rattle.cut_with_limits.proofs.cut_between.Tie as tie
 
@@ -38,37 +39,35 @@ refuse-between-requires c κs = lit≤ tt
 
 returns : tie.Need-returns
 returns c =
-    let s = start (c .before) in
-    between-refused (c .before .refuse-between .result) (c .if1 .taken) (given s) (s .args .low .now) (s .args .high .now) (lent s) (c .before .refuse-between .ensures)
+    let s = start (c .before .before) in
+    between-refused (c .before .before .refuse-between .result .refusal) (c .if1 .taken) (given s) (s .args .low .now) (s .args .high .now) (lent s) (c .before .before .refuse-between .ensures .0)
 
 -- nothing is refused
-number : (c : tie.Else1) → let s = start (c .before) in 0 ≡ limitsRefusal (given s) (s .args .low .now) (s .args .high .now) (limitsRooms (lent s))
-number c = sym (c .if1 .left) ∙ c .before .refuse-between .ensures
+number : (c : tie.Else1) → let s = start (c .before .before) in 0 ≡ limitsRefusal (given s) (s .args .low .now) (s .args .high .now) (limitsRooms (lent s))
+number c = sym (c .if1 .left) ∙ c .before .before .refuse-between .ensures .0
 
-taken : (c : tie.Else1) → let s = start (c .before) in Taken compact (given s) (lengths (lent s .cut))
-taken c = let s = start (c .before) in low-taken (given s) (s .args .low .now) (s .args .high .now) (lent s) (sym (number c))
+taken : (c : tie.Else1) → let s = start (c .before .before) in Taken compact (given s) (lengths (lent s .cut))
+taken c = let s = start (c .before .before) in low-taken (given s) (s .args .low .now) (s .args .high .now) (lent s) (sym (number c))
 
--- the added rows and columns are counted, and the outputs have room for them
-fits : (d : tie.After-count-added) → let s = start (d .before .before) in ConstrainedFits compact (only (given s)) (d .count-added .result .columns) (constrainedOf (lent s .cut))
-fits d = let s = start (d .before .before) in constrained-fits (given s) (lent s .cut) compact (taken (d .before)) (d .count-added .result .columns) (d .count-added .ensures .1)
+counts : (d : tie.Else1) → Adds compact (layout (given (start (d .before .before)))) (d .before .before .refuse-between .result)
+counts d = d .before .before .refuse-between .ensures .1 (d .if1 .left)
 
-count-added-requires : tie.Need-count-added-requires
-count-added-requires c κs =
-    let s = start (c .before) in
-    accepted-sound compact (given s) (low-accepted (given s) (s .args .low .now) (s .args .high .now) (lent s) (sym (number c)))
+-- the outputs have room for the added rows and columns
+fits : (d : tie.Else1) → let s = start (d .before .before) in ConstrainedFits compact (only (given s)) (d .before .before .refuse-between .result .columns) (constrainedOf (lent s .cut))
+fits d = let s = start (d .before .before) in constrained-fits (given s) (lent s .cut) compact (taken d) (d .before .before .refuse-between .result .columns) (counts d .1)
 
 write-objective-requires : tie.Need-write-objective-requires
 write-objective-requires c κs =
     let d = c .before .before .before .before .before in
     let s = start (d .before .before) in
-    objective-fits (given s) (lent s .cut) compact (taken (d .before)) (d .count-added .result .columns) (d .count-added .ensures .1)
+    objective-fits (given s) (lent s .cut) compact (taken d) (d .before .before .refuse-between .result .columns) (counts d .1)
 
 write-compact-a-requires : tie.Need-write-compact-a-requires
 write-compact-a-requires c κs =
     let d = c .before .before .before .before .before .before .before .before .before .before .before .before .before .before .before .before .before .before .before .before .before in
     let s = start (d .before .before) in
-    let e = d .count-added .ensures .0 in
-    (system-fits (fits d) e, both-fit (given s) (s .args .low .now) (s .args .high .now) (lent s) (sym (number (d .before))) (d .count-added .result .rows) e)
+    let e = counts d .0 in
+    (system-fits (fits d) e, both-fit (given s) (s .args .low .now) (s .args .high .now) (lent s) (sym (number d)) (d .before .before .refuse-between .result .rows) e)
 
 write-table-requires : tie.Need-write-table-requires
 write-table-requires c κs =
@@ -79,7 +78,7 @@ write-table-requires-2 : tie.Need-write-table-requires-2
 write-table-requires-2 c κs =
     let d = c .before .before .before .before .before .before .before .before .before .before .before .before .before .before .before .before .before .before .before .before .before .before .before .before .before .before .before .before .before .before .before .before .before .before .before .before .before in
     let s = start (d .before .before) in
-    (sound (fits d .accepted), (few-rows (fits d .accepted) refl, map-fits (given s) (lent s .cut) compact (taken (d .before)) (d .count-added .result .columns) (d .count-added .ensures .1)))
+    (sound (fits d .accepted), (few-rows (fits d .accepted) refl, map-fits (given s) (lent s .cut) compact (taken d) (d .before .before .refuse-between .result .columns) (counts d .1)))
 
 same-length : tie.Need-same-length
 same-length c = c .before .before .before .before .before .before .before .before .before .before .before .before .before .before .before .before .before .before .before .before .before .before .before .before .before .before .before .before .before .before .before .before .before .before .write-objective .kept .1 .1 .1 .1 .1 .1 .1 .0
@@ -123,11 +122,11 @@ returns-2 c =
     let s = start (d .before .before) in
     let a = s .args in
     let p = given s in
-    let done = sym (number (d .before)) in
+    let done = sym (number d) in
     let w = c .before .before .before .before .before .before .before .before .before .before .before .before .before .before .before .before .before .before .write-compact-a .ensures in record {
-      number = number (d .before);
+      number = number d;
       tables = record {
-        objective = objective-cut p compact (d .count-added .result .columns) (d .count-added .ensures .1) (c .before .before .before .before .before .before .before .before .before .before .before .before .before .before .before .before .before .before .before .before .before .before .before .before .before .before .before .before .before .before .before .before .before .before .write-objective .ensures);
+        objective = objective-cut p compact (d .before .before .refuse-between .result .columns) (counts d .1) (c .before .before .before .before .before .before .before .before .before .before .before .before .before .before .before .before .before .before .before .before .before .before .before .before .before .before .before .before .before .before .before .before .before .before .write-objective .ensures);
         constrained = record {
           a-starts = w .0 .a-starts;
           a-rows = w .0 .a-rows;
@@ -147,7 +146,6 @@ cut-between-spec =
     slice-aggregate-refuse-between
     refuse-between-requires
     returns
-    count-added-requires
     write-objective-requires
     write-compact-a-requires
     write-table-requires

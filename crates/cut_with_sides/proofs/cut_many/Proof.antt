@@ -3,14 +3,15 @@ use native.Mathlib.Omega.{arith}
 use Rattle.layout.specs.Problems.Problem.{Problem, problem, compact}
 use Rattle.layout.specs.Calls.Cut.{Augmented, lengths, outputs, constrainedOf}
 use Rattle.layout.specs.Calls.CutMany.{withSide, sidesRefusal}
-use Rattle.layout.proofs.Checks.Accepted.{accepted-sound}
+use Rattle.layout.specs.Checks.{layout}
 use Rattle.layout.proofs.Promises.{Taken}
 use Rattle.augment_standard.proofs.Constraints.{sound}
 use Rattle.cut_standard.specs.Fits.{ConstrainedFits}
 use Rattle.cut_compact.proofs.Laws.{few-rows}
 use Rattle.cut_constraints.proofs.Routes.{system-fits}
+use Rattle.decomp.specs.Added.{Adds}
 use Rattle.cut_laws.proofs.Rooms.{only, objective-fits, constrained-fits, map-fits, objective-cut}
-use Rattle.side_laws.proofs.Written.{many-refused, first-accepted, first-taken, sides-fit}
+use Rattle.side_laws.proofs.Written.{many-refused, first-taken, sides-fit}
 use Rattle.cut_with_sides.proofs.cut_many.Statement.{statement}
 use Rattle.cut_with_sides.proofs.cut_many.Tie as tie
 
@@ -42,30 +43,28 @@ refuse-many-requires c κs = tt
 
 returns : tie.Need-returns
 returns c =
-    let s = start (c .before) in
-    many-refused (c .before .refuse-many .result) (c .if1 .taken) (s .args .count) (given s) (lent s) (c .before .refuse-many .ensures)
+    let s = start (c .before .before) in
+    many-refused (c .before .before .refuse-many .result .refusal) (c .if1 .taken) (s .args .count) (given s) (lent s) (c .before .before .refuse-many .ensures .0)
 
 -- nothing is refused
-number : (c : tie.Else1) → let s = start (c .before) in 0 ≡ sidesRefusal (given s) (s .args .count) (s .args .b .now) (lengths (lent s))
-number c = sym (c .if1 .left) ∙ c .before .refuse-many .ensures
+number : (c : tie.Else1) → let s = start (c .before .before) in 0 ≡ sidesRefusal (given s) (s .args .count) (s .args .b .now) (lengths (lent s))
+number c = sym (c .if1 .left) ∙ c .before .before .refuse-many .ensures .0
 
-taken : (c : tie.Else1) → let s = start (c .before) in Taken compact (single s) (lengths (lent s))
-taken c = let s = start (c .before) in first-taken (s .args .count) (given s) (lent s) (sym (number c))
+taken : (c : tie.Else1) → let s = start (c .before .before) in Taken compact (single s) (lengths (lent s))
+taken c = let s = start (c .before .before) in first-taken (s .args .count) (given s) (lent s) (sym (number c))
 
--- the added rows and columns are counted, and the outputs have room for them
-fits : (d : tie.After-count-added) → let s = start (d .before .before) in ConstrainedFits compact (only (single s)) (d .count-added .result .columns) (constrainedOf (lent s))
-fits d = let s = start (d .before .before) in constrained-fits (single s) (lent s) compact (taken (d .before)) (d .count-added .result .columns) (d .count-added .ensures .1)
+counts : (d : tie.Else1) → Adds compact (layout (given (start (d .before .before)))) (d .before .before .refuse-many .result)
+counts d = d .before .before .refuse-many .ensures .1 (d .if1 .left)
 
-count-added-requires : tie.Need-count-added-requires
-count-added-requires c κs =
-    let s = start (c .before) in
-    accepted-sound compact (single s) (first-accepted (s .args .count) (given s) (lent s) (sym (number c)))
+-- the outputs have room for the added rows and columns
+fits : (d : tie.Else1) → let s = start (d .before .before) in ConstrainedFits compact (only (single s)) (d .before .before .refuse-many .result .columns) (constrainedOf (lent s))
+fits d = let s = start (d .before .before) in constrained-fits (single s) (lent s) compact (taken d) (d .before .before .refuse-many .result .columns) (counts d .1)
 
 write-objective-requires : tie.Need-write-objective-requires
 write-objective-requires c κs =
     let d = c .before .before .before .before .before in
     let s = start (d .before .before) in
-    objective-fits (single s) (lent s) compact (taken (d .before)) (d .count-added .result .columns) (d .count-added .ensures .1)
+    objective-fits (single s) (lent s) compact (taken d) (d .before .before .refuse-many .result .columns) (counts d .1)
 
 slice-aggregate-write-compact-a : tie.Need-slice-aggregate-write-compact-a
 slice-aggregate-write-compact-a c = refl
@@ -74,8 +73,8 @@ write-compact-a-requires : tie.Need-write-compact-a-requires
 write-compact-a-requires c κs =
     let d = c .before .before .before .before .before .before .before .before .before .before .before .before .before .before .before .before .before .before .before .before .before in
     let s = start (d .before .before) in
-    let e = d .count-added .ensures .0 in
-    (system-fits (fits d) e, (sides-fit (s .args .count) (given s) (lent s) (sym (number (d .before))) (d .count-added .result .rows) e, (omega arith, omega arith)))
+    let e = counts d .0 in
+    (system-fits (fits d) e, (sides-fit (s .args .count) (given s) (lent s) (sym (number d)) (d .before .before .refuse-many .result .rows) e, (omega arith, omega arith)))
 
 write-table-requires : tie.Need-write-table-requires
 write-table-requires c κs =
@@ -86,7 +85,7 @@ write-table-requires-2 : tie.Need-write-table-requires-2
 write-table-requires-2 c κs =
     let d = c .before .before .before .before .before .before .before .before .before .before .before .before .before .before .before .before .before .before .before .before .before .before .before .before .before .before .before .before .before .before .before .before .before .before .before .before in
     let s = start (d .before .before) in
-    (sound (fits d .accepted), (few-rows (fits d .accepted) refl, map-fits (single s) (lent s) compact (taken (d .before)) (d .count-added .result .columns) (d .count-added .ensures .1)))
+    (sound (fits d .accepted), (few-rows (fits d .accepted) refl, map-fits (single s) (lent s) compact (taken d) (d .before .before .refuse-many .result .columns) (counts d .1)))
 
 same-length : tie.Need-same-length
 same-length c = c .before .before .before .before .before .before .before .before .before .before .before .before .before .before .before .before .before .before .before .before .before .before .before .before .before .before .before .before .before .before .before .before .before .write-objective .kept .1 .1 .1 .1 .1 .1 .1 .0
@@ -125,9 +124,9 @@ returns-2 : tie.Need-returns-2
 returns-2 c =
     let d = c .before .before .before .before .before .before .before .before .before .before .before .before .before .before .before .before .before .before .before .before .before .before .before .before .before .before .before .before .before .before .before .before .before .before .before .before .before .before .before in
     let w = c .before .before .before .before .before .before .before .before .before .before .before .before .before .before .before .before .before .write-compact-a .ensures in record {
-      number = number (d .before);
+      number = number d;
       tables = record {
-        objective = objective-cut (single (start (d .before .before))) compact (d .count-added .result .columns) (d .count-added .ensures .1) (c .before .before .before .before .before .before .before .before .before .before .before .before .before .before .before .before .before .before .before .before .before .before .before .before .before .before .before .before .before .before .before .before .before .write-objective .ensures);
+        objective = objective-cut (single (start (d .before .before))) compact (d .before .before .refuse-many .result .columns) (counts d .1) (c .before .before .before .before .before .before .before .before .before .before .before .before .before .before .before .before .before .before .before .before .before .before .before .before .before .before .before .before .before .before .before .before .before .write-objective .ensures);
         constrained = record {
           a-starts = w .0 .a-starts;
           a-rows = w .0 .a-rows;
@@ -146,7 +145,6 @@ cut-many-spec =
     slice-aggregate-refuse-many
     refuse-many-requires
     returns
-    count-added-requires
     write-objective-requires
     slice-aggregate-write-compact-a
     write-compact-a-requires

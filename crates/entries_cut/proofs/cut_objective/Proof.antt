@@ -4,10 +4,10 @@ use Rattle.entries_cut.proofs.cut_objective.Statement.{statement}
 use Rattle.entries_cut.proofs.cut_objective.Tie as tie
 
 returns : tie.Need-returns
-returns c = objective-kept (c .before .before .before .before .before .before .before .before .before .before .before .args .refused) (c .if1 .taken) _ _
+returns c = objective-kept (c .before .before .before .before .before .before .before .before .before .before .before .before .args .c .refusal) (c .if1 .taken) _ _
 
 write-objective-requires : tie.Need-write-objective-requires
-write-objective-requires c κs = c .before .before .before .before .before .before .before .before .before .before .before .before .before .before .before .before .pre (c .before .before .before .before .before .if1 .left)
+write-objective-requires c κs = c .before .before .before .before .before .before .before .before .before .before .before .before .before .before .before .before .before .pre (c .before .before .before .before .before .if1 .left)
 
 same-length : tie.Need-same-length
 same-length c = c .before .before .before .before .before .before .before .before .before .before .write-objective .kept .1 .1 .1 .1 .1 .1 .1 .0

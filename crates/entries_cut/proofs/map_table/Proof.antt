@@ -19,13 +19,13 @@ entries s = coneMap (joinedParts (s .args .cones .now) (s .args .count) (s .args
 
 returns : tie.Need-returns
 returns c =
-    let s = c .before .before .before .before in
-    let e = none-refused (s .args .refused) (entries s) (c .if1 .taken) in
+    let s = c .before .before .before .before .before in
+    let e = none-refused (s .args .c .refusal) (entries s) (c .if1 .taken) in
     (sym (ap length e), ap (λ (es : List MapEntry). written (mapWords es) (s .args .table .now)) (sym e))
 
 write-table-requires : tie.Need-write-table-requires
 write-table-requires c κs =
-    let s = c .before .before .before .before .before in
+    let s = c .before .before .before .before .before .before in
     let h = s .pre .0 (c .before .if1 .left) in
     (h .0, (h .1, omega (arith, entries-length (entries s), map-few (h .0), s .pre .1)))
 
@@ -34,7 +34,7 @@ same-length c = search needs
 
 returns-2 : tie.Need-returns-2
 returns-2 c =
-    let s = c .before .before .before .before .before .before .before .before in
+    let s = c .before .before .before .before .before .before .before .before .before in
     let w = c .before .before .write-table in
     let z = c .before .before .before .before .if1 .left in
     (omega (arith, w .ensures .0, entries-length (entries s)) ∙ sym (ap (λ (r : ℕ). length (unlessRefused r (entries s))) z), w .ensures .1 ∙ sym (ap (λ (r : ℕ). written (mapWords (unlessRefused r (entries s))) (s .args .table .now)) z))

@@ -23,7 +23,7 @@ returns c =
     (a .a-values .now) (a .b .now) (a .cones .now) (a .alphas .now) (a .count) (a .words .now) in
     let rooms : List ℕ =
     a .p-starts-room ∷ a .p-rows-room ∷ a .p-values-room ∷ a .q-room ∷ a .a-starts-room ∷ a .a-rows-room ∷ a .a-values-room ∷ a .b-room ∷ a .cones-room ∷ a .alphas-room ∷ [] in
-    refused-entries p rooms (a .map-room) refl (c .refuse-cut .ensures) (c .before .before .words-of .ensures)
+    (refused-entries p rooms (a .map-room) refl (c .refuse-cut .ensures .0) (c .before .before .words-of .ensures), c .refuse-cut .ensures .1)
 
 pub refuse-cut-compact-spec : {M : Type 1} → statement M
 refuse-cut-compact-spec = tie.close (tie.spec words-of-requires slice-aggregate-refuse-cut refuse-cut-requires returns)

@@ -39,7 +39,7 @@ counted : (c : tie.Else1)
     → let k = c .before .before in
     let a = start k .args in
     Counted (joinedParts (a .cones .now) (a .count) (a .words .now)) (k .check-joined .result .rows) (k .check-joined .result .overlaps)
-counted c = c .before .before .check-joined .ensures .1 (c .if1 .left)
+counted c = let g = c .before .before .check-joined .ensures .1 (c .if1 .left) in (g .0, g .1)
 
 refuse-counted-requires : tie.Need-refuse-counted-requires
 refuse-counted-requires c κs =

@@ -23,8 +23,16 @@ front c = let a = c .before .before .before .before .before .before .before .bef
 check-count-requires : tie.Need-check-count-requires
 check-count-requires c κs = tt
 
+refused-as-requires : tie.Need-refused-as-requires
+refused-as-requires c κs = tt
+
 returns : tie.Need-returns
-returns c = let s = c .before .before .before .before .before .before .before .before .before .before .before .before .before .before in stopped-count (given s) (s .args .count) (s .args .sides .now) (c .before .check-count .result) (c .before .check-count .ensures) (c .if1 .taken) (s .args .rooms .now)
+returns c =
+    let k = c .before .before in
+    let s = c .before .before .before .before .before .before .before .before .before .before .before .before .before .before .before in (
+      c .refused-as .ensures ∙ stopped-count (given s) (s .args .count) (s .args .sides .now) (k .check-count .result) (k .check-count .ensures) (c .before .if1 .taken) (s .args .rooms .now),
+      λ z. absurd (c .before .if1 .taken (sym (c .refused-as .ensures) ∙ z)),
+    )
 
 first-size-requires : tie.Need-first-size-requires
 first-size-requires c κs = tt
@@ -47,6 +55,7 @@ refuse-many-spec =
     tie.close
     (tie.spec
     check-count-requires
+    refused-as-requires
     returns
     first-size-requires
     slice-aggregate-refuse-sides

@@ -1,5 +1,6 @@
 use Prim.Native.Nat.{_≤_}
 use mathlib.Core.Path.{_≡_, sym, _∙_}
+use native.Mathlib.Omega.{arith}
 use borrow.Author.Tests.{not-true, not-false}
 use lib.Dec.{T}
 use lib.ListN.{length, length-replicate}
@@ -13,8 +14,8 @@ use Rattle.layout.proofs.Lists.Tests.{passed}
 use Rattle.supportedcone.proofs.Records.{all-read}
 use Rattle.check_problem.specs.Order.{tablesRefusal}
 use Rattle.check_problem.proofs.Order.{problem-order, tables-passed}
-use Rattle.check_problem.proofs.check_problem.Statement.{statement}
-use Rattle.check_problem.proofs.check_problem.Tie as tie
+use Rattle.check_problem.proofs.count_problem.Statement.{statement}
+use Rattle.check_problem.proofs.count_problem.Tie as tie
 
 abbrev given : tie.Start → Problem
 given s =
@@ -47,19 +48,33 @@ rows-and-cones c =
 check-tables-requires : tie.Need-check-tables-requires
 check-tables-requires c κs = tt
 
+refused-as-requires : tie.Need-refused-as-requires
+refused-as-requires c κs = tt
+
 returns : tie.Need-returns
 returns c =
-    let e = c .before .check-tables .ensures in
-    e ∙ sym (by-lengths (c .before .before .before .before .before .before .before .before .before .before .before .before .before) ∙ problem-order (given (c .before .before .before .before .before .before .before .before .before .before .before .before .before)) .0 (λ z. c .if1 .taken (e ∙ z)))
+    let s = c .before .before .before .before .before .before .before .before .before .before .before .before .before .before in
+    let e = c .before .before .check-tables .ensures in (
+      c .refused-as .ensures ∙ e ∙ sym (by-lengths s ∙ problem-order (given s) .0 (λ z. c .before .if1 .taken (e ∙ z))),
+      λ z. absurd (c .before .if1 .taken (sym (c .refused-as .ensures) ∙ z)),
+    )
 
 alphas-as-many-requires : tie.Need-alphas-as-many-requires
 alphas-as-many-requires c κs =
     let p = given (c .before .before .before .before .before .before .before .before .before .before .before .before .before) in
     all-read (p .m) (p .cones) (passed _ (rows-and-cones c .2))
 
+refused-as-requires-2 : tie.Need-refused-as-requires-2
+refused-as-requires-2 c κs = tt
+
 returns-2 : tie.Need-returns-2
 returns-2 c =
-    sym (by-lengths (c .before .before .before .before .before .before .before .before .before .before .before .before .before .before .before) ∙ problem-order (given (c .before .before .before .before .before .before .before .before .before .before .before .before .before .before .before)) .1 (none-refused (c .before .before)) (by-count (c .before .before .before .before .before .before .before .before .before .before .before .before .before .before .before) ∙ sym (c .before .alphas-as-many .ensures) ∙ not-true _ (c .if2 .taken)))
+    let d = c .before in
+    let s = c .before .before .before .before .before .before .before .before .before .before .before .before .before .before .before .before in (
+      c .refused-as2 .ensures
+          ∙ sym (by-lengths s ∙ problem-order (given s) .1 (none-refused (d .before .before)) (by-count s ∙ sym (d .before .alphas-as-many .ensures) ∙ not-true _ (d .if2 .taken))),
+      λ z. absurd (omega (arith, c .refused-as2 .ensures)),
+    )
 
 count-patterns-requires : tie.Need-count-patterns-requires
 count-patterns-requires c κs = rows-and-cones (c .before .before)
@@ -67,9 +82,21 @@ count-patterns-requires c κs = rows-and-cones (c .before .before)
 returns-3 : tie.Need-returns-3
 returns-3 c =
     let d = c .before in
-    c .count-patterns .ensures .0
-    ∙ sym (by-lengths (c .before .before .before .before .before .before .before .before .before .before .before .before .before .before .before .before) ∙ problem-order (given (c .before .before .before .before .before .before .before .before .before .before .before .before .before .before .before .before)) .2 (none-refused (d .before .before)) (by-count (c .before .before .before .before .before .before .before .before .before .before .before .before .before .before .before .before) ∙ sym (d .before .alphas-as-many .ensures) ∙ not-false _ (d .if2 .left)))
+    let s = c .before .before .before .before .before .before .before .before .before .before .before .before .before .before .before .before in (
+      c .count-patterns .ensures .0
+          ∙ sym (by-lengths s ∙ problem-order (given s) .2 (none-refused (d .before .before)) (by-count s ∙ sym (d .before .alphas-as-many .ensures) ∙ not-false _ (d .if2 .left))),
+      c .count-patterns .ensures .1,
+    )
 
-pub check-problem-spec : {M : Type 1} → statement M
-check-problem-spec =
-    tie.close (tie.spec check-tables-requires returns alphas-as-many-requires returns-2 count-patterns-requires returns-3)
+pub count-problem-spec : {M : Type 1} → statement M
+count-problem-spec =
+    tie.close
+    (tie.spec
+    check-tables-requires
+    refused-as-requires
+    returns
+    alphas-as-many-requires
+    refused-as-requires-2
+    returns-2
+    count-patterns-requires
+    returns-3)
