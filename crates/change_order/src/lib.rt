@@ -46,7 +46,7 @@ fn move_blocks(
     let mut left = count;
     while 0 < left {
         let q = Clique::here(words, at);
-        let k = supernode_tree::triangular_number(q.get_nblk()) as usize;
+        let k = scalarmath::triangular_number(q.get_nblk() as u32) as usize;
         to -= k;
         move_both(k, from, s, z, to, &mut *s_out, &mut *z_out);
         from += k;

@@ -20,6 +20,7 @@ ghost use Rattle.rows_blocks.specs.Cliques.{SortableClique as CliqueStands, Sor
 ghost use Rattle.check_covered.specs.Covered.{BlockFits, MarksPattern, rowsMarked, valuesMarked, sidesMarked, entriesRight, sidesOn};
 use constants::scratch;
 use rows_blocks::clique_vertices;
+use scalarmath::triangular_number;
 use supernode_tree::Pattern;
 use supernode_tree::clique_offsets;
 use walk_cones::Met;
@@ -46,7 +47,7 @@ fn mark_column(vertices: &[u32], j: usize, base: u32, covered: &mut [bool])
     ensures { λ _. ⌜ now (covered .exit) ≡ marked true (map (pairRow base) (columnPairs (now (vertices .entry)) j)) (now (covered .entry)) ⌝ }
 {
     let c = vertices[j];
-    let row = base + c * (c + 1) / 2;
+    let row = base + triangular_number(c);
     let mut i = 0;
     while i <= j {
         covered[(row + vertices[i]) as usize] = true;

@@ -18,6 +18,7 @@ ghost use Rattle.layout.specs.Calls.Tables.{tables};
 ghost use Rattle.layout.specs.Calls.GenerateSizes.{GenerateSizes};
 use constants::refusal;
 use generator_columns::ColumnDraw;
+use scalarmath::triangular_number;
 
 const PSD_TRIANGLE: u32 = 6;
 
@@ -176,7 +177,7 @@ fn write_lengths(v: u32, w: u32, n: u32, entries: u32, out: &mut [u32])
     ensures { λ _. ⌜ now (out .exit) ≡ written (lengthsOf v w n entries) (now (out .entry)) ⌝ }
 {
     let starts = n + 1;
-    let m = v * (v + 1) / 2;
+    let m = triangular_number(v);
     let words = 3 + v + (v - w) * (w + 4);
     let lengths = [starts, 0, 0, n, starts, entries, entries, m, 3, 0, words];
     csc::copy_numbers(out, &lengths);
@@ -320,7 +321,7 @@ fn write_drawn(
     ensures { λ r. ⌜ now («b_out» .exit) ≡ output r (generated seed v w n .b) (now («b_out» .entry)) ⌝ }
 {
     let d = draw_rows(seed, v, w, &mut *rows);
-    let m = v * (v + 1) / 2;
+    let m = triangular_number(v);
     if are_kept(d.count, n) {
         return write_once(
             d.state,

@@ -18,6 +18,7 @@ ghost use Rattle.reverse_standard.specs.Routes.{Starts};
 ghost use Rattle.join_blocks.specs.Joins.{joinZ, Counts, Countable, blockColumnRows, blockRowsOf, ownRows, rowsUp, AllSortable, downSizes};
 use reverse_standard::block_start;
 use reverse_standard::z_value;
+use scalarmath::triangular_number;
 use supernode_tree::Clique;
 use supernode_tree::Pattern;
 use supernode_tree::clique_offsets;
@@ -54,7 +55,7 @@ fn join_column(
     ensures { λ _. ⌜ Counts standard (blockColumnRows (now (vertices .entry)) j) (now (counts .entry)) (now (counts .exit)) ⌝ }
 {
     let c = vertices[j];
-    let row = c * (c + 1) / 2;
+    let row = triangular_number(c);
     let mut i = 0;
     while i <= j {
         let o = (row + vertices[i]) as usize;

@@ -11,6 +11,7 @@ ghost use Rattle.supernode_tree.specs.Reads.{patternAt};
 ghost use Rattle.reverse_standard.specs.Routes.{Starts};
 ghost use Rattle.join_blocks.specs.Joins.{downSizes};
 ghost use Rattle.join_cones.specs.Parts.{wholeValues, zAveragedBy, sCut, zCut, writtenAt, CountsRows, Cleared, ClearsRows};
+use scalarmath::triangular_number;
 use supernode_tree::Pattern;
 
 // ---- an undecomposed cone
@@ -45,8 +46,7 @@ pub fn cone_rows(words: &[u32], at: usize) -> usize
     ensures { λ r. ⌜ r ≡ triangle (patternAt (now (words .entry)) at .vertexCount) ⌝ }
 {
     let p = Pattern::here(words, at);
-    let k = p.vertex_count;
-    k * (k + 1) / 2
+    triangular_number(p.vertex_count as u32) as usize
 }
 
 // Averages z on the standard route: divides each row by its count where that is above 1, and resets the counts of the rows to 0.

@@ -1,6 +1,5 @@
 -- A block written column by column, for any number written for a pair.
-use Prim.Native.Nat.{ℕ, suc, _+_, _*_, _/_, _≤_, _<_}
-use native.Mathlib.Numerals.{add-one}
+use Prim.Native.Nat.{ℕ, suc, _+_, _≤_, _<_}
 use native.Mathlib.Nat.{eq-or-lt-of-le, le-of-eq}
 use native.Mathlib.Omega.{arith}
 use mathlib.Core.Path.{_≡_, ap, _∙_}
@@ -9,7 +8,7 @@ use mathlib.Core.List.{List, [], _∷_, _++_, map, append-nil, map-append}
 use lib.ListN.{length, getD, length-append, length-map}
 use lib.Dec.{T}
 use Rattle.layout.specs.General.Lists.{below, join, rises}
-use Rattle.layout.specs.General.Triangle.{pairIndex}
+use Rattle.layout.specs.General.Triangle.{triangle}
 use Rattle.layout.specs.Rows.Blocks.{Pair, pair, pairRow}
 use Rattle.layout.proofs.Lists.Members.{getD-map, getD-below, length-upFrom}
 use Rattle.layout.proofs.Lists.Rising.{rises-at}
@@ -25,10 +24,6 @@ rises-le vs i j h l m = elim (eq-or-lt-of-le l) [
 ]
 
 -- the index of a pair, as the code computes it
-pair-index-at : (vs : List ℕ) (j i : ℕ) → T (rises vs) → i ≤ j → j < length vs
-    → pairIndex (getD vs i 0) (getD vs j 0) ≡ getD vs j 0 * (getD vs j 0 + 1) / 2 + getD vs i 0
-pair-index-at vs j i h l m = pairIndex-le (getD vs i 0) (getD vs j 0) (rises-le vs i j h l m) ∙ rw add-one
-
 length-columnPairs : (vs : List ℕ) (j : ℕ) → length (columnPairs vs j) ≡ j + 1
 length-columnPairs vs j = length-map (below (suc j)) (λ i. pair (getD vs i 0) (getD vs j 0)) ∙ length-upFrom 0 (suc j) ∙ omega arith
 
@@ -60,8 +55,8 @@ module _ (f : Pair → ℕ) (vs : List ℕ) where
       ap length (columns-more j) ∙ length-append (columnsBelow j) (map f (columnPairs vs j))
       ∙ ap (λ (n : ℕ). length (columnsBelow j) + n) (length-column j)
 
--- the original row of entry i of column j, as the code computes it
+-- the original row of entry i of column j
 pub row-at : (base : ℕ) (vs : List ℕ) (j i : ℕ) → T (rises vs) → i ≤ j → j < length vs
-    → getD (map (pairRow base) (columnPairs vs j)) i 0 ≡ base + getD vs j 0 * (getD vs j 0 + 1) / 2 + getD vs i 0
+    → getD (map (pairRow base) (columnPairs vs j)) i 0 ≡ base + triangle (getD vs j 0) + getD vs i 0
 row-at base vs j i h l m =
-    column-at (pairRow base) vs j i l ∙ ap (λ (k : ℕ). base + k) (pair-index-at vs j i h l m) ∙ omega arith
+    column-at (pairRow base) vs j i l ∙ ap (λ (k : ℕ). base + k) (pairIndex-le (getD vs i 0) (getD vs j 0) (rises-le vs i j h l m)) ∙ omega arith

@@ -19,6 +19,7 @@ use rows_blocks::clique_rows;
 use rows_blocks::clique_vertices;
 use rows_parent::code_block;
 use rows_parent::note_places;
+use scalarmath::triangular_number;
 use supernode_tree::Clique;
 use supernode_tree::Pattern;
 use supernode_tree::clique_offsets;
@@ -33,7 +34,7 @@ fn block_rows(words: &[u32], at: usize) -> u32
 {
     let q = Clique::here(words, at);
     let k = (q.snode_count + q.separator_count) as u32;
-    k * (k + 1) / 2
+    triangular_number(k)
 }
 
 // Writes to `out[c]` the first augmented row of clique c's block. Cliques are placed from last to first, from row `first` on.

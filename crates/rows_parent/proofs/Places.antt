@@ -1,6 +1,5 @@
 -- The table of places, filled one vertex after the other, and the codes that it gives.
-use Prim.Native.Nat.{ℕ, zero, suc, _+_, _-_, _*_, _/_, _≤_, _<_}
-use native.Mathlib.Nat.{mul-le-mul}
+use Prim.Native.Nat.{ℕ, zero, suc, _+_, _-_, _≤_, _<_}
 use native.Mathlib.Numerals.{add-one}
 use native.Mathlib.Decide.{ℕ-discrete}
 use native.Mathlib.Omega.{arith}
@@ -21,7 +20,7 @@ use Rattle.layout.proofs.Lists.Tests.{tested, and-iff, cond-failed}
 use Rattle.layout.proofs.Lists.Members.{has-at, has-getD, has-below}
 use Rattle.layout.proofs.Lists.Joins.{map-same}
 use Rattle.layout.proofs.Lists.Rising.{rises-at, place-at, place-says, place-mono}
-use Rattle.layout.proofs.Numbers.Triangles.{pairIndex-le}
+use Rattle.layout.proofs.Numbers.Triangles.{triangle-mono, pairIndex-le}
 use Rattle.rows_blocks.specs.Vertices.{vertexMarked}
 use Rattle.rows_blocks.specs.Columns.{columnPairs}
 use Rattle.rows_blocks.proofs.Columns.{rises-le}
@@ -116,29 +115,29 @@ module _ (places : List ℕ) (base start v c : ℕ) (l : v ≤ c) where
   code-own e = cond-failed (vertexMarked places v && vertexMarked places c) _ _
       (λ h. subst (λ (k : ℕ). T (not (eqb k 0))) e (and-iff (vertexMarked places v) (vertexMarked places c) .0 h .1))
 
-  -- the code of an entry whose column has a place, as the code computes it
+  -- the code of an entry whose column has a place
   code-tied : Climbing places → (place : ℕ) → getD places c 0 ≡ suc place
       → placeCode places base start (pair v c)
-      ≡ cond (eqb (getD places v 0) 0) (base + c * (c + 1) / 2 + v) (65536 + start + place * (place + 1) / 2 + (getD places v 0 - 1))
+      ≡ cond (eqb (getD places v 0) 0) (base + triangle c + v) (65536 + start + triangle place + (getD places v 0 - 1))
   code-tied up place h =
       let m : vertexMarked places c ≡ true = ap not (ne-eqb (getD places c 0) 0 (λ e. omega arith)) in
       let p : getD places c 0 - 1 ≡ place = omega arith in
       rw (m, p) (go (ℕ-discrete (getD places v 0) 0))
     where
-      own : base + pairIndex v c ≡ base + c * (c + 1) / 2 + v
-      own = let e : pairIndex v c ≡ c * (c + 1) / 2 + v = pairIndex-le v c l ∙ rw add-one in omega arith
+      own : base + pairIndex v c ≡ base + triangle c + v
+      own = omega (arith, pairIndex-le v c l)
 
       tied : (getD places v 0 ≡ 0 → ⊥)
-          → 65536 + (start + pairIndex (getD places v 0 - 1) place) ≡ 65536 + start + place * (place + 1) / 2 + (getD places v 0 - 1)
+          → 65536 + (start + pairIndex (getD places v 0 - 1) place) ≡ 65536 + start + triangle place + (getD places v 0 - 1)
       tied n =
           let e = pairIndex-le (getD places v 0 - 1) place (omega (arith, up .climbs v c l (omega (arith, n)) (omega (arith, h)), h)) in
-          rw (e, add-one) (omega arith)
+          omega arith
 
       go : Dec (getD places v 0 ≡ 0)
           → cond (not (eqb (getD places v 0) 0) && true)
           (65536 + (start + pairIndex (getD places v 0 - 1) place))
           (base + pairIndex v c)
-          ≡ cond (eqb (getD places v 0) 0) (base + c * (c + 1) / 2 + v) (65536 + start + place * (place + 1) / 2 + (getD places v 0 - 1))
+          ≡ cond (eqb (getD places v 0) 0) (base + triangle c + v) (65536 + start + triangle place + (getD places v 0 - 1))
       go (yes e) = rw (eq-eqb (getD places v 0) 0 e) own
       go (no n) = rw (ne-eqb (getD places v 0) 0 n) (tied n)
 
@@ -149,17 +148,15 @@ place-some h = omega (arith, h)
 pub place-small : (n : ℕ) → (n ≡ 0 → ⊥) → n ≤ 256 → (n ≡ suc (n - 1)) × (n - 1 < 256)
 place-small n h l = (omega (arith, h), omega (arith, h))
 
--- the original rows of a column are small
-pub row-small : (base c : ℕ) → base + triangle (suc c) ≤ 65536
-    → Fits w32 (c + 1) × Fits w32 (c * (c + 1)) × Fits w32 (base + c * (c + 1) / 2) × (base + c * (c + 1) / 2 + c ≤ 65536)
-row-small base c h = (omega arith, omega arith, omega arith, omega arith)
+-- the original rows of column c are small, and so is c
+pub column-small : (base c : ℕ) → base + triangle (suc c) ≤ 65536 → c ≤ 65535
+column-small base c h = omega arith
 
-pub tied-small : (start k : ℕ) → start ≤ 262144 → k < 256
-    → Fits w32 (65536 + start) × Fits w32 (k + 1) × Fits w32 (k * (k + 1)) × Fits w32 (65536 + start + k * (k + 1) / 2)
-    × (65536 + start + k * (k + 1) / 2 ≤ 393216)
-tied-small start k h l =
-    let q : k * (k + 1) ≤ 65536 = mul-le-mul {n₂ = 256} {m₂ = 256} (omega arith) (omega arith) in
-    (omega arith, omega arith, omega arith, omega arith, omega arith)
+pub row-small : (base c n : ℕ) → base + triangle (suc c) ≤ 65536 → n ≡ triangle c → Fits w32 (base + n) × (base + n + c ≤ 65536)
+row-small base c n h e = (omega arith, omega arith)
+
+pub tied-small : (start k n : ℕ) → start ≤ 262144 → k < 256 → n ≡ triangle k → 65536 + start + n ≤ 393216
+tied-small start k n h l e = omega (arith, triangle-mono k 255 (omega arith))
 
 -- two rules that agree on the pairs of a column give equal lists
 column-same : (f g : Pair → ℕ) (vs : List ℕ) (j : ℕ) → T (rises vs) → j < length vs
@@ -181,9 +178,9 @@ module _ (places vs : List ℕ) (base start j : ℕ) (rising : T (rises vs)) (l 
   -- a column whose vertex has a place
   pub tied-column : Climbing places → (place : ℕ) → getD places (getD vs j 0) 0 ≡ suc place
       → let c = getD vs j 0 in
-      map (tiedEntry places (base + c * (c + 1) / 2) (65536 + start + place * (place + 1) / 2)) (columnPairs vs j)
+      map (tiedEntry places (base + triangle c) (65536 + start + triangle place)) (columnPairs vs j)
       ≡ map (placeCode places base start) (columnPairs vs j)
   tied-column up place e =
       let c = getD vs j 0 in
-      column-same (tiedEntry places (base + c * (c + 1) / 2) (65536 + start + place * (place + 1) / 2)) (placeCode places base start) vs j rising l
+      column-same (tiedEntry places (base + triangle c) (65536 + start + triangle place)) (placeCode places base start) vs j rising l
       (λ v m. sym (code-tied places base start v c m up place e))

@@ -13,6 +13,7 @@ ghost use Rattle.rows_blocks.specs.Columns.{columnPairs, ColumnsFit};
 ghost use Rattle.rows_parent.specs.Places.{Places, Climbing, placeCode, tiedEntry};
 use rows_blocks::row_column;
 use rows_codes::FIRST_OVERLAP;
+use scalarmath::triangular_number;
 
 // ---- places in the parent's block
 
@@ -70,9 +71,9 @@ fn tied_column(out: &mut [u32], vertices: &[u32], places: &[u32], j: usize, base
         row_column(out, vertices, j, base);
         return;
     }
-    let row = base + c * (c + 1) / 2;
+    let row = base + triangular_number(c);
     let place = noted - 1;
-    let tied = FIRST_OVERLAP + start + place * (place + 1) / 2;
+    let tied = FIRST_OVERLAP + start + triangular_number(place);
     tied_entries(out, vertices, places, j, row, tied);
 }
 

@@ -15,6 +15,7 @@ ghost use Rattle.supernode_tree.specs.declared.CliqueRead.the-variants.{
 ghost use Rattle.supernode_tree.specs.declared.PatternRead.the-variants.{Pattern as FoundPattern};
 ghost use Rattle.supernode_tree.specs.Offsets.{OffsetsEvery, OffsetsOf};
 ghost use Rattle.supernode_tree.specs.Sizes.{blockAtMost};
+use scalarmath::triangular_number;
 
 // ---- words
 
@@ -312,14 +313,6 @@ pub fn members_by(
 
 // ---- block sizes
 
-// Returns `k * (k + 1) / 2` for `k` up to 256, so that the product does not overflow.
-pub fn triangular_number(k: usize) -> u64
-    requires { ⌜ k ≤ 256 ⌝ }
-    ensures { λ r. ⌜ r ≡ triangle k ⌝ }
-{
-    (k * (k + 1) / 2) as u64
-}
-
 // The rows of some blocks, and how many of these rows are overlaps.
 pub struct Decomposed {
     pub dim: u64,
@@ -339,8 +332,8 @@ fn dim_and_overlaps(words: &[u32], first: usize, count: u32) -> Decomposed
     let mut left = count;
     while 0 < left {
         let q = Clique::here(words, at);
-        dim += triangular_number(q.get_nblk());
-        overlaps += triangular_number(q.separator_count);
+        dim += triangular_number(q.get_nblk() as u32) as u64;
+        overlaps += triangular_number(q.separator_count as u32) as u64;
         at = q.next;
         left -= 1;
     }

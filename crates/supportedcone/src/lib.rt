@@ -11,6 +11,7 @@ ghost use Rattle.supportedcone.specs.Ranges.{isPsdOf};
 use constants::limit;
 use constants::record;
 use constants::refusal;
+use scalarmath::triangular_number;
 
 // A cone as a value: its dimension, its exponent, or its two counts. GenPower holds its α count first; its α values stay in the table of α.
 pub enum SupportedCone {
@@ -86,7 +87,7 @@ impl SupportedCone {
             SupportedCone::ExponentialConeT => 3,
             SupportedCone::PowerConeT(_) => 3,
             SupportedCone::GenPowerConeT(alphas, dim2) => alphas + dim2,
-            SupportedCone::PSDTriangleConeT(dim) => dim * (dim + 1) / 2,
+            SupportedCone::PSDTriangleConeT(dim) => triangular_number(dim),
         }
     }
 

@@ -124,8 +124,14 @@ here-requires c κs =
 get-nblk-requires : tie.Need-get-nblk-requires Inv-loop μ-loop
 get-nblk-requires c κs = omega (arith, small c)
 
+cast-triangular-number : tie.Need-cast-triangular-number Inv-loop μ-loop
+cast-triangular-number c = omega (arith, small (c .before), c .get-nblk .ensures)
+
 triangular-number-requires : tie.Need-triangular-number-requires Inv-loop μ-loop
 triangular-number-requires c κs = omega (arith, small (c .before), c .get-nblk .ensures)
+
+cast-k : tie.Need-cast-k Inv-loop μ-loop
+cast-k c = omega arith
 
 sub-to : tie.Need-sub-to Inv-loop μ-loop
 sub-to c = omega (arith, left-rows c)
@@ -212,7 +218,9 @@ move-blocks-spec =
     loop-holds
     here-requires
     get-nblk-requires
+    cast-triangular-number
     triangular-number-requires
+    cast-k
     sub-to
     move-both-requires
     add-from

@@ -21,14 +21,17 @@ Inv-loop vertices j base covered₀ c row i₀ covered i =
 abbrev μ-loop : tie.MeasureT-loop
 μ-loop vertices j base covered₀ c row i₀ covered i = j + 1 - i
 
+abbrev start : tie.At-loop Inv-loop μ-loop → tie.Start Inv-loop μ-loop
+start l = l .before .before .before .before .before
+
 -- the vertices up to index j are at most vertex j
-rising : (c : tie.After-shared-slice-known2 Inv-loop μ-loop)
+rising : (c : tie.After-shared-slice-known3 Inv-loop μ-loop)
     → let l = c .before .before in
-    let a = l .before .before .args in
+    let a = start l .args in
     getD (a .vertices .now) (l .loop .i) 0 ≤ getD (a .vertices .now) (a .j) 0
 rising c =
     let l = c .before .before in
-    let s = l .before .before in
+    let s = start l in
     rises-le (s .args .vertices .now) (l .loop .i) (s .args .j) (s .pre .0 .1) (omega arith) (s .pre .0 .0)
 
 mul-c : tie.Need-mul-c Inv-loop μ-loop
@@ -37,14 +40,11 @@ mul-c c = search needs
 shared-slice-read-c : tie.Need-shared-slice-read-c Inv-loop μ-loop
 shared-slice-read-c c = search needs
 
+triangular-number-requires : tie.Need-triangular-number-requires Inv-loop μ-loop
+triangular-number-requires c κs = search needs
+
 add-row : tie.Need-add-row Inv-loop μ-loop
-add-row c = search needs
-
-mul-row : tie.Need-mul-row Inv-loop μ-loop
-mul-row c = search needs
-
-add-row-2 : tie.Need-add-row-2 Inv-loop μ-loop
-add-row-2 c = search needs
+add-row c = omega (arith, c .triangular-number .ensures)
 
 loop-holds : tie.Need-loop-holds Inv-loop μ-loop
 loop-holds c = search needs
@@ -56,13 +56,13 @@ shared-slice-read-covered : tie.Need-shared-slice-read-covered Inv-loop μ-loop
 shared-slice-read-covered c = search needs
 
 add-covered : tie.Need-add-covered Inv-loop μ-loop
-add-covered c = omega (arith, rising c)
+add-covered c = omega (arith, c .before .before .before .triangular-number .ensures, rising c)
 
 cast-covered : tie.Need-cast-covered Inv-loop μ-loop
-cast-covered c = omega (arith, rising c)
+cast-covered c = omega (arith, c .before .before .before .triangular-number .ensures, rising c)
 
 slice-write-covered : tie.Need-slice-write-covered Inv-loop μ-loop
-slice-write-covered c = omega (arith, rising c)
+slice-write-covered c = omega (arith, c .before .before .before .triangular-number .ensures, rising c)
 
 add-i : tie.Need-add-i Inv-loop μ-loop
 add-i c = search needs
@@ -73,13 +73,15 @@ loop-less c = search needs
 loop-again : tie.Need-loop-again Inv-loop μ-loop
 loop-again c =
     let l = c .before .before in
-    let s = l .before .before in
+    let s = start l in
     let a = s .args in
     let os = map (pairRow (a .base)) (columnPairs (a .vertices .now) (a .j)) in
     let i = l .loop .i in (
       omega arith,
       simp length-set (l .loop .inv .1),
-      ap (λ (o : ℕ). marked true (drop (i + 1) os) (set (l .loop .covered) o true)) (sym (row-at (a .base) (a .vertices .now) (a .j) i (s .pre .0 .1) (omega arith) (s .pre .0 .0)))
+      ap (λ (o : ℕ). marked true (drop (i + 1) os) (set (l .loop .covered) o true))
+          (ap (λ (n : ℕ). a .base + n + getD (a .vertices .now) i 0) (l .before .triangular-number .ensures)
+          ∙ sym (row-at (a .base) (a .vertices .now) (a .j) i (s .pre .0 .1) (omega arith) (s .pre .0 .0)))
           ∙ sym (marked-step true os (l .loop .covered) i (omega (arith, length-column (pairRow (a .base)) (a .vertices .now) (a .j)))) ∙ l .loop .inv .2,
     )
 
@@ -89,7 +91,7 @@ same-length c = c .before .loop .inv .1
 returns : tie.Need-returns Inv-loop μ-loop
 returns c =
     let l = c .before in
-    let a = l .before .before .args in
+    let a = start l .args in
     sym (marked-done true (map (pairRow (a .base)) (columnPairs (a .vertices .now) (a .j))) (l .loop .covered) (l .loop .i)
     (omega (arith, length-column (pairRow (a .base)) (a .vertices .now) (a .j)))) ∙ l .loop .inv .2
 
@@ -101,9 +103,8 @@ mark-column-spec =
     μ-loop
     mul-c
     shared-slice-read-c
+    triangular-number-requires
     add-row
-    mul-row
-    add-row-2
     loop-holds
     mul-covered
     shared-slice-read-covered

@@ -1,4 +1,4 @@
-use Prim.Native.Nat.{ℕ, _+_, _-_, _*_, _/_, _≤_}
+use Prim.Native.Nat.{ℕ, _+_, _-_, _*_, _≤_}
 use native.Mathlib.Nat.{mul-le-mul}
 use native.Mathlib.Numerals.{add-one}
 use native.Mathlib.Omega.{arith}
@@ -9,20 +9,14 @@ use Rattle.layout.specs.General.Lists.{written}
 use Rattle.generator.proofs.write_lengths.Statement.{statement}
 use Rattle.generator.proofs.write_lengths.Tie as tie
 
-square : (s : tie.Start) → s .args .v * (s .args .v + 1) ≤ 64 * 65
-square s = mul-le-mul {n₂ = 64} {m₂ = 65} (omega arith) (omega arith)
-
 product : (s : tie.Start) → (s .args .v - s .args .w) * (s .args .w + 4) ≤ 64 * 68
 product s = mul-le-mul {n₂ = 64} {m₂ = 68} (omega arith) (omega arith)
 
 add-starts : tie.Need-add-starts
 add-starts c = search needs
 
-add-m : tie.Need-add-m
-add-m c = search needs
-
-mul-m : tie.Need-mul-m
-mul-m c = omega (arith, square (c .before))
+triangular-number-requires : tie.Need-triangular-number-requires
+triangular-number-requires c κs = search needs
 
 add-words : tie.Need-add-words
 add-words c = search needs
@@ -34,10 +28,10 @@ add-words-2 : tie.Need-add-words-2
 add-words-2 c = search needs
 
 mul-words : tie.Need-mul-words
-mul-words c = omega (arith, product (c .before))
+mul-words c = omega (arith, product (c .before .before))
 
 add-words-3 : tie.Need-add-words-3
-add-words-3 c = omega (arith, product (c .before))
+add-words-3 c = omega (arith, product (c .before .before))
 
 slice-aggregate-copy-numbers : tie.Need-slice-aggregate-copy-numbers
 slice-aggregate-copy-numbers c = search needs
@@ -51,18 +45,18 @@ same-length c = search needs
 returns : tie.Need-returns
 returns c =
     let w = c .before .before in
-    let a = w .before .before .before .before .args in
+    let t = w .before .before .before in
+    let a = t .before .before .args in
     w .copy-numbers .ensures
-    ∙ ap₂ (λ (k u : ℕ). written (k ∷ 0 ∷ 0 ∷ a .n ∷ k ∷ a .entries ∷ a .entries ∷ (a .v * u / 2) ∷ 3 ∷ 0 ∷ (3 + a .v + (a .v - a .w) * (a .w + 4)) ∷ []) (a .out .now))
-    (add-one (a .n)) (add-one (a .v))
+    ∙ ap₂ (λ (k m : ℕ). written (k ∷ 0 ∷ 0 ∷ a .n ∷ k ∷ a .entries ∷ a .entries ∷ m ∷ 3 ∷ 0 ∷ (3 + a .v + (a .v - a .w) * (a .w + 4)) ∷ []) (a .out .now))
+    (add-one (a .n)) (t .triangular-number .ensures)
 
 pub write-lengths-spec : {M : Type 1} → statement M
 write-lengths-spec =
     tie.close
     (tie.spec
     add-starts
-    add-m
-    mul-m
+    triangular-number-requires
     add-words
     sub-words
     add-words-2

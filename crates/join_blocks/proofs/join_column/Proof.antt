@@ -1,13 +1,12 @@
-use Prim.Native.Nat.{ℕ, suc, zero-le, _≤_, _<_, _-_, _+_, _*_, _/_}
+use Prim.Native.Nat.{ℕ, suc, zero-le, _≤_, _<_, _-_, _+_, _*_}
 use native.Mathlib.Nat.{le-refl, le-of-lt, lt-of-le-of-lt}
 use mathlib.Core.Path.{_≡_, refl, ap, sym, subst, _∙_}
 use mathlib.Core.List.{List}
 use lib.ListN.{length, getD, take, drop, set, length-set}
 use lib.Seq.{take-all, length-take-le}
 use lib.Ieee.{nan, add, binary64}
-use mir.Syntax.{w32, w64}
+use mir.Syntax.{w64}
 use mir.Val.{Fits}
-use mir.Facts.{fits-le, fits-lit}
 use Rattle.layout.specs.General.Triangle.{triangle}
 use Rattle.layout.specs.Joinings.Reverse.{addAt, addColumns}
 use Rattle.layout.specs.Rows.Blocks.{pairRow}
@@ -29,19 +28,16 @@ Inv-loop standard vertices j t s z s-out₀ z-out₀ counts₀ c row i₀ s-out 
 abbrev μ-loop : tie.MeasureT-loop
 μ-loop standard vertices j t s z s-out₀ z-out₀ counts₀ c row i₀ s-out z-out counts i = j + 1 - i
 
--- ---- numbers: c is the column's vertex, d this turn's vertex, o the row
+-- ---- numbers: c is the column's vertex, a the column's first row, d this turn's vertex, o the row
 
-vertex-next : (c n : ℕ) → triangle (suc c) ≤ n → n ≤ 65536 → Fits w32 (c + 1)
-vertex-next c n h l = let g : c + 1 ≤ 65536 = omega arith in fits-le g (fits-lit tt)
+vertex-small : (c n : ℕ) → triangle (suc c) ≤ n → n ≤ 65536 → c ≤ 65535
+vertex-small c n h l = omega arith
 
-vertex-square : (c n : ℕ) → triangle (suc c) ≤ n → n ≤ 65536 → Fits w32 (c * (c + 1))
-vertex-square c n h l = let g : c * (c + 1) ≤ 131072 = omega arith in fits-le g (fits-lit tt)
+row-inside : (c d n a : ℕ) → d ≤ c → triangle (suc c) ≤ n → a ≡ triangle c → a + d < n
+row-inside c d n a h l e = omega arith
 
-row-inside : (c d n : ℕ) → d ≤ c → triangle (suc c) ≤ n → c * (c + 1) / 2 + d < n
-row-inside c d n h l = omega arith
-
-row-as : (a d o : ℕ) → o ≡ 0 + a + d → a + d ≡ o
-row-as a d o e = omega arith
+row-as : (a b d o : ℕ) → o ≡ 0 + b + d → a ≡ b → a + d ≡ o
+row-as a b d o e q = omega arith
 
 turn-next : (i j : ℕ) → i ≤ j → i + 1 ≤ j + 1
 turn-next i j h = omega arith
@@ -64,7 +60,7 @@ turn-counts i j n e h = omega arith
 -- ---- one turn of the loop
 
 abbrev start : (l : tie.At-loop Inv-loop μ-loop) → tie.Start Inv-loop μ-loop
-start l = l .before .before .before .before .before .before .before .before
+start l = l .before .before .before .before .before .before .before .before .before
 
 -- the rows of the column
 abbrev rows : (l : tie.At-loop Inv-loop μ-loop) → List ℕ
@@ -72,10 +68,7 @@ rows l = blockColumnRows (start l .args .vertices .now) (start l .args .j)
 
 -- the row of this turn, as the code computes it
 abbrev coded : (l : tie.At-loop Inv-loop μ-loop) → ℕ
-coded l =
-    let vs = start l .args .vertices .now in
-    let c = getD vs (start l .args .j) 0 in
-    c * (c + 1) / 2 + getD vs (l .loop .i) 0
+coded l = l .before .triangular-number .result + getD (start l .args .vertices .now) (l .loop .i) 0
 
 row-is : (i : tie.In-loop Inv-loop μ-loop) → coded (i .before) ≡ getD (rows (i .before)) (i .before .loop .i) 0
 row-is i =
@@ -84,7 +77,8 @@ row-is i =
     let vs = s .args .vertices .now in
     let j = s .args .j in
     let n = l .loop .i in
-    row-as (getD vs j 0 * (getD vs j 0 + 1) / 2) (getD vs n 0) (getD (rows l) n 0) (row-at 0 vs j n (s .pre .0 .0) (i .loop-test .taken) (s .pre .0 .1))
+    let first = l .before .triangular-number in
+    row-as (first .result) (triangle (getD vs j 0)) (getD vs n 0) (getD (rows l) n 0) (row-at 0 vs j n (s .pre .0 .0) (i .loop-test .taken) (s .pre .0 .1)) (first .ensures)
 
 inside : (i : tie.In-loop Inv-loop μ-loop) → coded (i .before) < length (start (i .before) .args .s-out .now)
 inside i =
@@ -93,7 +87,8 @@ inside i =
     let vs = s .args .vertices .now in
     let j = s .args .j in
     let n = l .loop .i in
-    row-inside (getD vs j 0) (getD vs n 0) (length (s .args .s-out .now)) (rises-le vs n j (s .pre .0 .0) (i .loop-test .taken) (s .pre .0 .1)) (s .pre .1 .0 .0)
+    let first = l .before .triangular-number in
+    row-inside (getD vs j 0) (getD vs n 0) (length (s .args .s-out .now)) (first .result) (rises-le vs n j (s .pre .0 .0) (i .loop-test .taken) (s .pre .0 .1)) (s .pre .1 .0 .0) (first .ensures)
 
 s-inside : (i : tie.In-loop Inv-loop μ-loop) → coded (i .before) < length (i .before .loop .s-out)
 s-inside i = lt-same (inside i) (i .before .loop .inv .1)
@@ -126,19 +121,14 @@ mul-c c = let s = c .before .before .before .before .before .before in fits-numb
 shared-slice-read-c : tie.Need-shared-slice-read-c Inv-loop μ-loop
 shared-slice-read-c c = c .before .before .before .before .before .before .before .pre .0 .1
 
-add-row : tie.Need-add-row Inv-loop μ-loop
-add-row c =
+triangular-number-requires : tie.Need-triangular-number-requires Inv-loop μ-loop
+triangular-number-requires c κs =
     let s = c .before .before .before .before .before .before .before in
-    vertex-next (getD (s .args .vertices .now) (s .args .j) 0) (length (s .args .s-out .now)) (s .pre .1 .0 .0) (s .pre .1 .0 .2)
-
-mul-row : tie.Need-mul-row Inv-loop μ-loop
-mul-row c =
-    let s = c .before .before .before .before .before .before .before in
-    vertex-square (getD (s .args .vertices .now) (s .args .j) 0) (length (s .args .s-out .now)) (s .pre .1 .0 .0) (s .pre .1 .0 .2)
+    vertex-small (getD (s .args .vertices .now) (s .args .j) 0) (length (s .args .s-out .now)) (s .pre .1 .0 .0) (s .pre .1 .0 .2)
 
 loop-holds : tie.Need-loop-holds Inv-loop μ-loop
 loop-holds c =
-    let a = c .before .before .before .before .before .before .before .args in
+    let a = c .before .before .before .before .before .before .before .before .args in
     let L = blockColumnRows (a .vertices .now) (a .j) in
     let none = sym (take-none L) in (
       zero-le,
@@ -281,8 +271,7 @@ join-column-spec =
     μ-loop
     mul-c
     shared-slice-read-c
-    add-row
-    mul-row
+    triangular-number-requires
     loop-holds
     mul-o
     shared-slice-read-o

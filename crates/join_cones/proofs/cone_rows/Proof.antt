@@ -1,11 +1,6 @@
-use Prim.Native.Nat.{ℕ, _+_, _*_, _/_, _≤_}
+use Prim.Native.Nat.{_≤_}
 use mathlib.Core.Path.{_≡_, refl, ap, sym, _∙_}
-use native.Mathlib.Numerals.{add-one}
-use native.Mathlib.Nat.{mul-le-mul}
 use native.Mathlib.Omega.{arith}
-use mir.Syntax.{w64}
-use mir.Val.{Fits}
-use mir.Facts.{fits-le, fits-lit}
 use Rattle.layout.specs.General.Triangle.{triangle}
 use Rattle.layout.specs.Problems.Patterns.{Pattern}
 use Rattle.supernode_tree.specs.Reads.{patternAt}
@@ -15,12 +10,6 @@ use Rattle.rows_blocks.proofs.Offsets.{pattern-here}
 use Rattle.layout.proofs.Lists.Walks.{same-le}
 use Rattle.join_cones.proofs.cone_rows.Statement.{statement}
 use Rattle.join_cones.proofs.cone_rows.Tie as tie
-
-next-fits : (v : ℕ) → v ≤ 256 → Fits w64 (v + 1)
-next-fits v h = let g : v + 1 ≤ 257 = omega arith in fits-le g (fits-lit tt)
-
-square-fits : (v : ℕ) → v ≤ 256 → Fits w64 (v * (v + 1))
-square-fits v h = let g : v * (v + 1) ≤ 257 * 257 = mul-le-mul {n₂ = 257} {m₂ = 257} (omega arith) (omega arith) in fits-le g (fits-lit tt)
 
 here-requires : tie.Need-here-requires
 here-requires c κs = let s = c .before in right-head (s .args .words .now) (s .args .at) (s .pre .0 .tree)
@@ -35,18 +24,19 @@ vertices h =
 few : (h : tie.After-here) → h .here .result .«vertex_count» ≤ 256
 few h = same-le (sym (vertices h)) (h .before .before .pre .1)
 
-add-result : tie.Need-add-result
-add-result c = next-fits (c .here .result .«vertex_count») (few c)
+cast-triangular-number : tie.Need-cast-triangular-number
+cast-triangular-number c = omega (arith, few (c .before))
 
-mul-result : tie.Need-mul-result
-mul-result c = square-fits (c .here .result .«vertex_count») (few c)
+triangular-number-requires : tie.Need-triangular-number-requires
+triangular-number-requires c κs = omega (arith, few (c .before))
+
+cast-result : tie.Need-cast-result
+cast-result c = omega arith
 
 returns : tie.Need-returns
-returns c =
-    let v = c .here .result .«vertex_count» in
-    ap (λ (n : ℕ). v * n / 2) (add-one v) ∙ ap triangle (sym (vertices c))
+returns c = c .triangular-number .ensures ∙ ap triangle (sym (vertices (c .before .before)))
 
 pub cone-rows-spec : {M : Type 1} → statement M
 cone-rows-spec =
     tie.close
-    (tie.spec here-requires add-result mul-result returns)
+    (tie.spec here-requires cast-triangular-number triangular-number-requires cast-result returns)

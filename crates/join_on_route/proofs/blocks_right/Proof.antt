@@ -13,7 +13,7 @@ use Rattle.layout.proofs.Columns.Sizes.{entries-length}
 use Rattle.supernode_tree.specs.Reads.{Whole, cliquesFrom, cliqueOf}
 use Rattle.supernode_tree.specs.Sizes.{blockAtMost, dimOf}
 use Rattle.supernode_tree.proofs.Cliques.{first-whole, whole-next, from-next, block-size}
-use Rattle.supernode_tree.proofs.Sizes.{all-cons, triangle-small}
+use Rattle.supernode_tree.proofs.Sizes.{all-cons}
 use Rattle.supernode_tree.proofs.Many.{many-length}
 use Rattle.rows_tables.specs.Tables.{entriesDown}
 use Rattle.rows_tables.proofs.Cones.{downWords, down-length, down-more}
@@ -82,12 +82,8 @@ size c =
 rows-are : (c : tie.After-triangular-number Inv-loop μ-loop)
     → let k = c .before .before in
     let ws = start (k .before .before) .args .words .now in
-    (c .triangular-number .result ≡ dimOf (cliqueOf ws (k .here .result))) × (c .triangular-number .result ≤ 32896)
-rows-are c =
-    let k = c .before .before in (
-      c .triangular-number .ensures ∙ ap triangle (c .before .get-nblk .ensures ∙ sym (size k .0)),
-      omega (arith, c .triangular-number .ensures, triangle-small (c .before .get-nblk .result) (omega (arith, size k .1, c .before .get-nblk .ensures))),
-    )
+    c .triangular-number .result ≡ dimOf (cliqueOf ws (k .here .result))
+rows-are c = c .triangular-number .ensures ∙ ap triangle (c .before .get-nblk .ensures ∙ sym (size (c .before .before) .0))
 
 row-is : (c : tie.After-triangular-number Inv-loop μ-loop)
     → let k = c .before .before in
@@ -97,7 +93,7 @@ row-is : (c : tie.After-triangular-number Inv-loop μ-loop)
 row-is c =
     let k = c .before .before in
     let l = k .before .before in
-    omega (arith, l .loop .inv .3, ap (λ (cs : List Clique). sum (map dimOf cs)) (first-of k), rows-are c .0)
+    omega (arith, l .loop .inv .3, ap (λ (cs : List Clique). sum (map dimOf cs)) (first-of k), rows-are c)
 
 -- its entry comes after those of the cliques after it
 module _ (c : tie.After-triangular-number Inv-loop μ-loop) where
@@ -130,7 +126,7 @@ module _ (c : tie.After-triangular-number Inv-loop μ-loop) where
       let row : baseOf s + sum (map dimOf cs) ≡ l .loop .row - n = omega (arith, row-is c) in
       ap (downWords (a .cone) (a .pattern) number (baseOf s)) (first-of k) ∙ down-more (a .cone) (a .pattern) number (baseOf s) (cliqueOf ws q) cs
       ∙ ap₂ (λ (d r : ℕ). downWords (a .cone) (a .pattern) d (baseOf s) cs ++ (a .cone ∷ a .pattern ∷ number ∷ r ∷ dimOf (cliqueOf ws q) ∷ [])) next row
-      ∙ ap (λ (d : ℕ). others ++ (a .cone ∷ a .pattern ∷ number ∷ (l .loop .row - n) ∷ d ∷ [])) (sym (rows-are c .0))
+      ∙ ap (λ (d : ℕ). others ++ (a .cone ∷ a .pattern ∷ number ∷ (l .loop .row - n) ∷ d ∷ [])) (sym (rows-are c))
 
   others-long : length others ≡ (here .loop .left - 1) * 5
   others-long =
@@ -164,11 +160,11 @@ here-requires c κs = let l = c .before in first-whole (start l .args .words .no
 get-nblk-requires : tie.Need-get-nblk-requires Inv-loop μ-loop
 get-nblk-requires c κs = omega (arith, size c .1)
 
+cast-triangular-number : tie.Need-cast-triangular-number Inv-loop μ-loop
+cast-triangular-number c = omega (arith, size (c .before) .1, c .get-nblk .ensures)
+
 triangular-number-requires : tie.Need-triangular-number-requires Inv-loop μ-loop
 triangular-number-requires c κs = omega (arith, size (c .before) .1, c .get-nblk .ensures)
-
-cast-rows : tie.Need-cast-rows Inv-loop μ-loop
-cast-rows c = omega (arith, rows-are c .1)
 
 sub-clique : tie.Need-sub-clique Inv-loop μ-loop
 sub-clique c = omega (arith, here c .loop .inv .0)
@@ -241,8 +237,8 @@ blocks-right-spec =
     loop-holds
     here-requires
     get-nblk-requires
+    cast-triangular-number
     triangular-number-requires
-    cast-rows
     sub-clique
     sub-left
     sub-row

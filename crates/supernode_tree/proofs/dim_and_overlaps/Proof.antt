@@ -62,7 +62,7 @@ block-rows c = omega (arith, c .triangular-number .ensures, triangle-small (c .b
 
 separator-rows : (c : tie.After-triangular-number2 Inv-loop μ-loop) → c .triangular-number2 .result ≤ 32896
 separator-rows c =
-    let k = c .before .before .before in
+    let k = c .before .before .before .before in
     omega (arith, c .triangular-number2 .ensures, triangle-small (k .here .result .«separator_count») (omega (arith, sizes k)))
 
 loop-holds : tie.Need-loop-holds Inv-loop μ-loop
@@ -76,14 +76,26 @@ here-requires c κs =
 get-nblk-requires : tie.Need-get-nblk-requires Inv-loop μ-loop
 get-nblk-requires c κs = omega (arith, sizes c)
 
+cast-triangular-number : tie.Need-cast-triangular-number Inv-loop μ-loop
+cast-triangular-number c = omega (arith, sizes (c .before), c .get-nblk .ensures)
+
 triangular-number-requires : tie.Need-triangular-number-requires Inv-loop μ-loop
 triangular-number-requires c κs = omega (arith, sizes (c .before), c .get-nblk .ensures)
+
+cast-dim : tie.Need-cast-dim Inv-loop μ-loop
+cast-dim c = omega (arith, block-rows c)
 
 add-dim : tie.Need-add-dim Inv-loop μ-loop
 add-dim c = omega (arith, block-rows c)
 
+cast-triangular-number-2 : tie.Need-cast-triangular-number-2 Inv-loop μ-loop
+cast-triangular-number-2 c = omega (arith, sizes (c .before .before .before))
+
 triangular-number-requires-2 : tie.Need-triangular-number-requires-2 Inv-loop μ-loop
-triangular-number-requires-2 c κs = omega (arith, sizes (c .before .before))
+triangular-number-requires-2 c κs = omega (arith, sizes (c .before .before .before))
+
+cast-overlaps : tie.Need-cast-overlaps Inv-loop μ-loop
+cast-overlaps c = omega (arith, separator-rows c)
 
 add-overlaps : tie.Need-add-overlaps Inv-loop μ-loop
 add-overlaps c = omega (arith, separator-rows c)
@@ -96,7 +108,7 @@ loop-less c = omega arith
 
 loop-again : tie.Need-loop-again Inv-loop μ-loop
 loop-again c =
-    let t = c .before in
+    let t = c .before .before in
     let k = t .before .before in
     let l = k .before .before in
     let ws = l .before .before .args .words .now in
@@ -129,9 +141,13 @@ dim-and-overlaps-spec =
     loop-holds
     here-requires
     get-nblk-requires
+    cast-triangular-number
     triangular-number-requires
+    cast-dim
     add-dim
+    cast-triangular-number-2
     triangular-number-requires-2
+    cast-overlaps
     add-overlaps
     sub-left
     loop-less

@@ -4,9 +4,7 @@ use Rattle.supportedcone.specs.declared.SupportedCone.{SupportedCone}
 use Rattle.supportedcone.specs.declared.SupportedCone.the-variants.{GenPowerConeT}
 use Rattle.layout.specs.Problems.Cones.{rowCount}
 use Rattle.layout.specs.Checks.{sizesBounded}
-use Prim.Native.Nat.{_+_, _*_, _≤_}
-use native.Mathlib.Nat.{mul-le-mul}
-use native.Mathlib.Numerals.{add-one}
+use Prim.Native.Nat.{_≤_}
 use mathlib.Core.Path.{_≡_, sym, ap, _∙_}
 use mathlib.Core.Bool.{true}
 use native.Mathlib.Omega.{arith}
@@ -25,9 +23,6 @@ psd-small : (c : tie.After-known-told5) → c .before .self5 .given .0 .0 ≤ 25
 psd-small c =
     psd-bounded (c .before .self5 .given .0 .0) 0
     (sym (ap (λ (s : SupportedCone). sizesBounded (recordOf s)) (c .before .self5 .given .1)) ∙ c .before .before .before .pre)
-
-psd-square : (c : tie.After-known-told5) → c .before .self5 .given .0 .0 * (c .before .self5 .given .0 .0 + 1) ≤ 65792
-psd-square c = mul-le-mul {n₂ = 256} {m₂ = 257} (psd-small c) (omega (arith, psd-small c))
 
 enum-known-self : tie.Need-enum-known-self
 enum-known-self c = search needs
@@ -53,11 +48,8 @@ add-result c = omega (arith, first-bounded (recordOf (gen c)) (gen-bounded c), s
 enum-known-self-5 : tie.Need-enum-known-self-5
 enum-known-self-5 c = search needs
 
-add-result-2 : tie.Need-add-result-2
-add-result-2 c = omega (arith, psd-small c)
-
-mul-result : tie.Need-mul-result
-mul-result c = omega (arith, psd-square c)
+triangular-number-requires : tie.Need-triangular-number-requires
+triangular-number-requires c κs = omega (arith, psd-small c)
 
 returns : tie.Need-returns
 returns c = search needs
@@ -78,7 +70,7 @@ returns-6 : tie.Need-returns-6
 returns-6 c = sym (ap (λ (s : SupportedCone). rowCount (recordOf s)) (c .before .self4 .given .1))
 
 returns-7 : tie.Need-returns-7
-returns-7 c = rw add-one (sym (ap (λ (s : SupportedCone). rowCount (recordOf s)) (c .before .self5 .given .1)))
+returns-7 c = c .triangular-number .ensures ∙ sym (ap (λ (s : SupportedCone). rowCount (recordOf s)) (c .before .before .self5 .given .1))
 
 pub nvars-spec : {M : Type 1} → statement M
 nvars-spec =
@@ -92,8 +84,7 @@ nvars-spec =
     enum-known-self-4
     add-result
     enum-known-self-5
-    add-result-2
-    mul-result
+    triangular-number-requires
     returns
     returns-2
     returns-3
