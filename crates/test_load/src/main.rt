@@ -22,12 +22,6 @@ fn tell(name: &[u8], n: u64) {
     io::print_decimal(STDOUT_FILENO, n);
 }
 
-// Prints the name of a call and the number that it returned.
-fn tell_answer(name: &[u8], answer: u32) {
-    say(b"  ");
-    tell(name, answer as u64);
-}
-
 // ---- checksums
 
 // Returns the bits of `v`; 0 for a NaN, whose bits cannot be read and which no load has.
@@ -62,52 +56,21 @@ fn value(table: &[f64], i: usize) -> f64 {
     if i < table.len() { table[i] } else { 0.0 }
 }
 
-// Prints the lengths of eleven tables.
-fn tell_lengths(lengths: &[u32]) {
+// Prints the lengths of eleven tables, and their checksum `sum`.
+fn tell_lengths(lengths: &[u32], sum: u64) {
     say(b": lengths");
     let mut i = 0;
     while i < 11 {
         tell(b" ", item(lengths, i) as u64);
         i += 1;
     }
-}
-
-// Prints the lengths and the checksum of eleven tables, whose lengths are in `lengths`.
-fn tell_tables<'a>(
-    lengths: &'a [u32],
-    p_starts: &'a [u32],
-    p_rows: &'a [u32],
-    p_values: &'a [f64],
-    q: &'a [f64],
-    a_starts: &'a [u32],
-    a_rows: &'a [u32],
-    a_values: &'a [f64],
-    b: &'a [f64],
-    cones: &'a [u32],
-    alphas: &'a [f64],
-    last: &'a [u32],
-) {
-    let mut s = 1;
-    s = add_words(s, p_starts, item(lengths, 0));
-    s = add_words(s, p_rows, item(lengths, 1));
-    s = add_values(s, p_values, item(lengths, 2));
-    s = add_values(s, q, item(lengths, 3));
-    s = add_words(s, a_starts, item(lengths, 4));
-    s = add_words(s, a_rows, item(lengths, 5));
-    s = add_values(s, a_values, item(lengths, 6));
-    s = add_values(s, b, item(lengths, 7));
-    s = add_words(s, cones, item(lengths, 8));
-    s = add_values(s, alphas, item(lengths, 9));
-    s = add_words(s, last, item(lengths, 10));
-    tell_lengths(lengths);
     say(b", checksum ");
-    io::print_hex(STDOUT_FILENO, s, 16);
+    io::print_hex(STDOUT_FILENO, sum, 16);
 }
 
-// ---- a cut
-
-// Prints the result of a cut of a load and, where it was not refused, its eleven outputs.
-fn tell_outputs<'a>(
+// Prints the name of a call and the number that it returned and, where that is 0, the lengths and the checksum of the eleven tables that it
+// wrote; `lengths` has their lengths.
+fn tell_tables<'a>(
     name: &[u8],
     answer: u32,
     lengths: &'a [u32],
@@ -121,27 +84,29 @@ fn tell_outputs<'a>(
     b: &'a [f64],
     cones: &'a [u32],
     alphas: &'a [f64],
-    map: &'a [u32],
+    last: &'a [u32],
 ) {
-    tell_answer(name, answer);
+    say(b"  ");
+    tell(name, answer as u64);
     if answer == 0 {
-        tell_tables(
-            lengths,
-            p_starts,
-            p_rows,
-            p_values,
-            q,
-            a_starts,
-            a_rows,
-            a_values,
-            b,
-            cones,
-            alphas,
-            map,
-        );
+        let mut s = 1;
+        s = add_words(s, p_starts, item(lengths, 0));
+        s = add_words(s, p_rows, item(lengths, 1));
+        s = add_values(s, p_values, item(lengths, 2));
+        s = add_values(s, q, item(lengths, 3));
+        s = add_words(s, a_starts, item(lengths, 4));
+        s = add_words(s, a_rows, item(lengths, 5));
+        s = add_values(s, a_values, item(lengths, 6));
+        s = add_values(s, b, item(lengths, 7));
+        s = add_words(s, cones, item(lengths, 8));
+        s = add_values(s, alphas, item(lengths, 9));
+        s = add_words(s, last, item(lengths, 10));
+        tell_lengths(lengths, s);
     }
     say(b"\n");
 }
+
+// ---- a cut
 
 // Cuts a load on a route, with outputs of the given `lengths`, and prints what is written.
 fn tell_cut<'a>(
@@ -201,7 +166,7 @@ fn tell_cut<'a>(
         &mut alphas_out,
         &mut map_out,
     );
-    tell_outputs(
+    tell_tables(
         name,
         answer,
         lengths,
@@ -295,38 +260,34 @@ fn front_values(table: &[f64], n: u32) -> &[f64] {
     &table[..count]
 }
 
-// Prints a problem and both its cuts.
-fn tell_problem<'a>(
+// Prints both cuts of the problem that the generator wrote to the front of these tables.
+fn tell_cuts<'a>(
     lengths: &'a [u32],
-    p_starts: &'a [u32],
-    p_rows: &'a [u32],
-    p_values: &'a [f64],
-    q: &'a [f64],
-    a_starts: &'a [u32],
-    a_rows: &'a [u32],
-    a_values: &'a [f64],
-    b: &'a [f64],
-    cones: &'a [u32],
-    alphas: &'a [f64],
-    pattern: &'a [u32],
+    p_starts_table: &'a [u32],
+    p_rows_table: &'a [u32],
+    p_values_table: &'a [f64],
+    q_table: &'a [f64],
+    a_starts_table: &'a [u32],
+    a_rows_table: &'a [u32],
+    a_values_table: &'a [f64],
+    b_table: &'a [f64],
+    cones_table: &'a [u32],
+    alphas_table: &'a [f64],
+    pattern_table: &'a [u32],
 ) {
     let n = item(lengths, 3);
     let m = item(lengths, 7);
-    tell_tables(
-        lengths,
-        p_starts,
-        p_rows,
-        p_values,
-        q,
-        a_starts,
-        a_rows,
-        a_values,
-        b,
-        cones,
-        alphas,
-        pattern,
-    );
-    say(b"\n");
+    let p_starts = front(p_starts_table, item(lengths, 0));
+    let p_rows = front(p_rows_table, item(lengths, 1));
+    let p_values = front_values(p_values_table, item(lengths, 2));
+    let q = front_values(q_table, item(lengths, 3));
+    let a_starts = front(a_starts_table, item(lengths, 4));
+    let a_rows = front(a_rows_table, item(lengths, 5));
+    let a_values = front_values(a_values_table, item(lengths, 6));
+    let b = front_values(b_table, item(lengths, 7));
+    let cones = front(cones_table, item(lengths, 8));
+    let alphas = front_values(alphas_table, item(lengths, 9));
+    let pattern = front(pattern_table, item(lengths, 10));
     tell_route(
         b"standard ",
         STANDARD,
@@ -363,38 +324,7 @@ fn tell_problem<'a>(
     );
 }
 
-// Prints the problem that the generator wrote to the front of its outputs.
-fn tell_fronts<'a>(
-    lengths: &'a [u32],
-    p_starts: &'a [u32],
-    p_rows: &'a [u32],
-    p_values: &'a [f64],
-    q: &'a [f64],
-    a_starts: &'a [u32],
-    a_rows: &'a [u32],
-    a_values: &'a [f64],
-    b: &'a [f64],
-    cones: &'a [u32],
-    alphas: &'a [f64],
-    pattern: &'a [u32],
-) {
-    tell_problem(
-        lengths,
-        front(p_starts, item(lengths, 0)),
-        front(p_rows, item(lengths, 1)),
-        front_values(p_values, item(lengths, 2)),
-        front_values(q, item(lengths, 3)),
-        front(a_starts, item(lengths, 4)),
-        front(a_rows, item(lengths, 5)),
-        front_values(a_values, item(lengths, 6)),
-        front_values(b, item(lengths, 7)),
-        front(cones, item(lengths, 8)),
-        front_values(alphas, item(lengths, 9)),
-        front(pattern, item(lengths, 10)),
-    );
-}
-
-// Prints the result of the generator and, where it was not refused, the problem that it wrote.
+// Prints the result of the generator and, where it was not refused, the problem that it wrote and both its cuts.
 fn tell_generated<'a>(
     answer: u32,
     seed: u64,
@@ -415,9 +345,24 @@ fn tell_generated<'a>(
 ) {
     let mut lengths = [0u32; 11];
     generator::generate_sizes(seed, v, w, n, &mut lengths);
-    tell_answer(b"generate ", answer);
+    tell_tables(
+        b"generate ",
+        answer,
+        &lengths,
+        p_starts,
+        p_rows,
+        p_values,
+        q,
+        a_starts,
+        a_rows,
+        a_values,
+        b,
+        cones,
+        alphas,
+        pattern,
+    );
     if answer == 0 {
-        tell_fronts(
+        tell_cuts(
             &lengths,
             p_starts,
             p_rows,
@@ -431,8 +376,6 @@ fn tell_generated<'a>(
             alphas,
             pattern,
         );
-    } else {
-        say(b"\n");
     }
 }
 

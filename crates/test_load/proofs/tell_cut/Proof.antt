@@ -41,41 +41,41 @@ slice-aggregate-cut-11 c = sym (length-replicate {A = ℕ} 32768 0)
 cut-requires : tie.Need-cut-requires
 cut-requires c κs = tt
 
-slice-aggregate-tell-outputs : tie.Need-slice-aggregate-tell-outputs
-slice-aggregate-tell-outputs c = sym (c .before .before .before .before .before .before .before .before .before .before .before .before .cut .kept .1 .1 .1 .1 .1 .1 .1 .1 .1 .1 .1 .1 .1 .1 .1 .0 ∙ length-replicate {A = ℕ} 32768 0)
+slice-aggregate-tell-tables : tie.Need-slice-aggregate-tell-tables
+slice-aggregate-tell-tables c = sym (c .before .before .before .before .before .before .before .before .before .before .before .before .cut .kept .1 .1 .1 .1 .1 .1 .1 .1 .1 .1 .1 .1 .1 .1 .1 .0 ∙ length-replicate {A = ℕ} 32768 0)
 
-slice-aggregate-tell-outputs-2 : tie.Need-slice-aggregate-tell-outputs-2
-slice-aggregate-tell-outputs-2 c = sym (c .before .before .before .before .before .before .before .before .before .before .before .before .before .cut .kept .1 .1 .1 .1 .1 .1 .1 .1 .1 .1 .1 .1 .1 .1 .1 .1 .0 ∙ length-replicate {A = ℕ} 32768 0)
+slice-aggregate-tell-tables-2 : tie.Need-slice-aggregate-tell-tables-2
+slice-aggregate-tell-tables-2 c = sym (c .before .before .before .before .before .before .before .before .before .before .before .before .before .cut .kept .1 .1 .1 .1 .1 .1 .1 .1 .1 .1 .1 .1 .1 .1 .1 .1 .0 ∙ length-replicate {A = ℕ} 32768 0)
 
-slice-aggregate-tell-outputs-3 : tie.Need-slice-aggregate-tell-outputs-3
-slice-aggregate-tell-outputs-3 c = sym (c .before .before .before .before .before .before .before .before .before .before .before .before .before .before .cut .kept .1 .1 .1 .1 .1 .1 .1 .1 .1 .1 .1 .1 .1 .1 .1 .1 .1 .0 ∙ length-replicate {A = Float} 32768 (ofBits binary64 0))
+slice-aggregate-tell-tables-3 : tie.Need-slice-aggregate-tell-tables-3
+slice-aggregate-tell-tables-3 c = sym (c .before .before .before .before .before .before .before .before .before .before .before .before .before .before .cut .kept .1 .1 .1 .1 .1 .1 .1 .1 .1 .1 .1 .1 .1 .1 .1 .1 .1 .0 ∙ length-replicate {A = Float} 32768 (ofBits binary64 0))
 
-slice-aggregate-tell-outputs-4 : tie.Need-slice-aggregate-tell-outputs-4
-slice-aggregate-tell-outputs-4 c = sym (c .before .before .before .before .before .before .before .before .before .before .before .before .before .before .before .cut .kept .1 .1 .1 .1 .1 .1 .1 .1 .1 .1 .1 .1 .1 .1 .1 .1 .1 .1 .0 ∙ length-replicate {A = Float} 32768 (ofBits binary64 0))
+slice-aggregate-tell-tables-4 : tie.Need-slice-aggregate-tell-tables-4
+slice-aggregate-tell-tables-4 c = sym (c .before .before .before .before .before .before .before .before .before .before .before .before .before .before .before .cut .kept .1 .1 .1 .1 .1 .1 .1 .1 .1 .1 .1 .1 .1 .1 .1 .1 .1 .1 .0 ∙ length-replicate {A = Float} 32768 (ofBits binary64 0))
 
-slice-aggregate-tell-outputs-5 : tie.Need-slice-aggregate-tell-outputs-5
-slice-aggregate-tell-outputs-5 c = sym (c .before .before .before .before .before .before .before .before .before .before .before .before .before .before .before .before .cut .kept .1 .1 .1 .1 .1 .1 .1 .1 .1 .1 .1 .1 .1 .1 .1 .1 .1 .1 .1 .0 ∙ length-replicate {A = ℕ} 32768 0)
+slice-aggregate-tell-tables-5 : tie.Need-slice-aggregate-tell-tables-5
+slice-aggregate-tell-tables-5 c = sym (c .before .before .before .before .before .before .before .before .before .before .before .before .before .before .before .before .cut .kept .1 .1 .1 .1 .1 .1 .1 .1 .1 .1 .1 .1 .1 .1 .1 .1 .1 .1 .1 .0 ∙ length-replicate {A = ℕ} 32768 0)
 
-slice-aggregate-tell-outputs-6 : tie.Need-slice-aggregate-tell-outputs-6
-slice-aggregate-tell-outputs-6 c = sym (c .before .before .before .before .before .before .before .before .before .before .before .before .before .before .before .before .before .cut .kept .1 .1 .1 .1 .1 .1 .1 .1 .1 .1 .1 .1 .1 .1 .1 .1 .1 .1 .1 .1 .0 ∙ length-replicate {A = ℕ} 32768 0)
+slice-aggregate-tell-tables-6 : tie.Need-slice-aggregate-tell-tables-6
+slice-aggregate-tell-tables-6 c = sym (c .before .before .before .before .before .before .before .before .before .before .before .before .before .before .before .before .before .cut .kept .1 .1 .1 .1 .1 .1 .1 .1 .1 .1 .1 .1 .1 .1 .1 .1 .1 .1 .1 .1 .0 ∙ length-replicate {A = ℕ} 32768 0)
 
-slice-aggregate-tell-outputs-7 : tie.Need-slice-aggregate-tell-outputs-7
-slice-aggregate-tell-outputs-7 c = sym (c .before .before .before .before .before .before .before .before .before .before .before .before .before .before .before .before .before .before .cut .kept .1 .1 .1 .1 .1 .1 .1 .1 .1 .1 .1 .1 .1 .1 .1 .1 .1 .1 .1 .1 .1 .0 ∙ length-replicate {A = Float} 32768 (ofBits binary64 0))
+slice-aggregate-tell-tables-7 : tie.Need-slice-aggregate-tell-tables-7
+slice-aggregate-tell-tables-7 c = sym (c .before .before .before .before .before .before .before .before .before .before .before .before .before .before .before .before .before .before .cut .kept .1 .1 .1 .1 .1 .1 .1 .1 .1 .1 .1 .1 .1 .1 .1 .1 .1 .1 .1 .1 .1 .0 ∙ length-replicate {A = Float} 32768 (ofBits binary64 0))
 
-slice-aggregate-tell-outputs-8 : tie.Need-slice-aggregate-tell-outputs-8
-slice-aggregate-tell-outputs-8 c = sym (c .before .before .before .before .before .before .before .before .before .before .before .before .before .before .before .before .before .before .before .cut .kept .1 .1 .1 .1 .1 .1 .1 .1 .1 .1 .1 .1 .1 .1 .1 .1 .1 .1 .1 .1 .1 .1 .0 ∙ length-replicate {A = Float} 32768 (ofBits binary64 0))
+slice-aggregate-tell-tables-8 : tie.Need-slice-aggregate-tell-tables-8
+slice-aggregate-tell-tables-8 c = sym (c .before .before .before .before .before .before .before .before .before .before .before .before .before .before .before .before .before .before .before .cut .kept .1 .1 .1 .1 .1 .1 .1 .1 .1 .1 .1 .1 .1 .1 .1 .1 .1 .1 .1 .1 .1 .1 .0 ∙ length-replicate {A = Float} 32768 (ofBits binary64 0))
 
-slice-aggregate-tell-outputs-9 : tie.Need-slice-aggregate-tell-outputs-9
-slice-aggregate-tell-outputs-9 c = sym (c .before .before .before .before .before .before .before .before .before .before .before .before .before .before .before .before .before .before .before .before .cut .kept .1 .1 .1 .1 .1 .1 .1 .1 .1 .1 .1 .1 .1 .1 .1 .1 .1 .1 .1 .1 .1 .1 .1 .0 ∙ length-replicate {A = ℕ} 32768 0)
+slice-aggregate-tell-tables-9 : tie.Need-slice-aggregate-tell-tables-9
+slice-aggregate-tell-tables-9 c = sym (c .before .before .before .before .before .before .before .before .before .before .before .before .before .before .before .before .before .before .before .before .cut .kept .1 .1 .1 .1 .1 .1 .1 .1 .1 .1 .1 .1 .1 .1 .1 .1 .1 .1 .1 .1 .1 .1 .1 .0 ∙ length-replicate {A = ℕ} 32768 0)
 
-slice-aggregate-tell-outputs-10 : tie.Need-slice-aggregate-tell-outputs-10
-slice-aggregate-tell-outputs-10 c = sym (c .before .before .before .before .before .before .before .before .before .before .before .before .before .before .before .before .before .before .before .before .before .cut .kept .1 .1 .1 .1 .1 .1 .1 .1 .1 .1 .1 .1 .1 .1 .1 .1 .1 .1 .1 .1 .1 .1 .1 .1 .0 ∙ length-replicate {A = Float} 32768 (ofBits binary64 0))
+slice-aggregate-tell-tables-10 : tie.Need-slice-aggregate-tell-tables-10
+slice-aggregate-tell-tables-10 c = sym (c .before .before .before .before .before .before .before .before .before .before .before .before .before .before .before .before .before .before .before .before .before .cut .kept .1 .1 .1 .1 .1 .1 .1 .1 .1 .1 .1 .1 .1 .1 .1 .1 .1 .1 .1 .1 .1 .1 .1 .1 .0 ∙ length-replicate {A = Float} 32768 (ofBits binary64 0))
 
-slice-aggregate-tell-outputs-11 : tie.Need-slice-aggregate-tell-outputs-11
-slice-aggregate-tell-outputs-11 c = sym (c .before .before .before .before .before .before .before .before .before .before .before .before .before .before .before .before .before .before .before .before .before .before .cut .kept .1 .1 .1 .1 .1 .1 .1 .1 .1 .1 .1 .1 .1 .1 .1 .1 .1 .1 .1 .1 .1 .1 .1 .1 .1 .0 ∙ length-replicate {A = ℕ} 32768 0)
+slice-aggregate-tell-tables-11 : tie.Need-slice-aggregate-tell-tables-11
+slice-aggregate-tell-tables-11 c = sym (c .before .before .before .before .before .before .before .before .before .before .before .before .before .before .before .before .before .before .before .before .before .before .cut .kept .1 .1 .1 .1 .1 .1 .1 .1 .1 .1 .1 .1 .1 .1 .1 .1 .1 .1 .1 .1 .1 .1 .1 .1 .1 .0 ∙ length-replicate {A = ℕ} 32768 0)
 
-tell-outputs-requires : tie.Need-tell-outputs-requires
-tell-outputs-requires c κs = tt
+tell-tables-requires : tie.Need-tell-tables-requires
+tell-tables-requires c κs = tt
 
 returns : tie.Need-returns
 returns c = tt
@@ -96,16 +96,16 @@ tell-cut-spec =
     slice-aggregate-cut-10
     slice-aggregate-cut-11
     cut-requires
-    slice-aggregate-tell-outputs
-    slice-aggregate-tell-outputs-2
-    slice-aggregate-tell-outputs-3
-    slice-aggregate-tell-outputs-4
-    slice-aggregate-tell-outputs-5
-    slice-aggregate-tell-outputs-6
-    slice-aggregate-tell-outputs-7
-    slice-aggregate-tell-outputs-8
-    slice-aggregate-tell-outputs-9
-    slice-aggregate-tell-outputs-10
-    slice-aggregate-tell-outputs-11
-    tell-outputs-requires
+    slice-aggregate-tell-tables
+    slice-aggregate-tell-tables-2
+    slice-aggregate-tell-tables-3
+    slice-aggregate-tell-tables-4
+    slice-aggregate-tell-tables-5
+    slice-aggregate-tell-tables-6
+    slice-aggregate-tell-tables-7
+    slice-aggregate-tell-tables-8
+    slice-aggregate-tell-tables-9
+    slice-aggregate-tell-tables-10
+    slice-aggregate-tell-tables-11
+    tell-tables-requires
     returns)

@@ -4,10 +4,10 @@ use Rattle.test_load.proofs.tell_lengths.Statement.{statement}
 use Rattle.test_load.proofs.tell_lengths.Tie as tie
 
 abbrev Inv-loop : tie.InvT-loop
-Inv-loop lengths i₀ t4 i = i ≤ 11
+Inv-loop lengths sum i₀ t4 t5 i = i ≤ 11
 
 abbrev μ-loop : tie.MeasureT-loop
-μ-loop lengths i₀ t4 i = 11 - i
+μ-loop lengths sum i₀ t4 t5 i = 11 - i
 
 slice-aggregate-say : tie.Need-slice-aggregate-say Inv-loop μ-loop
 slice-aggregate-say c = search needs
@@ -39,6 +39,15 @@ loop-less c = search needs
 loop-again : tie.Need-loop-again Inv-loop μ-loop
 loop-again c = search needs
 
+slice-aggregate-say-2 : tie.Need-slice-aggregate-say-2 Inv-loop μ-loop
+slice-aggregate-say-2 c = search needs
+
+say-requires-2 : tie.Need-say-requires-2 Inv-loop μ-loop
+say-requires-2 c κs = search needs
+
+print-hex-requires : tie.Need-print-hex-requires Inv-loop μ-loop
+print-hex-requires c κs = search needs
+
 returns : tie.Need-returns Inv-loop μ-loop
 returns c = search needs
 
@@ -58,4 +67,7 @@ tell-lengths-spec =
     add-i
     loop-less
     loop-again
+    slice-aggregate-say-2
+    say-requires-2
+    print-hex-requires
     returns)
