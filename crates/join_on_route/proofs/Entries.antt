@@ -1,21 +1,26 @@
 -- Words compared part by part: with the map entries of a pattern's cliques, and with those of the parts ahead.
-use Prim.Native.Nat.{ℕ, suc, _+_, _-_, _≤_, _<_}
+use Prim.Native.Nat.{ℕ, zero, suc, _+_, _-_, _≤_, _<_}
 use native.Mathlib.Numerals.{add-one}
 use native.Mathlib.Omega.{arith}
-use mathlib.Core.Path.{_≡_, refl, ap, sym, _∙_}
+use mathlib.Core.Path.{_≡_, refl, ap, ap₂, sym, _∙_}
 use mathlib.Core.Bool.{Bool, true, false, _&&_, and-assoc, and-true as all-of}
 use mathlib.Core.Logic.{_⊎_, inl, inr}
-use mathlib.Core.List.{List, [], _∷_, _++_}
-use lib.ListN.{length, getD, drop, length-drop, drop-of-length-le}
-use lib.Seq.{drop-cons, drop-drop}
+use mathlib.Core.List.{List, [], _∷_, _++_, map}
+use lib.ListN.{length, getD, drop, length-append, length-drop, drop-of-length-le}
+use lib.Seq.{drop-cons, drop-drop, getD-drop, getD-append-add}
 use lib.Dec.{eqb}
-use borrow.Author.Tests.{eq-eqb, ne-eqb}
-use Rattle.layout.specs.General.Lists.{sameNumbers}
+use borrow.Author.Tests.{eqb-true, eqb-false, eq-eqb, ne-eqb}
+use Rattle.layout.specs.General.Lists.{sum, sameNumbers}
+use Rattle.layout.specs.Problems.Patterns.{Clique}
 use Rattle.layout.specs.Rows.Blocks.{Part, partRows}
 use Rattle.layout.specs.Cuts.Compact.{mapPart, mapFrom, mapWords}
-use Rattle.layout.proofs.Lists.Tests.{lt-or-le, and-true, and-false, and-right, differ}
+use Rattle.layout.proofs.Lists.Tests.{and-iff, passed, passes, lt-or-le, and-true, and-false, and-right, differ}
 use Rattle.layout.proofs.Rows.ConeMap.{words-part}
-use Rattle.join_on_route.specs.Begins.{begins}
+use Rattle.layout.proofs.Columns.Sizes.{entries-length}
+use Rattle.supernode_tree.specs.Sizes.{dimOf}
+use Rattle.rows_tables.specs.Tables.{entriesDown}
+use Rattle.rows_tables.proofs.Cones.{downWords, down-length, down-more}
+use Rattle.join_on_route.specs.Begins.{begins, Tells}
 
 -- ---- prefixes
 
@@ -77,11 +82,80 @@ module _ (ws : List ℕ) (t j : ℕ) (ys zs : List ℕ) (e : length ys ≡ j) wh
       part begins (λ y ys. refl) (λ x y xs ys. refl) (drop t ws) ys zs
       ∙ ap (λ (l : List ℕ). begins (drop t ws) ys && begins l zs) (drop-drop (length ys) t ws ∙ ap (λ (k : ℕ). drop (t + k) ws) e)
 
-  pub last-hit : begins (drop (t + j) ws) zs ≡ true → begins (drop t ws) (ys ++ zs) ≡ begins (drop t ws) ys
+  last-hit : begins (drop (t + j) ws) zs ≡ true → begins (drop t ws) (ys ++ zs) ≡ begins (drop t ws) ys
   last-hit h = after ∙ ap (λ (b : Bool). begins (drop t ws) ys && b) h ∙ all-of (begins (drop t ws) ys)
 
-  pub last-miss : begins (drop (t + j) ws) zs ≡ false → begins (drop t ws) (ys ++ zs) ≡ false
+  last-miss : begins (drop (t + j) ws) zs ≡ false → begins (drop t ws) (ys ++ zs) ≡ false
   last-miss h = after ∙ and-right (begins (drop t ws) ys) (begins (drop (t + j) ws) zs) h
+
+-- ---- where the rows of a pattern end, as the map tells
+
+-- an entry with first row r and n rows comes after ys, and its rows are told to end before `told`
+module _ (ws : List ℕ) (t j : ℕ) (ys : List ℕ) (e : length ys ≡ j) (i k c n r told : ℕ) where
+  abbrev entryAt : ℕ → List ℕ
+  entryAt q = i ∷ k ∷ c ∷ q ∷ n ∷ []
+
+  abbrev right : Bool
+  right = begins (drop t ws) (ys ++ entryAt r) && eqb told (r + n)
+
+  wrong : (told ≡ r + n → ⊥) → right ≡ false
+  wrong x = and-right (begins (drop t ws) (ys ++ entryAt r)) (eqb told (r + n)) (ne-eqb told (r + n) x)
+
+  pub told-low : told < n → right ≡ false
+  told-low h = wrong (λ q. omega arith)
+
+  -- the entry is compared with the first row that the end told gives
+  module _ (h : n ≤ told) where
+    moved : {x : Bool} → told - n ≡ r → begins (drop (t + j) ws) (entryAt (told - n)) ≡ x → begins (drop (t + j) ws) (entryAt r) ≡ x
+    moved same f = ap (λ (q : ℕ). begins (drop (t + j) ws) (entryAt q)) (sym same) ∙ f
+
+    pub told-hit : begins (drop (t + j) ws) (entryAt (told - n)) ≡ true → right ≡ (begins (drop t ws) ys && eqb (told - n) r)
+    told-hit f = go (eqb (told - n) r) refl
+      where
+        go : (b : Bool) → eqb (told - n) r ≡ b → right ≡ (begins (drop t ws) ys && eqb (told - n) r)
+        go true x =
+            let same = eqb-true (told - n) r x in
+            ap₂ (λ (a b : Bool). a && b) (last-hit ws t j ys (entryAt r) e (moved same f)) (eq-eqb told (r + n) (omega arith) ∙ sym x)
+        go false x = wrong (λ q. eqb-false (told - n) r x (omega arith)) ∙ sym (and-right (begins (drop t ws) ys) (eqb (told - n) r) x)
+
+    pub told-miss : begins (drop (t + j) ws) (entryAt (told - n)) ≡ false → right ≡ false
+    told-miss f = go (eqb (told - n) r) refl
+      where
+        go : (b : Bool) → eqb (told - n) r ≡ b → right ≡ false
+        go true x =
+            and-false (begins (drop t ws) (ys ++ entryAt r)) (eqb told (r + n))
+            (last-miss ws t j ys (entryAt r) e (moved (eqb-true (told - n) r x) f))
+        go false x = wrong (λ q. eqb-false (told - n) r x (omega arith))
+
+-- the elements of a prefix
+begins-at : (xs ys : List ℕ) (k : ℕ) → begins xs ys ≡ true → k < length ys → getD xs k 0 ≡ getD ys k 0
+begins-at xs [] k e h = absurd (omega arith)
+begins-at [] (y ∷ ys) k e h = absurd (differ false e refl)
+begins-at (x ∷ xs) (y ∷ ys) zero e h = eqb-true x y (passed (eqb x y) (and-iff (eqb x y) (begins xs ys) .0 (passes (eqb x y && begins xs ys) e) .0))
+begins-at (x ∷ xs) (y ∷ ys) (suc k) e h =
+    begins-at xs ys k (passed (begins xs ys) (and-iff (eqb x y) (begins xs ys) .0 (passes (eqb x y && begins xs ys) e) .1)) (omega arith)
+
+-- the words of the last entry, zs
+pub last-at : (ws : List ℕ) (t : ℕ) (ys zs : List ℕ) (m k : ℕ) → begins (drop t ws) (ys ++ zs) ≡ true → m ≡ length ys → k < length zs
+    → getD ws (t + m + k) 0 ≡ getD zs k 0
+last-at ws t ys zs m k e f h =
+    let at : t + m + k ≡ t + (length ys + k) = omega arith in
+    ap (λ (n : ℕ). getD ws n 0) at ∙ sym (getD-drop t ws (length ys + k) 0)
+    ∙ begins-at (drop t ws) (ys ++ zs) (length ys + k) e (omega (arith, length-append ys zs)) ∙ getD-append-add ys zs k 0
+
+-- if the words start with the entries of cliques, the rows of these end where the map tells
+pub told-rows : (xs : List ℕ) (i k first : ℕ) (cs : List Clique) (end : ℕ) → 0 < length cs → Tells xs (length cs) end → first + sum (map dimOf cs) ≤ 262144
+    → begins xs (downWords i k 0 first cs) ≡ true → end ≡ first + sum (map dimOf cs)
+told-rows xs i k first [] end l h m b = absurd (omega arith)
+told-rows xs i k first (q ∷ cs) end l h m b =
+    let es = entriesDown i k 1 first cs in
+    let e = h (downWords i k 1 first cs) i k 0 (first + sum (map dimOf cs)) (dimOf q) (omega (arith, entries-length es, down-length i k 1 first cs)) (sym (ap (begins xs) (down-more i k 0 first q cs)) ∙ b) (omega arith) in
+    omega (arith, e)
+
+-- a second test that holds where the first passes changes nothing
+pub implied : (b : Bool) (x y : ℕ) → (b ≡ true → x ≡ y) → (b && eqb x y) ≡ b
+implied true x y h = eq-eqb x y (h refl)
+implied false x y h = refl
 
 -- ---- the parts ahead
 

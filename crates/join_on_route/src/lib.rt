@@ -2,7 +2,7 @@
 ghost use mathlib.Core.Path.{_≡_};
 ghost use mathlib.Core.Bool.{true, _&&_};
 ghost use mathlib.Core.List.{[], _∷_, map as mapped};
-ghost use Prim.Native.Nat.{_-_, _≤_};
+ghost use Prim.Native.Nat.{_+_, _≤_, _<_};
 ghost use lib.ListN.{length, drop};
 ghost use lib.Dec.{eqb};
 ghost use Rattle.layout.specs.General.Lists.{all, sameNumbers, sum, written};
@@ -15,10 +15,11 @@ ghost use Rattle.layout.specs.Calls.Join.{joinedParts, rejoined, Join};
 ghost use Rattle.supernode_tree.specs.Reads.{patternAt, Whole, cliquesFrom};
 ghost use Rattle.supernode_tree.specs.Sizes.{blockAtMost, dimOf};
 ghost use Rattle.rows_tables.specs.Tables.{entriesDown};
-ghost use Rattle.join_on_route.specs.Begins.{begins};
+ghost use Rattle.join_on_route.specs.Begins.{begins, Tells};
 ghost use Rattle.join_on_route.specs.Fits.{lengthsFit, countedRefusal, refusalBy};
 use constants::entry;
 use constants::entry::NO_PATTERN;
+use constants::limit;
 use constants::refusal;
 use constants::route;
 use reverse_standard::Scalars;
@@ -60,8 +61,25 @@ fn entry_right(
     entries[t + entry::ROW_COUNT] == rows
 }
 
-// Returns whether `entries` from index `t` on start with those of the `count` cliques of one pattern, from last to first, whose rows end before `end`.
-// The first clique is read first; its rows and its entry come last, so entries are compared from the last on.
+// Reads where the rows of a pattern of `count` cliques end, in the last of its `entries` from index `t` on: the one of its first clique, whose rows come last.
+// So no walk over the cliques counts their rows before `blocks_right` compares them. Returns the end, or 0 if entries are missing or it is above check 10's bound.
+fn told_end(entries: &[u32], t: usize, count: u32) -> u32
+    requires { ⌜ (t ≤ length (now entries)) × (0 < count) ⌝ }
+    ensures { λ r. ⌜ Tells (drop t (now (entries .entry))) count r ⌝ }
+{
+    if entries.len() - t < count as usize * entry::WORDS {
+        return 0;
+    }
+    let last = t + (count as usize - 1) * entry::WORDS;
+    let end = entries[last + entry::FIRST_ROW] as u64 + entries[last + entry::ROW_COUNT] as u64;
+    if limit::AUGMENTED_ROWS < end {
+        return 0;
+    }
+    end as u32
+}
+
+// Returns whether `entries` from index `t` on start with those of the `count` cliques of one pattern, from last to first, whose rows are those from `start`
+// up to `end`. The first clique is read first; its rows and its entry come last, so entries are compared from the last on, and rows are counted down from `end`.
 fn blocks_right(
     entries: &[u32],
     t: usize,
@@ -70,12 +88,12 @@ fn blocks_right(
     words: &[u32],
     first: usize,
     count: u32,
+    start: u32,
     end: u32,
 ) -> bool
     requires { ⌜ Whole (now words) first count × (t ≤ length (now entries)) ⌝ }
     requires { ⌜ all (blockAtMost 256) (cliquesFrom (now words) first count) ≡ true ⌝ }
-    requires { ⌜ sum (mapped dimOf (cliquesFrom (now words) first count)) ≤ end ⌝ }
-    ensures { λ r. ⌜ r ≡ begins (drop t (now (entries .entry))) (mapWords (entriesDown cone pattern 0 (end - sum (mapped dimOf (cliquesFrom (now (words .entry)) first count))) (cliquesFrom (now (words .entry)) first count))) ⌝ }
+    ensures { λ r. ⌜ r ≡ (begins (drop t (now (entries .entry))) (mapWords (entriesDown cone pattern 0 start (cliquesFrom (now (words .entry)) first count))) && eqb end (start + sum (mapped dimOf (cliquesFrom (now (words .entry)) first count)))) ⌝ }
 {
     if entries.len() - t < count as usize * entry::WORDS {
         return false;
@@ -86,6 +104,9 @@ fn blocks_right(
     while 0 < left {
         let q = Clique::here(words, at);
         let rows = scalarmath::triangular_number(q.get_nblk() as u32);
+        if row < rows {
+            return false;
+        }
         let clique = count - left;
         left -= 1;
         row -= rows;
@@ -102,10 +123,10 @@ fn blocks_right(
         }
         at = q.next;
     }
-    true
+    row == start
 }
 
-// Returns whether `entries` from index `t` on start with those of the pattern at offset `at`, whose rows end before `end`.
+// Returns whether `entries` from index `t` on start with those of the pattern at offset `at`, whose rows are those from `start` up to `end`.
 fn pattern_right(
     entries: &[u32],
     t: usize,
@@ -113,11 +134,11 @@ fn pattern_right(
     pattern: u32,
     words: &[u32],
     at: usize,
+    start: u32,
     end: u32,
 ) -> bool
     requires { ⌜ RightPattern (patternAt (now words) at) × (patternAt (now words) at .vertexCount ≤ 256) × (t ≤ length (now entries)) ⌝ }
-    requires { ⌜ blockRows (patternAt (now words) at) ≤ end ⌝ }
-    ensures { λ r. ⌜ r ≡ begins (drop t (now (entries .entry))) (mapWords (mapPart (end - blockRows (patternAt (now (words .entry)) at)) (cut cone 0 pattern (patternAt (now (words .entry)) at)))) ⌝ }
+    ensures { λ r. ⌜ r ≡ (begins (drop t (now (entries .entry))) (mapWords (mapPart start (cut cone 0 pattern (patternAt (now (words .entry)) at)))) && eqb end (start + blockRows (patternAt (now (words .entry)) at))) ⌝ }
 {
     let p = Pattern::here(words, at);
     blocks_right(
@@ -128,6 +149,7 @@ fn pattern_right(
         words,
         p.cliques,
         p.clique_count,
+        start,
         end,
     )
 }
@@ -153,9 +175,17 @@ fn map_right(m: u32, cones: &[u32], count: u32, words: &[u32], entries: &[u32]) 
             }
             Met::Cut(at, next) => {
                 let cliques = walk_cones::clique_count(words, at);
-                let blocks = supernode_tree::get_decomposed_dim_and_overlaps(words, at);
-                let end = first + blocks.dim as u32;
-                if !pattern_right(entries, t, place.cone as u32, place.pattern, words, at, end) {
+                let end = told_end(entries, t, cliques);
+                if !pattern_right(
+                    entries,
+                    t,
+                    place.cone as u32,
+                    place.pattern,
+                    words,
+                    at,
+                    first,
+                    end,
+                ) {
                     return false;
                 }
                 t += entry::WORDS * cliques as usize;

@@ -1,8 +1,9 @@
-use Prim.Native.Nat.{ℕ, zero-le, _+_, _-_, _*_, _^_, _≤_, _<_}
-use mathlib.Core.Path.{_≡_, refl, sym, ap, subst, _∙_}
+use Prim.Native.Nat.{ℕ, zero-le, _+_, _*_, _^_, _≤_, _<_}
+use mathlib.Core.Path.{_≡_, refl, sym, ap, ap₂, subst, _∙_}
 use mathlib.Core.Bool.{true}
 use mathlib.Core.List.{List, _∷_}
 use lib.ListN.{length, getD, drop}
+use lib.Dec.{T}
 use mir.Syntax.{w64}
 use mir.Val.{Fits}
 use mir.Facts.{fits-le}
@@ -11,16 +12,17 @@ use Rattle.layout.specs.General.Lists.{sameNumbers}
 use Rattle.layout.specs.Problems.Cones.{records}
 use Rattle.layout.specs.Problems.Patterns.{Pattern, cliqueCount}
 use Rattle.layout.specs.Rows.Blocks.{Part, whole, cut, partRows, blockRows, blockRowCount}
-use Rattle.layout.specs.Checks.{noCone}
-use Rattle.layout.specs.Cuts.Compact.{wholeCone, entryWords, coneMap, mapPart, mapFrom, mapWords}
+use Rattle.layout.specs.Checks.{noCone, treeRight}
+use Rattle.layout.specs.Cuts.Compact.{MapEntry, wholeCone, entryWords, coneMap, mapPart, mapFrom, mapWords}
 use Rattle.layout.specs.Calls.Join.{joinedParts}
+use Rattle.layout.proofs.Lists.Tests.{and-iff, not-iff, eqb-iff}
 use Rattle.supernode_tree.specs.Reads.{patternAt}
 use Rattle.walk_cones.specs.Ahead.{ahead, Reached, meets, Knows}
 use Rattle.walk_cones.proofs.Counts.{counted as counted-part}
 use Rattle.walk_cones.specs.declared.Met.the-variants.{Whole, Cut}
-use Rattle.rows_tables.proofs.Cones.{map-words}
-use Rattle.join_on_route.specs.Begins.{begins}
-use Rattle.join_on_route.proofs.Entries.{inside, entries-hit, entries-miss, entries-end}
+use Rattle.rows_tables.proofs.Cones.{map-words, entries-down}
+use Rattle.join_on_route.specs.Begins.{begins, Tells}
+use Rattle.join_on_route.proofs.Entries.{inside, told-rows, implied, entries-hit, entries-miss, entries-end}
 use native.Mathlib.Omega.{arith}
 use borrow.Author.Needs.{needs}
 use Rattle.join_on_route.proofs.map_right.Statement.{statement}
@@ -52,6 +54,10 @@ fives m b k e h = omega arith
 
 shorter : (x : Part) (before later : List Part) → before ≡ x ∷ later → length later < length before
 shorter x before later e = omega (arith, ap length e)
+
+-- check 6: a pattern has a clique
+some-clique : (p : Pattern) → T (treeRight p) → 0 < cliqueCount p
+some-clique p h = omega (arith, (simp (and-iff, not-iff, eqb-iff) at h) .0)
 
 -- the number of words of the map fits in 64 bits
 small : (s : tie.Start Inv-loop μ-loop) → length (s .args .entries .now) < 2 ^ 64
@@ -153,55 +159,62 @@ rows-cut k =
     let l = k .before .before .before in
     counted-part partRows (cutOf k) (aheadOf l) _ (l .loop .first) _ _ (met-cut k) refl (l .loop .inv .3)
 
--- the rows counted are those of its blocks, and those up to its end are at most 262144
-few-cut : (d : tie.After-get-decomposed-dim-and-overlaps Inv-loop μ-loop)
+-- if its entries are there, its rows end where the map tells
+abbrev endOf : tie.After-told-end Inv-loop μ-loop → ℕ
+endOf d = d .told-end .result
+
+told : (d : tie.After-told-end Inv-loop μ-loop)
     → let k = d .before .before .before in
     let l = k .before .before .before in
-    (d .get-decomposed-dim-and-overlaps .result .dim ≡ blockRows (patternOf k)) × (l .loop .first + d .get-decomposed-dim-and-overlaps .result .dim ≤ 262144)
-few-cut d =
+    begins (drop (l .loop .t) (start l .args .entries .now)) (mapWords (mapPart (l .loop .first) (cutOf k))) ≡ true → endOf d ≡ l .loop .first + blockRows (patternOf k)
+told d b =
     let k = d .before .before .before in
-    let e = d .get-decomposed-dim-and-overlaps .ensures .0 in
-    (e, omega (arith, e, rows-cut k, start (k .before .before .before) .pre .1))
+    let l = k .before .before .before in
+    let q = l .loop .place in
+    let p = patternOf k in
+    let xs = drop (l .loop .t) (start l .args .entries .now) in
+    let n = d .before .clique-count in
+    told-rows xs (q .cone) (q .pattern) (l .loop .first) (p .cliques) (endOf d) (some-clique p (knows-cut k .1 .tree))
+    (subst (λ (c : ℕ). Tells xs c (endOf d)) (n .ensures) (d .told-end .ensures)) (omega (arith, rows-cut k, start l .pre .1))
+    (sym (ap (λ (es : List MapEntry). begins xs (mapWords es)) (entries-down p (q .cone) (q .row) (q .pattern) (l .loop .first))) ∙ b)
 
 -- the result of comparing its entries, and their number of words
 blocks : (r : tie.After-pattern-right Inv-loop μ-loop)
-    → let k = r .before .before .before .before .before .before in
+    → let k = r .before .before .before .before .before in
     let l = k .before .before .before in
     r .pattern-right .result ≡ begins (drop (l .loop .t) (start l .args .entries .now)) (mapWords (mapPart (l .loop .first) (cutOf k)))
 blocks r =
-    let d = r .before .before .before in
+    let d = r .before .before in
     let k = d .before .before .before in
     let l = k .before .before .before in
-    let q = l .loop .place in
-    let base : l .loop .first + d .get-decomposed-dim-and-overlaps .result .dim - blockRows (patternOf k) ≡ l .loop .first = omega (arith, few-cut d .0) in
     r .pattern-right .ensures
-    ∙ ap (λ (n : ℕ). begins (drop (l .loop .t) (start l .args .entries .now)) (mapWords (mapPart n (cut (q .cone) 0 (q .pattern) (patternOf k))))) base
+    ∙ implied (begins (drop (l .loop .t) (start l .args .entries .now)) (mapWords (mapPart (l .loop .first) (cutOf k)))) (endOf d) (l .loop .first + blockRows (patternOf k)) (told d)
 
 counted : (r : tie.After-pattern-right Inv-loop μ-loop)
-    → let k = r .before .before .before .before .before .before in
-    length (mapWords (mapPart (k .before .before .before .loop .first) (cutOf k))) ≡ 5 * r .before .before .before .before .clique-count .result
+    → let k = r .before .before .before .before .before in
+    length (mapWords (mapPart (k .before .before .before .loop .first) (cutOf k))) ≡ 5 * r .before .before .before .clique-count .result
 counted r =
-    let k = r .before .before .before .before .before .before in
+    let k = r .before .before .before .before .before in
     let l = k .before .before .before in
     let q = l .loop .place in
-    let n = r .before .before .before .before .clique-count in
+    let n = r .before .before .before .clique-count in
     fives (length (mapWords (mapPart (l .loop .first) (cutOf k)))) (cliqueCount (patternOf k)) (n .result) (map-words (patternOf k) (l .loop .first) (q .cone) (q .row) (q .pattern)) (n .ensures)
 
 -- its entries are there
 same-cut : (c : tie.Else2 Inv-loop μ-loop)
-    → let k = c .before .before .before .before .before .before .before in
+    → let k = c .before .before .before .before .before .before in
     let l = k .before .before .before in
     begins (drop (l .loop .t) (start l .args .entries .now)) (mapWords (mapPart (k .before .before .before .loop .first) (cutOf k))) ≡ true
 same-cut c = sym (blocks (c .before)) ∙ not-false _ (c .if2 .left)
 
 fits-cut : (c : tie.Else2 Inv-loop μ-loop)
-    → let l = c .before .before .before .before .before .before .before .before .before .before in
-    l .loop .t + 5 * c .before .before .before .before .before .clique-count .result ≤ length (start l .args .entries .now)
+    → let l = c .before .before .before .before .before .before .before .before .before in
+    l .loop .t + 5 * c .before .before .before .before .clique-count .result ≤ length (start l .args .entries .now)
 fits-cut c =
-    let k = c .before .before .before .before .before .before .before in
+    let k = c .before .before .before .before .before .before in
     let l = k .before .before .before in
     let ws = mapWords (mapPart (k .before .before .before .loop .first) (cutOf k)) in
-    words-next (l .loop .t) (c .before .before .before .before .before .clique-count .result) (length (start l .args .entries .now)) (length ws)
+    words-next (l .loop .t) (c .before .before .before .before .clique-count .result) (length (start l .args .entries .now)) (length ws)
     (inside (start l .args .entries .now) (l .loop .t) ws (l .loop .inv .0) (same-cut c)) (counted (c .before))
 
 start-requires : tie.Need-start-requires Inv-loop μ-loop
@@ -257,29 +270,22 @@ enum-known-met-2 c = c .match .keys2
 clique-count-requires : tie.Need-clique-count-requires Inv-loop μ-loop
 clique-count-requires c κs = knows-cut (c .before) .1
 
-get-decomposed-dim-and-overlaps-requires : tie.Need-get-decomposed-dim-and-overlaps-requires Inv-loop μ-loop
-get-decomposed-dim-and-overlaps-requires c κs = let h = knows-cut (c .before .before) in (h .1, h .2)
-
-cast-end : tie.Need-cast-end Inv-loop μ-loop
-cast-end c = omega (arith, few-cut (c .before))
-
-add-end : tie.Need-add-end Inv-loop μ-loop
-add-end c = omega (arith, few-cut (c .before))
+told-end-requires : tie.Need-told-end-requires Inv-loop μ-loop
+told-end-requires c κs = let k = c .before .before in (k .before .before .before .loop .inv .0, omega (arith, c .clique-count .ensures, some-clique (patternOf k) (knows-cut k .1 .tree)))
 
 cast-pattern-right : tie.Need-cast-pattern-right Inv-loop μ-loop
-cast-pattern-right c = omega (arith, knows-cut (c .before .before .before .before .before) .4)
+cast-pattern-right c = omega (arith, knows-cut (c .before .before .before .before) .4)
 
 pattern-right-requires : tie.Need-pattern-right-requires Inv-loop μ-loop
 pattern-right-requires c κs =
-    let d = c .before .before in
-    let k = d .before .before .before in
+    let k = c .before .before .before .before in
     let h = knows-cut k in
-    ((h .1, h .2, k .before .before .before .loop .inv .0), omega (arith, few-cut d .0))
+    (h .1, h .2, k .before .before .before .loop .inv .0)
 
 returns-2 : tie.Need-returns-2 Inv-loop μ-loop
 returns-2 c =
     let r = c .before in
-    let k = r .before .before .before .before .before .before in
+    let k = r .before .before .before .before .before in
     let l = k .before .before .before in
     sym (sym (l .loop .inv .2)
     ∙ entries-miss (start l .args .entries .now) (l .loop .t) (l .loop .first) (cutOf k) (aheadOf l) _ (met-cut k) (sym (blocks r) ∙ not-true _ (c .if2 .taken)))
@@ -292,26 +298,28 @@ mul-t c = search needs
 
 add-t-2 : tie.Need-add-t-2 Inv-loop μ-loop
 add-t-2 c =
-    let l = c .before .before .before .before .before .before .before .before .before .before in
-    fits-next (l .loop .t) (5 * c .before .before .before .before .before .clique-count .result) (length (start l .args .entries .now)) (fits-cut c) (small (start l))
+    let l = c .before .before .before .before .before .before .before .before .before in
+    fits-next (l .loop .t) (5 * c .before .before .before .before .clique-count .result) (length (start l .args .entries .now)) (fits-cut c) (small (start l))
 
 loop-less-2 : tie.Need-loop-less-2 Inv-loop μ-loop
-loop-less-2 c = let k = c .before .before .before .before .before .before .before in shorter (cutOf k) (aheadOf (k .before .before .before)) _ (met-cut k)
+loop-less-2 c = let k = c .before .before .before .before .before .before in shorter (cutOf k) (aheadOf (k .before .before .before)) _ (met-cut k)
 
 loop-again-2 : tie.Need-loop-again-2 Inv-loop μ-loop
 loop-again-2 c =
     let r = c .before in
-    let d = r .before .before .before in
+    let d = r .before .before in
     let k = d .before .before .before in
     let l = k .before .before .before in
     let a = start l .args in
-    let end = l .loop .first + d .get-decomposed-dim-and-overlaps .result .dim in
-    let e : l .loop .t + length (mapWords (mapPart (l .loop .first) (cutOf k))) ≡ l .loop .t + 5 * r .before .before .before .before .clique-count .result = ap (λ (n : ℕ). l .loop .t + n) (counted r) in (
+    let later = ahead (a .cones .now) (a .words .now) (k .met2 .given .0 .1 .0) in
+    let ws = mapWords (mapPart (l .loop .first) (cutOf k)) in
+    let e : l .loop .t + length ws ≡ l .loop .t + 5 * r .before .before .before .clique-count .result = ap (λ (n : ℕ). l .loop .t + n) (counted r) in
+    let end = told d (same-cut c) in (
       fits-cut c,
       knows-cut k .6,
-      ap (λ (j : ℕ). sameNumbers (drop j (a .entries .now)) (mapWords (mapFrom end (ahead (a .cones .now) (a .words .now) (k .met2 .given .0 .1 .0))))) (sym e)
-          ∙ sym (entries-hit (a .entries .now) (l .loop .t) (l .loop .first) (cutOf k) (aheadOf l) _ (met-cut k) (same-cut c) (few-cut d .0)) ∙ l .loop .inv .2,
-      omega (arith, rows-cut k, few-cut d .0),
+      sym (ap₂ (λ (j n : ℕ). sameNumbers (drop j (a .entries .now)) (mapWords (mapFrom n later))) e (sym end))
+          ∙ sym (entries-hit (a .entries .now) (l .loop .t) (l .loop .first) (cutOf k) (aheadOf l) _ (met-cut k) (same-cut c) {rows = blockRows (patternOf k)} refl) ∙ l .loop .inv .2,
+      omega (arith, rows-cut k, end),
     )
 
 enum-told : tie.Need-enum-told Inv-loop μ-loop
@@ -345,9 +353,7 @@ map-right-spec =
     loop-again
     enum-known-met-2
     clique-count-requires
-    get-decomposed-dim-and-overlaps-requires
-    cast-end
-    add-end
+    told-end-requires
     cast-pattern-right
     pattern-right-requires
     returns-2
