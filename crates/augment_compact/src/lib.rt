@@ -1,6 +1,8 @@
 // Writes the compact cut's A. `codes` describes each augmented row: a code below 65,536 is the original row that moves there; a larger one is
 // 65,536 plus the parent block's row of an overlap. A run of repeats in A becomes one entry, so column starts are taken from `run_starts`.
 // Where a column was sorted by marks, the columns after it with the same rows are in the same order: they are written by the same marks.
+#![tactic(auto)]
+
 ghost use Rattle.std.specs.Prelude.{◌≡◌, map, ◌++◌, suc, ◌+◌, ◌-◌, ◌*◌, ◌≤◌, ◌<◌, length, get_or, take, T};
 ghost use Rattle.layout.specs.General.Lists.{written, part, same_numbers, never_falls};
 ghost use Rattle.layout.specs.General.Floats.{one64, minus_one64};

@@ -1,4 +1,6 @@
 // The standard cut's matrix: A beside H, over zero beside -I. H has a single 1 per column, in the original row of the block entry.
+#![tactic(auto)]
+
 ghost use Rattle.std.specs.Prelude.{◌≡◌, ◌+◌, ◌*◌, ◌≤◌, ◌<◌, length, take, drop};
 ghost use Rattle.layout.specs.General.Lists.{written};
 ghost use Rattle.augment_standard.specs.Beside.{h_starts, h_rows, pair_values, beside_starts, beside_values};

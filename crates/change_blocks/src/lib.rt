@@ -1,4 +1,6 @@
 // Copies runs of values from an index of one list to an index of another, for one list or for s and z together.
+#![tactic(auto)]
+
 ghost use Rattle.std.specs.Prelude.{◌≡◌, ◌+◌, ◌≤◌, length, take, drop};
 ghost use Rattle.join_cones.specs.Parts.{written_at};
 

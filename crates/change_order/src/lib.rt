@@ -1,5 +1,7 @@
 // Puts a standard solution's x, s and z in compact order. Both routes have the same blocks; within a pattern the standard route has the cliques from
 // first to last, the compact one from last to first.
+#![tactic(auto)]
+
 ghost use Rattle.std.specs.Prelude.{◌≡◌, true, ◌++◌, map, ◌+◌, ◌≤◌, length, take, drop, replicate};
 ghost use Rattle.layout.specs.General.Lists.{all, sum, written};
 ghost use Rattle.layout.specs.General.Floats.{zero64};

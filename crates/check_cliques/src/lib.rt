@@ -1,4 +1,6 @@
 // Checks 6 and 7: the cliques of a pattern form a clique tree over its vertices.
+#![tactic(auto)]
+
 ghost use Rattle.std.specs.Prelude.{◌≡◌, ◌-◌, ◌*◌, ◌≤◌, ◌<◌, true, length, take, drop};
 ghost use Rattle.layout.specs.General.Lists.{all, distinct, keep};
 ghost use Rattle.layout.specs.Checks.{tree_right, cliques_right};

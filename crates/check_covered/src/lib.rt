@@ -1,5 +1,7 @@
 // Check 9: on the compact route, the stored entries of A and the nonzero values of b must be in covered rows. Covered are the rows of
 // undecomposed cones and those rows of decomposed cones that are in some clique's block.
+#![tactic(auto)]
+
 ghost use Rattle.std.specs.Prelude.{◌≡◌, suc, ◌+◌, ◌*◌, ◌≤◌, ◌<◌, true, false, ◌&&◌, ◌||◌, length, get_or, replicate, T, ltb, map, reverse};
 ghost use Rattle.std.specs.Float.Ieee.{eq};
 ghost use Rattle.layout.specs.General.Lists.{all, rises, up_from, join, Below};
@@ -198,7 +200,7 @@ fn first_covered(covered: &[bool], a_rows: &[u32], b: &[f64]) -> bool
 }
 
 // The results of check 9: `first` on A and b, `further` on the values of further right sides.
-#[derive(Drop)]
+#[derive(Clone, Copy)]
 pub struct Covered {
     pub first: bool,
     pub further: bool,

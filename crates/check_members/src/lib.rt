@@ -1,4 +1,6 @@
 // Sets of vertices as slices of words, in place of clarabel's `VertexSet`: tests for duplicates and for membership.
+#![tactic(auto)]
+
 ghost use Rattle.std.specs.Prelude.{◌≡◌, ◌<◌, true, length, drop, ltb};
 ghost use Rattle.layout.specs.General.Lists.{all, distinct, has};
 ghost use Rattle.utils.specs.Windows.{Marked};

@@ -1,6 +1,8 @@
 // Makes checks 5, 6 and 7 on the patterns and counts their cliques and the rows of their blocks, in two walks over the cliques. Scratch buffers of 256 are enough: a valid
 // pattern has at most its cone's 256 vertices; no snode is empty, so there are at most as many cliques; and a separator's members
 // are vertices of later snodes, so no block is larger than its cone.
+#![tactic(auto)]
+
 ghost use Rattle.std.specs.Prelude.{◌≡◌, true, false, ◌&&◌, [], ◌+◌, ◌-◌, ◌*◌, ◌≤◌, ◌<◌, leb, ltb, length, take, drop};
 ghost use Rattle.supernode_tree.specs.Reads.{cliques_from, is_whole};
 ghost use Rattle.check_members.specs.OnceIn.{once_below_in};
@@ -16,7 +18,7 @@ use supernode_tree::{Clique, CliqueRead, Pattern, PatternRead};
 
 // The totals over the cliques that passed: the offset of the word after them, their blocks' rows, and how many of these rows are overlaps.
 // `next` is 0 where a clique failed.
-#[derive(Drop)]
+#[derive(Clone, Copy)]
 struct Blocks {
     next: usize,
     dim: u64,
@@ -214,7 +216,7 @@ fn separators_hold(words: &[u32], p: Pattern, offsets: &[usize], marks: &mut [bo
 
 // The totals over the patterns that passed: the offset of the word after them, the least cone number that the next pattern may have, the rows
 // of the blocks, the rows of the decomposed cones, the overlaps, and the cliques.
-#[derive(Drop)]
+#[derive(Clone, Copy)]
 struct Walk {
     next: usize,
     least: u64,
@@ -319,7 +321,7 @@ fn with_pattern(words: &[u32], w: Walk, b: Blocks) -> Walk
 
 // Whether checks 5, 6 and 7 pass and, where they do, the rows of the blocks, the rows of the decomposed cones, the overlaps, and the cliques. The patterns
 // before offset `next` pass; from there on `left` patterns are left, whose first may not name a cone before `least`.
-#[derive(Drop)]
+#[derive(Clone, Copy)]
 pub struct Accepted {
     pub holds: bool,
     pub dim: u64,

@@ -1,4 +1,6 @@
 // Checks 1 to 7 in document 01's order, for a whole problem and for the inputs of a joining.
+#![tactic(auto)]
+
 ghost use Rattle.std.specs.Prelude.{◌≡◌, true, false, ◌&&◌, ◌≤◌, ◌<◌, T};
 ghost use Rattle.layout.specs.Problems.Problem.{problem};
 ghost use Rattle.layout.specs.General.Lists.{all};
@@ -130,7 +132,7 @@ fn refuse_patterns(cones: &[u32], least: u64, count: u32, words: &[u32]) -> u32
 }
 
 // The number of the first check that fails, or 0; where it is 0, also the number of block rows, of overlaps and of new cones.
-#[derive(Drop)]
+#[derive(Clone, Copy)]
 pub struct Outcome {
     pub refusal: u32,
     pub rows: u64,

@@ -1,4 +1,6 @@
 // Checks 9 and 10 of a route, and the sizes of the cut's outputs.
+#![tactic(auto)]
+
 ghost use Rattle.std.specs.Prelude.{◌≡◌, ◌≤◌, ◌<◌, cond, length, T, ltb};
 ghost use Rattle.layout.specs.General.Lists.{all, written};
 ghost use Rattle.layout.specs.Problems.Cones.{records};

@@ -1,5 +1,7 @@
 // The compact cut from the bytes of a problem file to the bytes of another (Q-2). A file of at most 8,192 bytes is read and cut on the compact route;
 // the compact problem, which has no patterns, is written as a file of at most 65,536 bytes. If anything is refused, a line with the number is written.
+#![tactic(auto)]
+
 ghost use Rattle.std.specs.Prelude.{◌≡◌, ◌≤◌, ◌<◌, length};
 ghost use Rattle.layout.specs.General.Lists.{written};
 ghost use Rattle.layout.specs.General.Floats.{floats};
@@ -25,7 +27,7 @@ fn refuse(number: u32, out: &mut [u8]) -> usize
     requires { (number < 100) × (11 ≤ length out.old) }
     ensures { (result ≡ length (refused_text number)) × (out.new ≡ written (refused_text number) out.old) }
 {
-    bytes::copy(b"refused ", &mut *out);
+    out[..8].copy_from_slice(b"refused ");
     if number < 10 {
         out[8] = b'0' + number as u8;
         out[9] = b'\n';

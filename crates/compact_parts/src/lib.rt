@@ -1,5 +1,7 @@
 // The problem of a file (Q-2), with its tables as slices of its words and of the doubles that these form in pairs: gives its sizes on the compact
 // route, and its cut.
+#![tactic(auto)]
+
 ghost use Rattle.std.specs.Prelude.{◌≡◌};
 ghost use Rattle.layout.specs.General.Floats.{floats};
 ghost use Rattle.layout.specs.Problems.Problem.{compact};

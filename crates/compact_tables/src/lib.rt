@@ -1,5 +1,7 @@
 // Writes the file of the compact problem (Q-2): P, q and α as in the file that was read, P and q extended for the added columns, A, b and the cones
 // as the cut makes them, and no patterns.
+#![tactic(auto)]
+
 ghost use Rattle.std.specs.Prelude.{◌≡◌, ◌++◌, ◌≤◌, ◌+◌, length, replicate};
 ghost use Rattle.layout.specs.General.Lists.{written};
 ghost use Rattle.layout.specs.General.Floats.{bits, floats};

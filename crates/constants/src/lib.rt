@@ -1,4 +1,6 @@
 // The numbers of document 01 that the code compares with, returns and counts by, each under one name. No function is declared here.
+#![tactic(auto)]
+
 pub mod entry;
 pub mod file_table;
 pub mod header;

@@ -1,5 +1,7 @@
 // Matrices in compressed columns, as in clarabel's algebra/csc/core.rs: checks 2 and 3 of one matrix, runs of repeated rows in its columns,
 // and writers that copy and extend its tables.
+#![tactic(auto)]
+
 ghost use Rattle.std.specs.Prelude.{◌≡◌, ◌++◌, ◌+◌, ◌≤◌, ◌<◌, length, replicate, T};
 ghost use Rattle.layout.specs.General.Lists.{all, below, rises, written, never_falls};
 ghost use Rattle.layout.specs.Checks.{starts_right, rows_in_order, rows_right, column_rows};
@@ -128,7 +130,7 @@ pub fn rows_in_order(m: u32, n: u32, starts: &[u32], rows: &[u32]) -> bool
 // ---- runs: maximal stretches of consecutive entries with the same row
 
 // The indices of the first and last entry of a run.
-#[derive(Drop)]
+#[derive(Clone, Copy)]
 pub struct Run {
     pub first: usize,
     pub last: usize,

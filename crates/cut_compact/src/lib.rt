@@ -1,4 +1,6 @@
 // The constraints of the compact cut: A and its right sides over the augmented rows of a problem that the route accepts.
+#![tactic(auto)]
+
 ghost use Rattle.std.specs.Prelude.{◌≡◌, [], map, ◌≤◌, length};
 ghost use Rattle.layout.specs.General.Lists.{written};
 ghost use Rattle.layout.specs.Rows.Blocks.{compact_rows, block_row_count};

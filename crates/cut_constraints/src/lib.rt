@@ -1,4 +1,6 @@
 // Writes A, b, the cones and the cone map of a whole problem that a route accepts.
+#![tactic(auto)]
+
 ghost use Rattle.std.specs.Prelude.{◌≡◌, ◌≤◌, length};
 ghost use Rattle.layout.specs.General.Lists.{written};
 ghost use Rattle.layout.specs.Problems.Problem.{compact};

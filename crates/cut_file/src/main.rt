@@ -1,5 +1,7 @@
 // Cuts a problem file (docs/FILE.md): reads it from standard input, and writes the compact problem as a file, or "refused " and a number, to
 // standard output. One byte more than the longest file is read, so that a file that is too long is noticed.
+#![tactic(auto)]
+
 use libc::{STDIN_FILENO, STDOUT_FILENO};
 
 fn main() {

@@ -1,4 +1,6 @@
 // The cut of a problem on either route; clarabel's `decomp_augment`.
+#![tactic(auto)]
+
 ghost use Rattle.layout.specs.Problems.Problem.{problem};
 ghost use Rattle.layout.specs.Calls.Cut.{outputs, Cut};
 

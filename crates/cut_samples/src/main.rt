@@ -1,4 +1,6 @@
 // Cuts each sample file of data/ and compares the result with the file stored beside it (docs/FILE.md): prints a line for each.
+#![tactic(auto)]
+
 ghost use Rattle.io.specs.Counts.{IsPrefixLen};
 
 use libc::STDOUT_FILENO;

@@ -1,4 +1,6 @@
 // What both routes write alike, and the standard cut of a whole accepted problem; each output is written by its own function.
+#![tactic(auto)]
+
 ghost use Rattle.std.specs.Prelude.{◌≡◌, ◌+◌, ◌*◌, ◌≤◌, length};
 ghost use Rattle.layout.specs.General.Lists.{written};
 ghost use Rattle.layout.specs.Problems.Problem.{standard};

@@ -1,4 +1,6 @@
 // The compact cut of a problem whose b is known only within limits (Q-8).
+#![tactic(auto)]
+
 ghost use Rattle.layout.specs.Problems.Problem.{problem};
 ghost use Rattle.layout.specs.Calls.Cut.{outputs};
 ghost use Rattle.layout.specs.Calls.CutBetween.{limits, CutBetween};

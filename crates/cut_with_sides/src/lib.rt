@@ -1,4 +1,6 @@
 // The compact cut of one problem with several right sides (Q-1).
+#![tactic(auto)]
+
 ghost use Rattle.layout.specs.Problems.Problem.{problem};
 ghost use Rattle.layout.specs.Calls.Cut.{outputs};
 ghost use Rattle.layout.specs.Calls.CutMany.{CutMany};

@@ -1,5 +1,7 @@
 // The sizes of the cut's outputs on either route, and the refusals of the cut, with the counts that its writers need. Route 0 is the standard one, 1 the
 // compact one.
+#![tactic(auto)]
+
 ghost use Rattle.std.specs.Prelude.{◌≡◌};
 ghost use Rattle.layout.specs.Problems.Problem.{problem};
 ghost use Rattle.layout.specs.Calls.Answers.{on_route, route_of};
@@ -11,7 +13,7 @@ ghost use Rattle.decomp.specs.Added.{columns_added, Adds};
 use constants::{OUTPUTS, refusal, route};
 
 // The refusal number of a cut, or 0; where it is 0, also the number of block rows, and the number of columns that the route adds.
-#[derive(Drop)]
+#[derive(Clone, Copy)]
 pub struct Counted {
     pub refusal: u32,
     pub rows: usize,

@@ -1,5 +1,7 @@
 // The public calls for C and Rust, one module per call. Each returns the refusal number, 0 for success; include/chordal.h explains the
 // numbers.
+#![tactic(auto)]
+
 mod change_routes;
 mod cut;
 mod cut_between;

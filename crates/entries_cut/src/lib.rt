@@ -1,4 +1,6 @@
 // The cut on the compact route with the cone map written as a slice of entry structs.
+#![tactic(auto)]
+
 ghost use Rattle.std.specs.Prelude.{◌≡◌, [], ◌∷◌, ◌*◌, ◌≤◌, length};
 ghost use Rattle.layout.specs.General.Lists.{written};
 ghost use Rattle.layout.specs.Problems.Problem.{problem, compact};

@@ -1,4 +1,6 @@
 // The joining on the compact route with the cone map as a slice of entries: the map is written as words, and the joining by words does the rest.
+#![tactic(auto)]
+
 ghost use Rattle.std.specs.Prelude.{◌≡◌, map as mapped, ◌≤◌, length, take};
 ghost use Rattle.layout.specs.Problems.Problem.{solution};
 ghost use Rattle.layout.specs.Calls.Join.{rejoined, Join};

@@ -1,18 +1,20 @@
 // An entry of the cone map as a struct, and its conversion from and to five words.
+#![tactic(auto)]
+
 ghost use Rattle.std.specs.Prelude.{◌≡◌, ◌+◌, ◌*◌, ◌≤◌, ◌<◌, length, get_or};
 ghost use Rattle.entries_map.specs.Entries.{pattern_word, clique_word, struct_words, tree_of, struct_at};
 
 use constants::entry;
 
 // The pattern number and clique number of a block; `None` for an undecomposed cone.
-#[derive(Drop)]
+#[derive(Clone, Copy)]
 pub enum TreeAndClique {
     None,
     In(u32, u32),
 }
 
 // An entry of the cone map: the original cone that a new cone comes from, the block it is (if any), its first augmented row and its row count.
-#[derive(Drop)]
+#[derive(Clone, Copy)]
 pub struct ConeMapEntry {
     pub orig_index: u32,
     pub tree_and_clique: TreeAndClique,

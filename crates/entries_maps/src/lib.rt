@@ -1,4 +1,6 @@
 // Converts the cone map between words and a slice of entry structs. Both functions are proved by hand; the work on one entry is in crate entries_map.
+#![tactic(auto)]
+
 ghost use Rattle.std.specs.Prelude.{◌≡◌, map, ◌*◌, ◌≤◌, length, take};
 ghost use Rattle.layout.specs.General.Lists.{below, written};
 ghost use Rattle.entries_map.specs.Entries.{all_words, struct_at};

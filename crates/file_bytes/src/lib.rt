@@ -1,5 +1,7 @@
 // The bytes of a problem file (Q-2), little-endian: words of four bytes, 64-bit patterns of two words, and the doubles with these bit
 // patterns.
+#![tactic(auto)]
+
 ghost use Rattle.std.specs.Prelude.{◌≡◌, ◌≤◌, ◌<◌, ◌+◌, ◌/◌, ◌*◌, length, get_or, replicate};
 ghost use Rattle.std.specs.Float.{binary64};
 ghost use Rattle.std.specs.Float.Ieee.{of_bits, to_bits};

@@ -1,4 +1,6 @@
 // The refusals of the file reader (Q-2) in order, computed from the words of the file.
+#![tactic(auto)]
+
 ghost use Rattle.std.specs.Prelude.{◌≡◌};
 ghost use Rattle.layout.specs.Calls.Answers.{problem_refusal};
 ghost use Rattle.layout.specs.Files.FileWords.{words_failing, unvalued_problem};

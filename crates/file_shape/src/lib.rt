@@ -1,4 +1,6 @@
 // The shape of a problem file (Q-2): its counts, where its tables start in its words, and whether they are where they must be (checks 13 and 14).
+#![tactic(auto)]
+
 ghost use Rattle.std.specs.Prelude.{◌≡◌, ◌≤◌, ◌<◌, ◌+◌, ◌/◌, ◌*◌, length, get_or};
 ghost use Rattle.layout.specs.Files.File.{counts_in, table_sizes};
 ghost use Rattle.layout.specs.Files.FileWords.{gap_zero, words_length_right, word_tables_right, word_shape_failing};

@@ -1,5 +1,7 @@
 // The tables of a problem file (Q-2), each as the reader and the writer handle it. Floats are kept as their 64-bit patterns (u64), so that
 // a NaN keeps its bits.
+#![tactic(auto)]
+
 ghost use Rattle.std.specs.Prelude.{◌≡◌, map, [], ◌∷◌, ◌++◌, cond, ◌≤◌, ◌<◌, ◌+◌, ◌*◌, length, get_or};
 ghost use Rattle.layout.specs.General.Lists.{written};
 ghost use Rattle.layout.specs.General.Bytes.{table_bytes};

@@ -1,5 +1,7 @@
 // The tables of a problem file (Q-2) as slices: of its words, or of the doubles or bit patterns that all its words form in pairs. Every table of
 // doubles starts at a multiple of 8 bytes.
+#![tactic(auto)]
+
 ghost use Rattle.std.specs.Prelude.{◌≡◌, ◌<◌};
 ghost use Rattle.layout.specs.General.Floats.{floats};
 ghost use Rattle.layout.specs.Files.FileWords.{pairs_of};

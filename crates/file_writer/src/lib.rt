@@ -1,4 +1,6 @@
 // Writes a problem as a file (Q-2). Tables of floats are passed as 64-bit patterns, so that a NaN keeps its bits.
+#![tactic(auto)]
+
 ghost use Rattle.layout.specs.Files.File.{bit_tables as tables_of};
 ghost use Rattle.layout.specs.Calls.WriteFile.{WriteFile};
 

@@ -1,4 +1,6 @@
 // The generator (Q-5): from a seed, a vertex count `v`, a band `w` and a column count `n`, a test problem that any site can reproduce.
+#![tactic(auto)]
+
 ghost use Rattle.std.specs.Prelude.{◌≡◌, true, cond, map, suc, ◌+◌, ◌-◌, ◌*◌, ◌≤◌, ◌<◌, length, take, replicate, T};
 ghost use Rattle.layout.specs.General.Lists.{sum, written, Below};
 ghost use Rattle.layout.specs.General.Floats.{zero64};
@@ -27,7 +29,7 @@ const WORTH_KEEPING: usize = 1024;
 // ---- the covered rows
 
 // The number of rows that the band covers, and the state of the random generator after the ordering is drawn.
-#[derive(Drop)]
+#[derive(Clone, Copy)]
 pub struct RowsDraw {
     pub count: usize,
     pub state: u64,

@@ -1,4 +1,6 @@
 // The band of the generated problem (Q-5): the rows that its pattern covers, and the pattern's words.
+#![tactic(auto)]
+
 ghost use Rattle.std.specs.Prelude.{◌≡◌, ◌∷◌, ◌++◌, map, suc, ◌+◌, ◌-◌, ◌*◌, ◌≤◌, ◌<◌, length};
 ghost use Rattle.layout.specs.General.Lists.{keep, below, up_from, join, written, Below};
 ghost use Rattle.layout.specs.General.Triangle.{triangle};

@@ -1,4 +1,6 @@
 // The columns of the generated problem (Q-5): counts and writes their entries, over given rows.
+#![tactic(auto)]
+
 ghost use Rattle.std.specs.Prelude.{◌≡◌, ◌+◌, ◌-◌, ◌/◌, ◌%◌, ◌≤◌, ◌<◌, map, length, take};
 ghost use Rattle.layout.specs.General.Lists.{written};
 ghost use Rattle.layout.specs.Cuts.Compact.{rows_of};
@@ -8,7 +10,7 @@ ghost use Rattle.layout.proofs.Columns.Compressed.{values_of};
 use generator_draws::{draw, draw_value};
 
 // The result of drawing a column: the number of its entries, and the state after its draws.
-#[derive(Drop)]
+#[derive(Clone, Copy)]
 pub struct ColumnDraw {
     pub count: usize,
     pub state: u64,

@@ -1,5 +1,7 @@
 // The random draws of the test load generator (Q-5): a draw, a drawn value, the ranges of its arguments, the ordering, and a right side over given
 // rows. The state is a u64; each function takes it and returns the next one.
+#![tactic(auto)]
+
 ghost use Rattle.std.specs.Prelude.{◌≡◌, ◌-◌, ◌≤◌, ◌<◌, length};
 ghost use Rattle.layout.specs.General.Lists.{below, Below};
 ghost use Rattle.layout.specs.Calls.Generate.{draw as draw_of, draws as draws_of, drawn_value, exchange, exchanges, drawn_ordering, drawn_side, in_ranges};
@@ -103,7 +105,7 @@ pub fn draw_ordering(seed: u64, out: &mut [u32]) -> u64
 // ---- the right side
 
 // A drawn value, and the state after it.
-#[derive(Drop)]
+#[derive(Clone, Copy)]
 pub struct ValueDraw {
     pub value: f64,
     pub state: u64,

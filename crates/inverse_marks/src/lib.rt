@@ -1,4 +1,6 @@
 // Tests long permutations with a bit for each number.
+#![tactic(auto)]
+
 ghost use Rattle.std.specs.Prelude.{◌≡◌, ◌*◌, ◌≤◌, length, replicate};
 ghost use Rattle.layout.specs.General.Lists.{keep, distinct, is_permutation};
 ghost use Rattle.utils.specs.Windows.{within};

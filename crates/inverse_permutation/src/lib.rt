@@ -1,4 +1,6 @@
 // Writes the inverse of a permutation, in tables of several sizes.
+#![tactic(auto)]
+
 ghost use Rattle.std.specs.Prelude.{◌≡◌, ◌≤◌, true, not, length, replicate, ltb, eqb};
 ghost use Rattle.layout.specs.General.Lists.{all, is_permutation};
 ghost use Rattle.layout.specs.Calls.Inverse.{Inverse};

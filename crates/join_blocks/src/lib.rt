@@ -1,5 +1,7 @@
 // Joins the blocks of a pattern over its cone's rows, straight from their columns: s adds the block values; z adds them on the standard route,
 // which walks the cliques from first to last, and keeps the last on the compact one, which walks from last to first.
+#![tactic(auto)]
+
 ghost use Rattle.std.specs.Prelude.{◌≡◌, true, false, [], ◌∷◌, map as mapped, reverse, suc, ◌+◌, ◌≤◌, ◌<◌, length, get_or, drop, T};
 ghost use Rattle.layout.specs.General.Lists.{join, rises};
 ghost use Rattle.layout.specs.General.Triangle.{triangle};

@@ -1,5 +1,7 @@
 // Joins the rows of s and z of one cone, on either route: an undecomposed cone, or a decomposed one from the blocks of its pattern.
 // `standard` is true for the standard route and false for the compact one.
+#![tactic(auto)]
+
 ghost use Rattle.std.specs.Prelude.{◌≡◌, ◌+◌, ◌≤◌, length, drop};
 ghost use Rattle.layout.specs.General.Lists.{part};
 ghost use Rattle.layout.specs.General.Triangle.{triangle};

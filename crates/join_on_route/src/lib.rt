@@ -1,4 +1,6 @@
 // The joining on either route (0 standard, 1 compact): clarabel's `decomp_reverse`, with dual completion off.
+#![tactic(auto)]
+
 ghost use Rattle.std.specs.Prelude.{◌≡◌, true, ◌&&◌, [], ◌∷◌, map as mapped, ◌+◌, ◌≤◌, ◌<◌, length, drop, eqb};
 ghost use Rattle.layout.specs.General.Lists.{all, same_numbers, sum, written};
 ghost use Rattle.layout.specs.Problems.Problem.{solution};

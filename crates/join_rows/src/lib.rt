@@ -1,4 +1,6 @@
 // Joins the s and z of a solution, on either route: the cones are walked in order, and the rows of each cone are joined on their own.
+#![tactic(auto)]
+
 ghost use Rattle.std.specs.Prelude.{◌≡◌, not, ◌&&◌, ◌||◌, ◌≤◌, length, take, leb, ltb};
 ghost use Rattle.layout.specs.General.Lists.{written};
 ghost use Rattle.layout.specs.Calls.Join.{joined_parts};

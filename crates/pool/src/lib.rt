@@ -1,4 +1,6 @@
 // Pools two problems over the same unknowns into one (Q-11): the rows of the first above those of the second.
+#![tactic(auto)]
+
 ghost use Rattle.layout.specs.Problems.Problem.{problem};
 ghost use Rattle.layout.specs.Calls.Tables.{tables};
 ghost use Rattle.layout.specs.Calls.Pool.{Pool};

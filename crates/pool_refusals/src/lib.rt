@@ -1,4 +1,6 @@
 // The refusals of a pool in order: checks 1 to 7 of each problem, equal numbers of unknowns, the pool's bounds, the output lengths.
+#![tactic(auto)]
+
 ghost use Rattle.std.specs.Prelude.{◌≡◌, ◌&&◌, cond, ◌+◌, ◌≤◌, length, eqb, leb};
 ghost use Rattle.layout.specs.Problems.Problem.{problem};
 ghost use Rattle.layout.specs.Problems.Cones.{records};

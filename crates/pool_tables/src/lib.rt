@@ -1,4 +1,6 @@
 // Writes the tables of a pool of two problems: A stacked over A, b over b, then cones, α and patterns in turn; P is copied from the first.
+#![tactic(auto)]
+
 ghost use Rattle.std.specs.Prelude.{◌≡◌, true, ◌++◌, suc, ◌+◌, ◌≤◌, ◌<◌, length, take};
 ghost use Rattle.layout.specs.General.Lists.{part, written};
 ghost use Rattle.layout.specs.Problems.Cones.{records};

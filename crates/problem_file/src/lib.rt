@@ -1,4 +1,6 @@
 // Reads a problem from the words of its file (Q-2). Tables of floats are written as 64-bit patterns, so that a NaN keeps its bits.
+#![tactic(auto)]
+
 ghost use Rattle.std.specs.Prelude.{◌≡◌, suc, ◌≤◌, length};
 ghost use Rattle.layout.specs.General.Lists.{written};
 ghost use Rattle.layout.specs.Files.File.{count_words, counts_in};

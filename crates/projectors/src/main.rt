@@ -3,6 +3,8 @@
 // and show what the text says about the seam.
 //
 // The slices passed to a function share one lifetime, so that its proof deals with a single borrow.
+#![tactic(auto)]
+
 use libc::{STDIN_FILENO, STDOUT_FILENO};
 use stored::{item, same_values, same_words, values_at, words_at};
 

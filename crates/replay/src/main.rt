@@ -4,6 +4,8 @@
 //
 // A new family needs a number and its call, a line in `numbers_and_patterns` or `main` and one in stdout, and a
 // function in make_answers.py or the comparison that computes its answers.
+#![tactic(auto)]
+
 use stored::{
     cut_answer, holds, item, load_values, load_words, report, value_item, values_at, values_hold,
     values_room, word, words_at, words_room,

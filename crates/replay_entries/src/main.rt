@@ -1,5 +1,7 @@
 // Replays stored answers with the cone map as entries: runs each case in the files of data/ through the compact cut or joining, and prints
 // a line for each file. A map has at most 64 entries. Crate replay describes the form of a case; pick.py chooses which of its cases are here.
+#![tactic(auto)]
+
 ghost use Rattle.std.specs.Prelude.{◌*◌, ◌≤◌, length};
 
 use entries_cut::cut_compact_entries;

@@ -4,6 +4,8 @@
 //
 // A case is 1,024 bytes: the file, bytes without meaning, and as the last two words the file's length and the number that the reader
 // must return.
+#![tactic(auto)]
+
 use libc::STDOUT_FILENO;
 
 const CASES: u32 = 120;

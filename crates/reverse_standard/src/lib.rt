@@ -1,5 +1,7 @@
 // What the two routes of a joining do differently with values. The standard one sums every row from +0.0, counts where each block's values start, adds z
 // and averages it where blocks overlap. The compact one reads the starts from the cone map and keeps the last z. `standard` is true on the standard route.
+#![tactic(auto)]
+
 ghost use Rattle.std.specs.Prelude.{◌≡◌, map, ◌≤◌, ◌<◌, length, cond, ltb, pos};
 ghost use Rattle.std.specs.Float.Ieee.{add, div, of_int};
 ghost use Rattle.std.specs.Float.{binary64};
@@ -14,7 +16,7 @@ const ENTRY_WORDS: usize = 5;
 const FIRST_ROW: usize = 3;
 
 // The two scalars of a solution, τ and κ.
-#[derive(Drop)]
+#[derive(Clone, Copy)]
 pub struct Scalars {
     pub tau: f64,
     pub kappa: f64,

@@ -1,5 +1,7 @@
 // Writes the codes of one pattern's augmented rows on the compact route, block by block: the original row of an owned entry, and 65,536 plus
 // the parent block's row of an overlap.
+#![tactic(auto)]
+
 ghost use Rattle.std.specs.Prelude.{◌≡◌, true, map, reverse, ◌+◌, ◌<◌, ◌≤◌, length, drop};
 ghost use Rattle.layout.specs.General.Lists.{written, below, join, sum};
 ghost use Rattle.layout.specs.General.Triangle.{triangle};

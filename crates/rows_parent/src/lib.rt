@@ -1,5 +1,7 @@
 // The codes of one block's entries on the compact route: the original row for an owned entry, and for an overlap the row of the same pair in the
 // parent's block. This is where the row that an overlap is tied to is decided.
+#![tactic(auto)]
+
 ghost use Rattle.std.specs.Prelude.{◌≡◌, cond, map, suc, ◌+◌, ◌-◌, ◌<◌, ◌≤◌, length, get_or, replicate, T, eqb};
 ghost use Rattle.layout.specs.General.Lists.{written, rises, Below};
 ghost use Rattle.layout.specs.General.Triangle.{triangle};

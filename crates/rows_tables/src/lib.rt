@@ -1,4 +1,6 @@
 // Writes the tables that depend on the cones and patterns only: the rows of H, the compact route's rows, the cones, and the cone map.
+#![tactic(auto)]
+
 ghost use Rattle.std.specs.Prelude.{◌≡◌, true, [], ◌∷◌, map, reverse, ◌+◌, ◌-◌, ◌*◌, ◌≤◌, ◌<◌, length, get_or, set};
 ghost use Rattle.layout.specs.General.Lists.{all, join, sum, up_from, written};
 ghost use Rattle.layout.specs.General.Triangle.{triangle};
@@ -19,7 +21,7 @@ use supportedcone::SupportedCone;
 use walk_cones::{Met, Place};
 
 // The tables: the rows of H; the compact route's rows, coded for its cut; the cones of each route; the cone map.
-#[derive(Drop)]
+#[derive(Clone, Copy)]
 pub enum Table {
     HRows,
     CutRows,

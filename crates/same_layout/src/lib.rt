@@ -1,4 +1,6 @@
 // Same layout: whether two problems agree in n, m, cone records, pattern words, exponents, and the starts and rows of A and P.
+#![tactic(auto)]
+
 ghost use Rattle.layout.specs.Problems.Problem.{problem};
 ghost use Rattle.layout.specs.Calls.SameLayout.{SameLayout};
 

@@ -1,4 +1,6 @@
 // Compares the tables of two problems: numbers, doubles, all that same layout compares, and all that checks 1 to 7 read.
+#![tactic(auto)]
+
 ghost use Rattle.std.specs.Prelude.{◌≡◌, ◌&&◌, cond, eqb};
 ghost use Rattle.layout.specs.General.Lists.{same_by, same_numbers};
 ghost use Rattle.layout.specs.General.Floats.{same_bits};

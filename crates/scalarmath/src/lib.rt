@@ -1,6 +1,8 @@
 // clarabel's algebra/scalarmath.rs: triangular numbers, the exact integer root, and the svec index of a pair (its
 // index in the packed upper triangle) and back. The Rust's triangular_index(k - 1) + 1 is triangular_number(k)
 // here, so that column 0 needs no special case.
+#![tactic(auto)]
+
 mod column_starts;
 
 ghost use Rattle.std.specs.Prelude.{◌≡◌, ◌+◌, ◌*◌, ◌≤◌, ◌<◌};
@@ -47,7 +49,7 @@ pub fn coord_to_upper_triangular_index(i: u32, j: u32) -> u32
     }
 }
 
-#[derive(Drop)]
+#[derive(Clone, Copy)]
 pub struct Coord {
     pub row: u32,
     pub col: u32,

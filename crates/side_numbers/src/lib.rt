@@ -1,4 +1,6 @@
 // The refusal numbers of a compact cut with several right sides: puts the numbers of the single checks in the order of document 02.
+#![tactic(auto)]
+
 ghost use Rattle.std.specs.Prelude.{◌≡◌, cond, ◌&&◌, ◌≤◌, leb};
 ghost use Rattle.layout.specs.Calls.Answers.{or_else};
 ghost use Rattle.layout.specs.Calls.CutBetween.{at_most};

@@ -1,5 +1,7 @@
 // The refusals, in order, of the compact cut with more than one right side: with low and high limits, and with many right sides. Each comes with the
 // counts that the cut's writers need.
+#![tactic(auto)]
+
 ghost use Rattle.std.specs.Prelude.{◌≡◌, cond, ◌*◌, ◌≤◌, ◌<◌, length, get_or, set};
 ghost use Rattle.layout.specs.General.Lists.{written};
 ghost use Rattle.layout.specs.Problems.Problem.{problem, compact};

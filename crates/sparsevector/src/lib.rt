@@ -1,4 +1,6 @@
 // b over the augmented rows: values other than zero move to the rows that own them, and all other rows get +0.0.
+#![tactic(auto)]
+
 ghost use Rattle.std.specs.Prelude.{◌≡◌, map, ◌*◌, ◌≤◌, length};
 ghost use Rattle.layout.specs.General.Lists.{written};
 ghost use Rattle.rows_codes.specs.Codes.{RowInside, RowsInside};

@@ -1,4 +1,6 @@
 // Check 5: the pattern words are complete, name their PSD cones in increasing order, and have permutations as orderings.
+#![tactic(auto)]
+
 ghost use Rattle.std.specs.Prelude.{◌≡◌, true, drop};
 ghost use Rattle.layout.specs.General.Lists.{all};
 ghost use Rattle.layout.specs.Problems.Patterns.{read_pattern, read_patterns, patterns, ends_right};

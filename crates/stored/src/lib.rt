@@ -6,6 +6,8 @@
 // one after the other. The u32 lists are numbered from 0 and the f64 lists from 16; word k of the u32 buffer is
 // the start of list k, which ends where list k + 1 starts. No contract can say what a file contains, so the
 // functions that read one promise only bounds and lengths.
+#![tactic(auto)]
+
 ghost use Rattle.std.specs.Prelude.{◌≡◌, ◌<◌, ◌≤◌, length, take, get_or, eqb};
 ghost use Rattle.std.specs.Float.{binary64};
 ghost use Rattle.std.specs.Float.Ieee.{of_bits};
@@ -112,7 +114,7 @@ pub fn value_item(list: &[f64], i: usize) -> f64 {
     if i < list.len() { list[i] } else { 0.0 }
 }
 
-#[derive(Drop)]
+#[derive(Clone, Copy)]
 struct Span {
     from: usize,
     end: usize,

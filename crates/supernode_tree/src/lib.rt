@@ -1,4 +1,6 @@
 // Reads cliques and patterns from their words, by offsets: clarabel's `SuperNodeTree` without its vectors.
+#![tactic(auto)]
+
 ghost use Rattle.std.specs.Prelude.{◌≡◌, ◌+◌, ◌*◌, ◌≤◌, ◌<◌, true, map, length, drop, get_or, leb};
 ghost use Rattle.layout.specs.General.Lists.{all, sum};
 ghost use Rattle.layout.specs.General.Triangle.{triangle};
@@ -37,7 +39,7 @@ pub const HEAD_WORDS: usize = 3;
 // ---- cliques and patterns at an offset
 
 // A clique, by offsets into the words: its snode members start at `snode`, its separator members at `separator`, and it ends before `next`.
-#[derive(Drop)]
+#[derive(Clone, Copy)]
 pub struct Clique {
     pub parent: u32,
     pub snode: usize,
@@ -47,7 +49,7 @@ pub struct Clique {
     pub next: usize,
 }
 
-#[derive(Drop)]
+#[derive(Clone, Copy)]
 pub enum CliqueRead {
     Clique(Clique),
     Short,
@@ -112,7 +114,7 @@ impl Clique {
 }
 
 // A pattern, by offsets into the words: its ordering has `vertex_count` words from `ordering` on, its first clique starts at `cliques`.
-#[derive(Drop)]
+#[derive(Clone, Copy)]
 pub struct Pattern {
     pub orig_index: u32,
     pub vertex_count: usize,
@@ -121,7 +123,7 @@ pub struct Pattern {
     pub cliques: usize,
 }
 
-#[derive(Drop)]
+#[derive(Clone, Copy)]
 pub enum PatternRead {
     Pattern(Pattern),
     Short,
@@ -172,7 +174,7 @@ impl Pattern {
 // ---- walks over words that may end early
 
 // The offset after what was read, or `Short` if the words end early.
-#[derive(Drop)]
+#[derive(Clone, Copy)]
 enum End {
     At(usize),
     Short,
@@ -281,7 +283,7 @@ pub fn clique_offsets(words: &[u32], first: usize, count: u32, out: &mut [usize]
 }
 
 // The members of a clique, by offsets into the words: they start at `start` and end before `end`.
-#[derive(Drop)]
+#[derive(Clone, Copy)]
 pub struct Members {
     pub start: usize,
     pub end: usize,
@@ -316,7 +318,7 @@ pub fn members_by(
 // ---- block sizes
 
 // The rows of some blocks, and how many of these rows are overlaps.
-#[derive(Drop)]
+#[derive(Clone, Copy)]
 pub struct Decomposed {
     pub dim: u64,
     pub overlaps: u64,

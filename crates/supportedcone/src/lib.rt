@@ -1,4 +1,6 @@
 // Cones as in clarabel's solver/core/cones/supportedcone.rs: reading records, counting rows and α values, and checks 1 and 4 of the records.
+#![tactic(auto)]
+
 ghost use Rattle.std.specs.Prelude.{◌≡◌, true, cond, length};
 ghost use Rattle.layout.specs.General.Lists.{all};
 ghost use Rattle.layout.specs.Problems.Cones.{records, reads, row_count, alpha_count};
@@ -11,7 +13,7 @@ use constants::{limit, record, refusal};
 use scalarmath::triangular_number;
 
 // A cone as a value: its dimension, its exponent, or its two counts. GenPower holds its α count first; its α values stay in the table of α.
-#[derive(Drop)]
+#[derive(Clone, Copy)]
 pub enum SupportedCone {
     ZeroConeT(u32),
     NonnegativeConeT(u32),
@@ -23,7 +25,7 @@ pub enum SupportedCone {
 }
 
 // The result of reading a record: a cone, or `Bad` for a record that reads as none of the seven kinds.
-#[derive(Drop)]
+#[derive(Clone, Copy)]
 pub enum ReadCone {
     Is(SupportedCone),
     Bad,

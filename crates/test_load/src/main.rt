@@ -3,6 +3,8 @@
 //
 // A checksum starts from 1. For each element of a table (for a value, its bits) the checksum is combined with the element by exclusive or, and
 // the generator's next draw from that is the new checksum.
+#![tactic(auto)]
+
 use libc::STDOUT_FILENO;
 use stored::item;
 

@@ -1,4 +1,6 @@
 // From clarabel's algebra/utils.rs: the test for a permutation and the inverse permutation, `invperm`. Also check 11 for several outputs.
+#![tactic(auto)]
+
 ghost use Rattle.std.specs.Prelude.{◌≡◌, ◌≤◌, ◌<◌, true, false, cond, length, replicate, ltb};
 ghost use Rattle.layout.specs.General.Lists.{all, Below, is_permutation};
 ghost use Rattle.layout.specs.Calls.Answers.{roomy};

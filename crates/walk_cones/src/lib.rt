@@ -1,4 +1,6 @@
 // The walk over the cones of a problem in order, each not decomposed (whole) or cut by its pattern. All other walks are built on this one.
+#![tactic(auto)]
+
 ghost use Rattle.std.specs.Prelude.{◌≡◌};
 ghost use Rattle.layout.specs.Problems.Cones.{records};
 ghost use Rattle.layout.specs.Rows.Blocks.{parts};
@@ -8,7 +10,7 @@ ghost use Rattle.supernode_tree.specs.Reads.{pattern_at};
 ghost use Rattle.walk_cones.specs.Ahead.{ahead, Reached, meets, Knows};
 
 // A place in the walk: the next cone and its first row, the number of the next pattern, how many patterns are left, and where its words start.
-#[derive(Drop)]
+#[derive(Clone, Copy)]
 pub struct Place {
     pub cone: usize,
     pub row: u32,
@@ -18,7 +20,7 @@ pub struct Place {
 }
 
 // What the walk finds at a place, and the next place: the row count of a whole cone, or where the words of a cut cone's pattern start.
-#[derive(Drop)]
+#[derive(Clone, Copy)]
 pub enum Met {
     Whole(u32, Place),
     Cut(usize, Place),
