@@ -1,6 +1,5 @@
 use Prim.Native.Nat.{◌+◌, ◌-◌}
 use mathlib.Core.Path.{sym, ap, ◌∙◌}
-use mathlib.Core.Logic.{⊎_elim}
 use mathlib.Core.Bool.{Bool, false, ◌&&◌, and-true, and-false}
 use lib.ListN.{length, drop}
 use Rattle.layout.specs.General.Lists.{all, below}
@@ -9,6 +8,7 @@ use native.Mathlib.Omega.{arith}
 use borrow.Author.Tests.{not-true, not-false}
 use Rattle.check_covered.proofs.values_covered.Invariants.{fine}
 use Rattle.check_covered.proofs.values_covered.Goals as goal
+use Rattle.check_covered.proofs.values_covered.Goals.{then-not-may_have, else-not-may_have}
 
 pub loop-i-preserved : goal.loop-i-preserved
 loop-i-preserved c =
@@ -20,10 +20,10 @@ loop-i-preserved c =
     let right = fine a.covered.now b in
     let left : Bool → Bool = λ h. l.loop-i.holds && h in
     let next : Bool → Bool = λ h. h && all right (drop (i + 1) (below (length b))) in
-    ⊎_elim
-    (λ w. (omega arith, l.loop-i.invariant.1 ∙ ap left (below_fails right (length b) i (omega arith) (sym r.may_have.ensures ∙ not-true _ w.0.taken)) ∙ and-false l.loop-i.holds ∙ ap next (sym w.1)))
-    (λ w. (omega arith, l.loop-i.invariant.1 ∙ ap left (below_step right (length b) i (omega arith) (sym r.may_have.ensures ∙ not-false _ w.0.left)) ∙ ap next (sym w.1)))
-    c.if-not-may_have.branch
+    elim c.if-not-may_have.branch [
+      | then-not-may_have w ↦ (omega arith, l.loop-i.invariant.1 ∙ ap left (below_fails right (length b) i (omega arith) (sym r.may_have.ensures ∙ not-true _ w.if-not-may_have.true)) ∙ and-false l.loop-i.holds ∙ ap next (sym w.holds-is))
+      | else-not-may_have w ↦ (omega arith, l.loop-i.invariant.1 ∙ ap left (below_step right (length b) i (omega arith) (sym r.may_have.ensures ∙ not-false _ w.if-not-may_have.false)) ∙ ap next (sym w.holds-is))
+    ]
 
 
 pub returns : goal.returns

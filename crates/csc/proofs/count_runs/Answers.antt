@@ -1,11 +1,11 @@
 use Prim.Native.Nat.{◌-◌}
 use mathlib.Core.Path.{◌≡◌}
-use mathlib.Core.Logic.{⊎_elim}
 use lib.ListN.{length}
 use Rattle.layout.proofs.Columns.Repeats.{runs-few}
 use Rattle.csc.proofs.Runs.{runs_same, runs_apart, runs_last}
 use native.Mathlib.Omega.{arith}
 use Rattle.csc.proofs.count_runs.Goals as goal
+use Rattle.csc.proofs.count_runs.Goals.{then-rows-i, else-rows-i}
 
 pub returns-then-rows-eq0 : goal.returns-then-rows-eq0
 returns-then-rows-eq0 c =
@@ -19,10 +19,10 @@ loop-i-preserved c =
     let l = c.before.before.before.before in
     let rows = l.args.rows.now in
     let i = l.loop-i.i in
-    ⊎_elim
-    (λ w. (omega arith, omega (arith, w.1, l.loop-i.invariant.1), omega (arith, w.1, l.loop-i.invariant.2, runs_apart rows i (omega arith) w.0.taken)))
-    (λ w. (omega arith, omega (arith, w.1, l.loop-i.invariant.1), omega (arith, w.1, l.loop-i.invariant.2, runs_same rows i (omega arith) w.0.left)))
-    c.if-rows-i.branch
+    elim c.if-rows-i.branch [
+      | then-rows-i w ↦ (omega arith, omega (arith, w.count-is, l.loop-i.invariant.1), omega (arith, w.count-is, l.loop-i.invariant.2, runs_apart rows i (omega arith) w.if-rows-i.true))
+      | else-rows-i w ↦ (omega arith, omega (arith, w.count-is, l.loop-i.invariant.1), omega (arith, w.count-is, l.loop-i.invariant.2, runs_same rows i (omega arith) w.if-rows-i.false))
+    ]
 
 
 pub returns : goal.returns

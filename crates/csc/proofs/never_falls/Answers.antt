@@ -1,13 +1,13 @@
 use Prim.Native.Nat.{◌-◌, ◌+◌}
 use native.Mathlib.Omega.{arith}
 use mathlib.Core.Path.{sym, ap, ◌∙◌}
-use mathlib.Core.Logic.{⊎_elim}
 use mathlib.Core.Bool.{Bool, ◌&&◌, and-true, and-false}
 use borrow.Author.Tests.{le-leb, lt-leb}
 use lib.ListN.{drop}
 use lib.Dec.{leb}
 use Rattle.csc.proofs.Fronts.{chained, falls_chained, chain_step, chain_fails, chain_done}
 use Rattle.csc.proofs.never_falls.Goals as goal
+use Rattle.csc.proofs.never_falls.Goals.{then-xs-i, else-xs-i}
 
 pub loop-i-preserved : goal.loop-i-preserved
 loop-i-preserved c =
@@ -16,10 +16,10 @@ loop-i-preserved c =
     let i = l.loop-i.i in
     let left : Bool → Bool = λ b. l.loop-i.holds && b in
     let next : Bool → Bool = λ b. b && chained leb (drop (i + 1) xs) in
-    ⊎_elim
-    (λ w. (omega arith, l.loop-i.invariant.1 ∙ ap left (chain_fails leb xs i (omega arith) (lt-leb _ _ w.0.taken)) ∙ and-false l.loop-i.holds ∙ ap next (sym w.1)))
-    (λ w. (omega arith, l.loop-i.invariant.1 ∙ ap left (chain_step leb xs i (omega arith) (le-leb _ _ w.0.left)) ∙ ap next (sym w.1)))
-    c.if-xs-i.branch
+    elim c.if-xs-i.branch [
+      | then-xs-i w ↦ (omega arith, l.loop-i.invariant.1 ∙ ap left (chain_fails leb xs i (omega arith) (lt-leb _ _ w.if-xs-i.true)) ∙ and-false l.loop-i.holds ∙ ap next (sym w.holds-is))
+      | else-xs-i w ↦ (omega arith, l.loop-i.invariant.1 ∙ ap left (chain_step leb xs i (omega arith) (le-leb _ _ w.if-xs-i.false)) ∙ ap next (sym w.holds-is))
+    ]
 
 
 pub returns : goal.returns

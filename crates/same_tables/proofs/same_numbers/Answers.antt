@@ -1,6 +1,5 @@
 use Prim.Native.Nat.{◌+◌, ◌-◌}
 use mathlib.Core.Path.{sym, ap, ◌∙◌}
-use mathlib.Core.Logic.{⊎_elim}
 use mathlib.Core.Bool.{Bool, ◌&&◌, and-true, and-false}
 use lib.ListN.{drop}
 use Rattle.layout.specs.General.Lists.{same_numbers}
@@ -10,6 +9,7 @@ use lib.Dec.{eqb}
 use borrow.Author.Tests.{eq-eqb, ne_eqb}
 
 use Rattle.same_tables.proofs.same_numbers.Goals as goal
+use Rattle.same_tables.proofs.same_numbers.Goals.{then-xs-i, else-xs-i}
 
 pub returns-then-xs-ys : goal.returns-then-xs-ys
 returns-then-xs-ys c = sym (same_lengths eqb c.args.xs.now c.args.ys.now c.if-xs-ys.true)
@@ -23,10 +23,10 @@ loop-i-preserved c =
     let i = l.loop-i.i in
     let left : Bool → Bool = λ b. l.loop-i.same && b in
     let next : Bool → Bool = λ b. b && same_numbers (drop (i + 1) xs) (drop (i + 1) ys) in
-    ⊎_elim
-    (λ w. (omega arith, l.loop-i.invariant.1 ∙ ap left (same_miss eqb xs ys 0 i (omega arith) (omega arith) (ne_eqb _ _ w.0.taken)) ∙ and-false l.loop-i.same ∙ ap next (sym w.1)))
-    (λ w. (omega arith, l.loop-i.invariant.1 ∙ ap left (same_step eqb xs ys 0 i (omega arith) (omega arith) (eq-eqb _ _ w.0.left)) ∙ ap next (sym w.1)))
-    c.if-xs-i.branch
+    elim c.if-xs-i.branch [
+      | then-xs-i w ↦ (omega arith, l.loop-i.invariant.1 ∙ ap left (same_miss eqb xs ys 0 i (omega arith) (omega arith) (ne_eqb _ _ w.if-xs-i.true)) ∙ and-false l.loop-i.same ∙ ap next (sym w.same-is))
+      | else-xs-i w ↦ (omega arith, l.loop-i.invariant.1 ∙ ap left (same_step eqb xs ys 0 i (omega arith) (omega arith) (eq-eqb _ _ w.if-xs-i.false)) ∙ ap next (sym w.same-is))
+    ]
 
 
 pub returns : goal.returns
