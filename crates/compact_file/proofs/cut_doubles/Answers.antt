@@ -32,7 +32,7 @@ returns-then-end-gt-OUT_BYTES c =
     let s = c.before.before.before.before.before.before.before.before.before.before.before.before.before.before.before in
     let t = word_tables s.args.words.now in
     let h = c.size_tables-number.ensures in
-    let end = sized_end t h c.if-number-ne0.false c.end_of_lem.ensures.0 in
+    let end = sized_end t h c.if-number-ne0.false c.end_of-end.ensures.0 in
     let ok = sym (sized-number (problem_of t) h) ∙ c.if-number-ne0.false in
     let e = tables_long t ok (subst (λ (k : ℕ). 65536 < k) end c.if-end-gt-OUT_BYTES.true) in
     (c.refuse-then-end-gt-OUT_BYTES.ensures.0 ∙ sym (ap length e), c.refuse-then-end-gt-OUT_BYTES.ensures.1 ∙ sym (ap (λ (l : List ℕ). written l s.args.out.now) e))
@@ -43,14 +43,14 @@ write_cut-requires c =
     let s = c.before.before.before.before.before.before.before.before.before.before.before.before.before in
     let t = word_tables s.args.words.now in
     let h = c.size_tables-number.ensures in
-    let end = sized_end t h c.if-number-ne0.false c.end_of_lem.ensures.0 in record { well_shaped = s.requires.well_shaped; writes = (sized_writes s.args.words.now s.requires.small.0 h c.if-number-ne0.false (subst (λ (k : ℕ). k ≤ 65536) end c.if-end-gt-OUT_BYTES.false), s.requires.small.1) }
+    let end = sized_end t h c.if-number-ne0.false c.end_of-end.ensures.0 in record { well_shaped = s.requires.well_shaped; writes = (sized_writes s.args.words.now s.requires.small.0 h c.if-number-ne0.false (subst (λ (k : ℕ). k ≤ 65536) end c.if-end-gt-OUT_BYTES.false), s.requires.small.1) }
 
 pub returns : goal.returns
 returns c =
     let s = c.before.before.before.before.before.before.before.before.before.before.before.before.before.before.before.before in
     let t = word_tables s.args.words.now in
     let h = c.size_tables-number.ensures in
-    let end = sized_end t h c.if-number-ne0.false c.end_of_lem.ensures.0 in
+    let end = sized_end t h c.if-number-ne0.false c.end_of-end.ensures.0 in
     let ok = sym (sized-number (problem_of t) h) ∙ c.if-number-ne0.false in
     let e = (tables_passed t ok (subst (λ (k : ℕ). k ≤ 65536) end c.if-end-gt-OUT_BYTES.false)).1 in
     (end ∙ sym (ap length e), c.write_cut.ensures ∙ sym (ap (λ (l : List ℕ). written l s.args.out.now) e))

@@ -8,5 +8,5 @@ pub returns : goal.returns
 returns c =
     let s = c.before.before.before.before.before.before.before.before in
     c.write_patterns.ensures
-    ∙ ap (λ (a : ℕ). written (pairs_of (part a (a + 2 * s.args.count) s.args.words.now)) s.args.out.now) c.start_of_lem.ensures.0
+    ∙ ap (λ (a : ℕ). written (pairs_of (part a (a + 2 * s.args.count) s.args.words.now)) s.args.out.now) c.start_of-at.ensures.0
 

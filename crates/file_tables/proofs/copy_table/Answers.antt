@@ -7,5 +7,5 @@ pub returns : goal.returns
 returns c =
     let s = c.before.before.before.before.before.before.before.before in
     c.copy_numbers.ensures
-    ∙ ap (λ (a : ℕ). written (part a (a + s.args.count) s.args.words.now) s.args.out.now) c.start_of_lem.ensures.0
+    ∙ ap (λ (a : ℕ). written (part a (a + s.args.count) s.args.words.now) s.args.out.now) c.start_of-at.ensures.0
 

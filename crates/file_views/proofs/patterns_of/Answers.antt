@@ -16,13 +16,13 @@ table_size-size-requires c = let s = c.before.before.before in (stands_long s.ar
 pub slice_bounds-result-end : goal.slice_bounds-result-end
 slice_bounds-result-end c =
     let s = c.before.before.before.before in
-    omega (arith, ap length s.requires.1, pairs-inside s.args.words.now s.requires.0 s.args.i c.start_of_lem.result c.table_size-size.result c.start_of_lem.ensures.0 c.table_size-size.ensures.0 s.requires.2)
+    omega (arith, ap length s.requires.1, pairs-inside s.args.words.now s.requires.0 s.args.i c.start_of-from.result c.table_size-size.result c.start_of-from.ensures.0 c.table_size-size.ensures.0 s.requires.2)
 
 
 pub returns : goal.returns
 returns c =
     let s = c.before.before.before.before.before in
-    let at = c.start_of_lem.result / 2 in
+    let at = c.start_of-from.result / 2 in
     ap (part at (at + c.table_size-size.result / 8)) s.requires.1
-    ∙ pairs_view s.args.words.now s.requires.0 s.args.i c.start_of_lem.result c.table_size-size.result c.start_of_lem.ensures.0 c.table_size-size.ensures.0 s.requires.2
+    ∙ pairs_view s.args.words.now s.requires.0 s.args.i c.start_of-from.result c.table_size-size.result c.start_of-from.ensures.0 c.table_size-size.ensures.0 s.requires.2
 

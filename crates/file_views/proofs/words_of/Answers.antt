@@ -12,11 +12,11 @@ table_size-size-requires c = let s = c.before.before in (stands_long s.args.word
 pub slice_bounds-result-end : goal.slice_bounds-result-end
 slice_bounds-result-end c =
     let s = c.before.before.before in
-    words_inside s.args.words.now s.requires.0 s.args.i c.start_of_lem.result c.table_size-size.result c.start_of_lem.ensures.0 c.table_size-size.ensures.0 s.requires.1
+    words_inside s.args.words.now s.requires.0 s.args.i c.start_of-from.result c.table_size-size.result c.start_of-from.ensures.0 c.table_size-size.ensures.0 s.requires.1
 
 
 pub returns : goal.returns
 returns c =
     let s = c.before.before.before.before in
-    words_view s.args.words.now s.requires.0 s.args.i c.start_of_lem.result c.table_size-size.result c.start_of_lem.ensures.0 c.table_size-size.ensures.0
+    words_view s.args.words.now s.requires.0 s.args.i c.start_of-from.result c.table_size-size.result c.start_of-from.ensures.0 c.table_size-size.ensures.0
 

@@ -28,7 +28,7 @@ decreases-loop s rows n starts₀ kept-rows₀ kept₀ state₀ at₀ c₀ start
 
 -- the tables have room for the next column
 room : (l : tie.At-loop-c invariant-loop decreases-loop) → let a = l.args in l.loop-c.c < a.n
-    → (l.loop-c.at + length a.rows.now < 8192) × (8192 ≤ length l.loop-c.kept_rows) × (8192 ≤ length l.loop-c.auto)
+    → (l.loop-c.at + length a.rows.now < 8192) × (8192 ≤ length l.loop-c.kept_rows) × (8192 ≤ length l.loop-c.kept)
 room l h =
     let s = l.before.before.before.before.before in
     let rs = s.args.rows.now in
@@ -82,7 +82,7 @@ part-keep-column-end-2 c = omega (arith, room c.before.before (omega arith))
 keep-column-requires : tie.Need-keep_column-d-requires invariant-loop decreases-loop
 keep-column-requires c κs =
     let l = c.before.before.before in
-    (omega (arith, room l (omega arith), length_tail l.loop-c.kept_rows l.loop-c.at), omega (arith, room l (omega arith), length_tail l.loop-c.auto l.loop-c.at))
+    (omega (arith, room l (omega arith), length_tail l.loop-c.kept_rows l.loop-c.at), omega (arith, room l (omega arith), length_tail l.loop-c.kept l.loop-c.at))
 
 add_at : tie.Need-overflow_add-at invariant-loop decreases-loop
 add_at c = omega (arith, few c.before.before.before.before.before)
@@ -123,21 +123,21 @@ loop-again c =
     let draw-part = t.keep_column-d.new.kept in
     let fit = room l (omega arith) in
     let rows_long : length row-part ≡ length l.loop-c.kept_rows - at = t.keep_column-d.auto.kept_rows ∙ length_tail l.loop-c.kept_rows at in
-    let draws-long : length draw-part ≡ length l.loop-c.auto - at = t.keep_column-d.auto.kept ∙ length_tail l.loop-c.auto at in
+    let draws-long : length draw-part ≡ length l.loop-c.kept - at = t.keep_column-d.auto.kept ∙ length_tail l.loop-c.kept at in
     let more : at + count ≡ sum (map length (drawn_columns a.s rs (k + 1))) =
     omega (arith, entries_more a.s rs k, w.0.0, ap length after, l.loop-c.invariant.4) in
     let rows = kept-after l.loop-c.kept_rows row-part at count (omega (arith, fit)) (omega (arith, fit, few t, rows_long)) in
-    let draws = kept-after l.loop-c.auto draw-part at count (omega (arith, fit)) (omega (arith, fit, few t, draws-long)) in (
+    let draws = kept-after l.loop-c.kept draw-part at count (omega (arith, fit)) (omega (arith, fit, few t, draws-long)) in (
       omega arith,
       length-set l.loop-c.starts (k + 1) _ ∙ l.loop-c.invariant.1,
       kept-length l.loop-c.kept_rows row-part at (omega (arith, fit)) rows_long ∙ l.loop-c.invariant.2,
-      kept-length l.loop-c.auto draw-part at (omega (arith, fit)) draws-long ∙ l.loop-c.invariant.3,
+      kept-length l.loop-c.kept draw-part at (omega (arith, fit)) draws-long ∙ l.loop-c.invariant.3,
       more,
       w.0.1 ∙ ap (λ (u : ℕ). after_column u rs) l.loop-c.invariant.5 ∙ sym (afters_more a.s rs k),
       rw (l.loop-c.invariant.6, starts_more a.s rs k, more)
           (set-written (csc cs).starts (set a.starts.now 0 0) _ (k + 1) (sym (starts-many a.s rs k)) (omega (arith, starts_long l, l.loop-c.invariant.1, s.requires.2))),
       rows ∙ ap₂ ◌++◌ l.loop-c.invariant.7 (w.1.0 ∙ ap rows_of after) ∙ sym (rows_more a.s rs k),
-      ap (map drawn_value) draws ∙ map-append drawn_value (take at l.loop-c.auto) (take count draw-part)
+      ap (map drawn_value) draws ∙ map-append drawn_value (take at l.loop-c.kept) (take count draw-part)
           ∙ ap₂ ◌++◌ l.loop-c.invariant.8 (w.1.1 ∙ ap values_of after) ∙ sym (values_more a.s rs k),
     )
 

@@ -114,7 +114,7 @@ loop-again c =
       next-kept a.s a.rows.now l.loop-i.i l.loop-i.count l.loop-i.due d.draw-state.result c.due_after-due.result (omega arith) l.loop-i.invariant.1 (turned c)
           (λ (e : Entry). e.row) (λ (xs : List ℕ). xs) (get_or a.rows.now l.loop-i.i 0) (λ ys. refl) l.loop-i.kept_rows (omega arith) l.loop-i.invariant.7,
       next-kept a.s a.rows.now l.loop-i.i l.loop-i.count l.loop-i.due d.draw-state.result c.due_after-due.result (omega arith) l.loop-i.invariant.1 (turned c)
-          (λ (e : Entry). e.value) (map drawn_value) d.draw-state.result (λ ys. map-append drawn_value ys (d.draw-state.result ∷ [])) l.loop-i.auto (omega arith) l.loop-i.invariant.8,
+          (λ (e : Entry). e.value) (map drawn_value) d.draw-state.result (λ ys. map-append drawn_value ys (d.draw-state.result ∷ [])) l.loop-i.kept (omega arith) l.loop-i.invariant.8,
     )
 
 same_length : tie.Need-shape_of-kept_rows invariant-loop decreases-loop

@@ -7,7 +7,7 @@ use native.Mathlib.Omega.{arith}
 use Rattle.side_numbers.proofs.refuse_lengths.Goals as goal
 
 pub returns-then-early-ne0 : goal.returns-then-early-ne0
-returns-then-early-ne0 c = let e = c.up_to_lem.ensures in e ∙ sym (first-given _ _ (λ z. c.if-early-ne0.true (e ∙ z)))
+returns-then-early-ne0 c = let e = c.up_to-early.ensures in e ∙ sym (first-given _ _ (λ z. c.if-early-ne0.true (e ∙ z)))
 
 pub overflow_mul-count : goal.overflow_mul-count
 overflow_mul-count c =
@@ -19,11 +19,11 @@ overflow_mul-count c =
 pub returns-then-size-count : goal.returns-then-size-count
 returns-then-size-count c =
     let a = c.args in
-    sym (sides_length a.r a.m a.count a.size (sym c.up_to_lem.ensures ∙ c.if-early-ne0.false) c.if-size-count.true)
+    sym (sides_length a.r a.m a.count a.size (sym c.up_to-early.ensures ∙ c.if-early-ne0.false) c.if-size-count.true)
 
 
 pub returns : goal.returns
 returns c =
     let a = c.args in
-    sym (sides_late a.r a.m a.count a.size (sym c.up_to_lem.ensures ∙ c.if-early-ne0.false) c.if-size-count.false)
+    sym (sides_late a.r a.m a.count a.size (sym c.up_to-early.ensures ∙ c.if-early-ne0.false) c.if-size-count.false)
 
