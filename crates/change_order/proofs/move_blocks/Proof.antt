@@ -64,6 +64,7 @@ module _ (c : tie.After-here-q invariant-loop decreases-loop) where
       let e = block_size_lem ws l.loop-left.at q c.here-q.ensures.1 in
       let fits = (all_cons (block_at_most 256) (clique_of ws q) (cliques_from ws q.next (l.loop-left.left - 1)) _ first_of l.loop-left.invariant.1).0 in
       (e, omega (arith, leb→le (block_size (clique_of ws q)) 256 (passes _ fits)))
+
 -- the number of its block rows
 module _ (c : tie.After-triangular_number-k invariant-loop decreases-loop) where
   abbrev read : tie.After-here-q invariant-loop decreases-loop

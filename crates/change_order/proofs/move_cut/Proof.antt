@@ -37,6 +37,7 @@ module _ (h : tie.After-here-p) where
       let a = (start h).args in
       let ws = a.words.now in
       pattern_whole ws a.at (head_of ws h.here-p.result) h.here-p.result.cliques (sym h.here-p.ensures.0) whole-at
+
 -- the number of their block rows, and that inputs and outputs are long enough
 module _ (g : tie.After-get_decomposed_dim_and_overlaps-blocks) where
   rows_here : let q = g.here-p.result in

@@ -99,6 +99,7 @@ module _ (c : tie.In-Whole invariant-loop decreases-loop) where
       let r = c.before.before.before in
       let a = (start at-whole).args in
       subst (Knows a.m a.cones.now a.words.now at-whole.loop-rows.place) c.met-1.given.1 r.next-met.ensures.1
+
 -- when the next cone is decomposed
 module _ (c : tie.In-Cut invariant-loop decreases-loop) where
   abbrev at_cut : tie.At-loop-rows invariant-loop decreases-loop

@@ -28,6 +28,7 @@ module _ (s : tie.Start) where
 
   abbrev number : ℕ
   number = let a = s.args in change_refusal a.n a.m a.cones.now a.count a.words.now given rooms
+
 -- checks 1 to 7 refuse nothing
 module _ (e : tie.Else-c-ne0) where
   abbrev checked : tie.After-check_joined-c

@@ -14,12 +14,11 @@ loop-i-init c = (omega arith, refl, refl)
 
 pub loop-i-preserved : goal.loop-i-preserved
 unfolding neg of_bits
-loop-i-preserved c =
-    (
-      omega arith,
-      simp length-set c.loop-i.invariant.1,
-      rw c.loop-i.invariant.2 (mapped_more value_before c.args.out.now c.loop-i.i (omega arith)),
-    )
+loop-i-preserved c = (
+  omega arith,
+  simp length-set c.loop-i.invariant.1,
+  rw c.loop-i.invariant.2 (mapped_more value_before c.args.out.now c.loop-i.i (omega arith)),
+)
 
 pub slice_bounds-result-end : goal.slice_bounds-result-end
 slice_bounds-result-end c = sym (length-take-le _ _ c.least-n.ensures.0)
