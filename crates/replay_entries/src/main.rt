@@ -14,7 +14,7 @@ use stored::{
     values_room, word, words_at, words_room,
 };
 
-// ---- the calls with entries. Both functions are proved by hand, because they pass on a local array of structs by reference.
+// ---- the calls with entries
 
 const MOST_ENTRIES: usize = 64;
 

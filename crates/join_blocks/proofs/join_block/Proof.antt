@@ -134,7 +134,7 @@ loop-again c =
       w.auto.counts ∙ l.loop-j.invariant.5,
       walk-joined add_at (done l) (column l) next a.s.now a.s_out.now a.first t w.ensures.0 l.loop-j.invariant.6 l.loop-j.invariant.2 more,
       walk-joined (z_at a.standard) (done l) (column l) next a.z.now a.z_out.now a.first t w.ensures.1.0 l.loop-j.invariant.7 l.loop-j.invariant.2 more,
-      counts-joined a.standard (done l) (column l) next a.counts.now l.loop-j.counts w.last.1.1.1.1.1.1.1.1.0 w.auto.counts l.loop-j.invariant.8
+      counts-joined a.standard (done l) (column l) next a.counts.now l.loop-j.counts w.new.counts w.auto.counts l.loop-j.invariant.8
           w.ensures.1.1 more,
     )
 

@@ -104,7 +104,7 @@ module _ (v : tie.After-clique_vertices-k invariant-loop decreases-loop) where
   at-clique = v.before.before.before.before
 
   abbrev found : List ℕ
-  found = take v.clique_vertices-k.result v.clique_vertices-k.last.1.1.1.0
+  found = take v.clique_vertices-k.result v.clique_vertices-k.new.out
 
   block_is : rows_at (start (here at-clique)) (next at-clique) ≡ block_rows_of found
   unfolding rows_here
@@ -193,14 +193,14 @@ loop-again c =
     let l = here i in
     let s = start l in
     let a = s.args in
-    let joined : BlockJoined false (found v) l.loop-i.t a.s.now a.z.now l.loop-i.s_out l.loop-i.z_out l.loop-i.counts w.result w.last.1.1.1.1.1.0 w.last.1.1.1.1.1.1.0 w.last.1.1.1.1.1.1.1.0 =
-    subst (λ (n : ℕ). BlockJoined false (found v) n a.s.now a.z.now l.loop-i.s_out l.loop-i.z_out l.loop-i.counts w.result w.last.1.1.1.1.1.0 w.last.1.1.1.1.1.1.0 w.last.1.1.1.1.1.1.1.0) (began v.before.before.before) w.ensures in (
+    let joined : BlockJoined false (found v) l.loop-i.t a.s.now a.z.now l.loop-i.s_out l.loop-i.z_out l.loop-i.counts w.result w.new.s_out w.new.z_out w.new.counts =
+    subst (λ (n : ℕ). BlockJoined false (found v) n a.s.now a.z.now l.loop-i.s_out l.loop-i.z_out l.loop-i.counts w.result w.new.s_out w.new.z_out w.new.counts) (began v.before.before.before) w.ensures in (
       one_more i.loop-i-test.true,
       next-starts a.map.now a.entry l.loop-i.i l.loop-i.t w.result (length (rows_at s (next i))) (sizes s (others i)) (told i) (joined.0 ∙ ap (λ (n : ℕ). l.loop-i.t + n) (sym (ap length (block_is v) ∙ length-block (found v)))),
       v.clique_vertices-k.auto.out ∙ l.loop-i.invariant.2,
       block-left false a.s.now a.z.now a.first (join (rows_at s) (order s)) a.s_out.now a.z_out.now a.counts.now l.loop-i.t (rows l) l.loop-i.s_out l.loop-i.z_out l.loop-i.counts
           l.loop-i.invariant.3 a.words.now a.ordering.now (next i) (found v) (join (rows_at s) (others i)) v.clique_vertices-k.ensures.1 (more v)
-          w.result w.last.1.1.1.1.1.0 w.last.1.1.1.1.1.1.0 w.last.1.1.1.1.1.1.1.0
+          w.result w.new.s_out w.new.z_out w.new.counts
           w.auto.s_out w.auto.z_out w.auto.counts joined,
     )
 

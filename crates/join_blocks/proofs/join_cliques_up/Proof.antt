@@ -75,7 +75,7 @@ module _ (v : tie.After-clique_vertices-k invariant-loop decreases-loop) where
   read = v.before.before
 
   abbrev found : List ℕ
-  found = take v.clique_vertices-k.result v.clique_vertices-k.last.1.1.1.0
+  found = take v.clique_vertices-k.result v.clique_vertices-k.new.out
 
   more : rows (here read) ≡ block_rows_of found ++ rows_up (start (here read)).args.ordering.now (others read)
   unfolding vertices_here
@@ -145,7 +145,7 @@ loop-again c =
       v.clique_vertices-k.auto.out ∙ l.loop-left.invariant.2,
       block-left true a.s.now a.z.now a.first (all s) a.s_out.now a.z_out.now a.counts.now l.loop-left.t (rows l) l.loop-left.s_out l.loop-left.z_out l.loop-left.counts
           l.loop-left.invariant.3 a.words.now a.ordering.now l.loop-left.at (found v) (rows_up a.ordering.now (others (read v))) v.clique_vertices-k.ensures.1 (more v)
-          w.result w.last.1.1.1.1.1.0 w.last.1.1.1.1.1.1.0 w.last.1.1.1.1.1.1.1.0
+          w.result w.new.s_out w.new.z_out w.new.counts
           w.auto.s_out w.auto.z_out w.auto.counts w.ensures,
     )
 

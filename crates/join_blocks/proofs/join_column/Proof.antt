@@ -238,7 +238,7 @@ loop-again c =
       walk_stored (z_at a.standard) (rows l) a.z.now a.z_out.now a.t n o 0 nan
           (ap (set zo o) v.z_value.ensures ∙ z_stored a.standard o (get_or a.z.now (a.t + n) nan) zo)
           l.loop-i.invariant.5 (row_is i) (in_rows i) (z_here i),
-      counts-next a.standard (rows l) n o a.counts.now l.loop-i.counts k.count_column.last.1.0 (in_rows i) (row_is i) k.count_column.auto.counts l.loop-i.invariant.6
+      counts-next a.standard (rows l) n o a.counts.now l.loop-i.counts k.count_column.new.counts (in_rows i) (row_is i) k.count_column.auto.counts l.loop-i.invariant.6
           k.count_column.ensures,
     )
 

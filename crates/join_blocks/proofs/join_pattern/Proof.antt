@@ -182,7 +182,7 @@ returns c =
     let t = taken (up c) in
     let h = t.before in
     promised (start h) true t.if-standard.true (rows_up (ordering h) (cliques h)) (up-rows h) w.result
-    w.last.1.1.1.1.1.1.1.0 w.last.1.1.1.1.1.1.1.1.0 w.last.1.1.1.1.1.1.1.1.1.0 w.ensures.0 w.ensures.1.0 w.ensures.1.1.0 w.ensures.1.1.1
+    w.new.s_out w.new.z_out w.new.counts w.ensures.0 w.ensures.1.0 w.ensures.1.1.0 w.ensures.1.1.1
 
 -- ---- the compact route
 
@@ -309,7 +309,7 @@ returns-2 c =
     let w = (down c).join_cliques_down in
     let o = table (down c) in
     promised (start (read o)) false (left o).if-standard.false (downward o) (down-rows o) w.result
-    w.last.1.1.1.1.1.1.1.1.0 w.last.1.1.1.1.1.1.1.1.1.0 w.last.1.1.1.1.1.1.1.1.1.1.0 w.ensures.0 w.ensures.1.0 w.ensures.1.1 tt
+    w.new.s_out w.new.z_out w.new.counts w.ensures.0 w.ensures.1.0 w.ensures.1.1 tt
 
 pub join_pattern_spec : {M : Type 1} → statement M
 join_pattern_spec =

@@ -34,7 +34,7 @@ returns c =
     let a = (start t).args in
     let standard = sym t.if-standard.true in (
       v.take_averages.ensures.0 ∙ ap (λ (b : Bool). z_averaged_by b a.counts.now a.z.now) standard,
-      subst (λ (b : Bool). ClearsRows b (length a.z.now) a.counts.now v.take_averages.last.1.0) standard v.take_averages.ensures.1,
+      subst (λ (b : Bool). ClearsRows b (length a.z.now) a.counts.now v.take_averages.new.counts) standard v.take_averages.ensures.1,
     )
 
 returns-2 : tie.Need-returns-else-standard

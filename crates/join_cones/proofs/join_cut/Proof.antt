@@ -87,13 +87,13 @@ same_length : tie.Need-shape_of-s_out
 same_length c =
     let j = end c in
     let a = (first j).args in
-    length-put a.row (a.row + a.n - a.row) a.s_out.now j.join_rows.last.1.1.1.1.1.1.1.1.0 (s_rows (first j)) j.join_rows.auto.s_out
+    length-put a.row (a.row + a.n - a.row) a.s_out.now j.join_rows.new.s_out (s_rows (first j)) j.join_rows.auto.s_out
 
 same-length-2 : tie.Need-shape_of-z_out
 same-length-2 c =
     let j = end c in
     let a = (first j).args in
-    length-put a.row (a.row + a.n - a.row) a.z_out.now j.join_rows.last.1.1.1.1.1.1.1.1.1.0 (z_rows (first j)) j.join_rows.auto.z_out
+    length-put a.row (a.row + a.n - a.row) a.z_out.now j.join_rows.new.z_out (z_rows (first j)) j.join_rows.auto.z_out
 
 same-length-3 : tie.Need-shape_of-counts
 same-length-3 c = (end c).join_rows.auto.counts
@@ -112,9 +112,9 @@ returns c =
     let w = j.join_rows in (
       w.ensures.0,
       (
-        put_same (s_cut a.standard (here s) (drop a.t a.s.now)) w.last.1.1.1.1.1.1.1.1.0 a.s_out.now a.row a.n s.requires.1.0.0 w.ensures.1.0 w.auto.s_out,
+        put_same (s_cut a.standard (here s) (drop a.t a.s.now)) w.new.s_out a.s_out.now a.row a.n s.requires.1.0.0 w.ensures.1.0 w.auto.s_out,
         (
-          put_same (z_cut a.standard (here s) (drop a.t a.z.now)) w.last.1.1.1.1.1.1.1.1.1.0 a.z_out.now a.row a.n s.requires.1.0.1 w.ensures.1.1.0 w.auto.z_out,
+          put_same (z_cut a.standard (here s) (drop a.t a.z.now)) w.new.z_out a.z_out.now a.row a.n s.requires.1.0.1 w.ensures.1.1.0 w.auto.z_out,
           w.ensures.1.1.1,
         ),
       ),

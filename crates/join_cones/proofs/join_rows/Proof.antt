@@ -88,7 +88,7 @@ join-pattern-requires c κs =
     let a = s.args in
     let p = here s in
     let n = f.fill_values.auto.out in
-    let rows : length f.fill_values.last.0 ≡ triangle p.vertex_count = n ∙ s.requires.1.0.0 in (
+    let rows : length f.fill_values.new.out ≡ triangle p.vertex_count = n ∙ s.requires.1.0.0 in (
       s.requires.0,
       (
         (le_of_eq (sym rows), both_kept g.fill_values-2.auto.out (sym (sizes s)) n, same_le rows (few-rows p.vertex_count s.requires.0.1)),
@@ -146,9 +146,9 @@ returns c =
       (
         by_same (add_columns os (drop a.t a.s.now)) e.1.0 (s_zeros f),
         (
-          averaged-cut a.standard os a.counts.now (counted j) (drop a.t a.z.now) (zeros s) g.fill_values-2.last.0 (z-joined j) v.average.last.1.0 (room j) clear e.1.1.1
+          averaged-cut a.standard os a.counts.now (counted j) (drop a.t a.z.now) (zeros s) g.fill_values-2.new.out (z-joined j) v.average.new.z (room j) clear e.1.1.1
               v.average.ensures.0 e.1.1.0 (z_zeros g),
-          cleared_again a.standard (here s) (length (z-joined j)) a.counts.now (counted j) v.average.last.1.1.0 (size j ∙ s.requires.1.0.0) clear e.1.1.1 v.average.ensures.1,
+          cleared_again a.standard (here s) (length (z-joined j)) a.counts.now (counted j) v.average.new.counts (size j ∙ s.requires.1.0.0) clear e.1.1.1 v.average.ensures.1,
         ),
       ),
     )

@@ -64,7 +64,7 @@ same_length c =
     let w = end c in
     let s = start w.before.before.before in
     let a = s.args in
-    length-put a.row (a.row + a.n - a.row) a.out.now w.whole_values.last.1.0 (rows_begin s) w.whole_values.auto.out
+    length-put a.row (a.row + a.n - a.row) a.out.now w.whole_values.new.out (rows_begin s) w.whole_values.auto.out
 
 returns : tie.Need-returns
 returns c =
@@ -72,7 +72,7 @@ returns c =
     let s = start w.before.before.before in
     let a = s.args in
     let vs : List Float = part a.t (a.t + a.n) a.values.now in
-    put_same (whole_values a.standard vs) w.whole_values.last.1.0 a.out.now a.row a.n s.requires.1 w.whole_values.ensures w.whole_values.auto.out
+    put_same (whole_values a.standard vs) w.whole_values.new.out a.out.now a.row a.n s.requires.1 w.whole_values.ensures w.whole_values.auto.out
 
 pub join_whole_spec : {M : Type 1} → statement M
 join_whole_spec =

@@ -456,10 +456,10 @@ loop-again-2 c =
     let t = l.loop-rows.t in
     let ps = joined_parts a.cones.now a.count a.words.now in (
       joins_more (s_part a.standard) a.m a.s.now a.s_out.now s.requires.1.0.0 (values_from (s_part a.standard) ps (drop (first_of a.standard a.m) a.s.now)) (cut_of k) (after-cut k) (left l) row t
-          r.cone_rows-n.result w.result l.loop-rows.s_out w.last.1.1.1.1.1.1.1.1.1.1.0 l.loop-rows.invariant.0 e (rows_cut r) w.ensures.0
+          r.cone_rows-n.result w.result l.loop-rows.s_out w.new.s_out l.loop-rows.invariant.0 e (rows_cut r) w.ensures.0
           (length_s_cut a.standard p (drop t a.s.now) ∙ sym n) w.ensures.1.0,
       joins_more (z_part a.standard) a.m a.z.now a.z_out.now s.requires.1.0.1 (values_from (z_part a.standard) ps (drop (first_of a.standard a.m) a.z.now)) (cut_of k) (after-cut k) (left l) row t
-          r.cone_rows-n.result w.result l.loop-rows.z_out w.last.1.1.1.1.1.1.1.1.1.1.1.0 l.loop-rows.invariant.1 e (rows_cut r) w.ensures.0
+          r.cone_rows-n.result w.result l.loop-rows.z_out w.new.z_out l.loop-rows.invariant.1 e (rows_cut r) w.ensures.0
           (length_z_cut a.standard p (drop t a.z.now) ∙ sym n) w.ensures.1.1.0,
       (◌∙◌ {b = length l.loop-rows.counts} w.auto.counts l.loop-rows.invariant.2.0, w.ensures.1.1.1),
       sum-next row r.cone_rows-n.result (triangle p.vertex_count) (rows_of (after-cut k)) (rows_of (left l)) a.m l.loop-rows.invariant.3 (ap rows_of e) n,
