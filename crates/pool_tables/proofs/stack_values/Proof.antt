@@ -25,14 +25,14 @@ fits : (l : tie.At-loop-first2 invariant-loop decreases-loop)
     × (length a.values.now + length a.values2.now ≤ length l.loop-first2.out)
 fits l =
     let s = start l in
-    let f = stacking_fits s.args.n s.args.starts.now s.args.values.now s.args.starts2.now s.args.values2.now s.args.out.now s.pre.0.0 s.pre.0.1 s.pre.1 l.loop-first2.invariant.3 l.loop-first2.invariant.0 in
-    (f.1, f.2, f.3, f.4, omega (arith, f.0, s.pre.1))
+    let f = stacking_fits s.args.n s.args.starts.now s.args.values.now s.args.starts2.now s.args.values2.now s.args.out.now s.requires.0.0 s.requires.0.1 s.requires.1 l.loop-first2.invariant.3 l.loop-first2.invariant.0 in
+    (f.1, f.2, f.3, f.4, omega (arith, f.0, s.requires.1))
 
 left : (c : tie.In-loop-first2 invariant-loop decreases-loop) → c.loop-first2.c < (start c.before).args.n
 left c =
     let l = c.before in
     let s = start l in
-    column-left s.args.n s.args.starts.now s.args.values.now s.args.starts2.now s.args.values2.now s.args.out.now s.pre.0.0 s.pre.0.1 s.pre.1 l.loop-first2.invariant.3 l.loop-first2.invariant.0 (omega (arith, c.loop-first2-test.true, l.loop-first2.invariant.2))
+    column-left s.args.n s.args.starts.now s.args.values.now s.args.starts2.now s.args.values2.now s.args.out.now s.requires.0.0 s.requires.0.1 s.requires.1 l.loop-first2.invariant.3 l.loop-first2.invariant.0 (omega (arith, c.loop-first2-test.true, l.loop-first2.invariant.2))
 
 -- this iteration's column lies within the tables
 within : (c : tie.In-loop-first2 invariant-loop decreases-loop)
@@ -45,7 +45,7 @@ within : (c : tie.In-loop-first2 invariant-loop decreases-loop)
 within c =
     let l = c.before in
     let s = start l in
-    let i = inside s.args.n s.args.starts.now s.args.values.now s.args.starts2.now s.args.values2.now s.args.out.now s.pre.0.0 s.pre.0.1 s.pre.1 l.loop-first2.invariant.3 (left c) in
+    let i = inside s.args.n s.args.starts.now s.args.values.now s.args.starts2.now s.args.values2.now s.args.out.now s.requires.0.0 s.requires.0.1 s.requires.1 l.loop-first2.invariant.3 (left c) in
     (i.0, i.1, i.2, i.3, (fits l).4)
 
 mul-last : tie.Need-offset_bounds-starts2-count invariant-loop decreases-loop
@@ -66,10 +66,10 @@ add-end : tie.Need-overflow_add-end invariant-loop decreases-loop
 add-end c = omega (arith, left c)
 
 mul-end : tie.Need-offset_bounds-starts-c invariant-loop decreases-loop
-mul-end c = omega (arith, (start c.before).pre.0.0.0, left c)
+mul-end c = omega (arith, (start c.before).requires.0.0.0, left c)
 
 shared-slice-read-end : tie.Need-bounds-starts-c invariant-loop decreases-loop
-shared-slice-read-end c = omega (arith, (start c.before.before).pre.0.0.0, left c.before)
+shared-slice-read-end c = omega (arith, (start c.before.before).requires.0.0.0, left c.before)
 
 cast-end : tie.Need-overflow_cast-end invariant-loop decreases-loop
 cast-end c = omega (arith, c.shared_slice_known-in-loop-first2-1.given (c.loop-first2.c + 1))
@@ -78,10 +78,10 @@ add-end2 : tie.Need-overflow_add-end2 invariant-loop decreases-loop
 add-end2 c = omega (arith, left c.before)
 
 mul-end2 : tie.Need-offset_bounds-starts2-c invariant-loop decreases-loop
-mul-end2 c = omega (arith, (start c.before.before).pre.0.1.0, left c.before)
+mul-end2 c = omega (arith, (start c.before.before).requires.0.1.0, left c.before)
 
 shared-slice-read-end2 : tie.Need-bounds-starts2-c invariant-loop decreases-loop
-shared-slice-read-end2 c = omega (arith, (start c.before.before.before).pre.0.1.0, left c.before.before)
+shared-slice-read-end2 c = omega (arith, (start c.before.before.before).requires.0.1.0, left c.before.before)
 
 cast-end2 : tie.Need-overflow_cast-end2 invariant-loop decreases-loop
 cast-end2 c = omega (arith, c.shared_slice_known-in-loop-first2-2-1.given (c.loop-first2.c + 1))
@@ -106,15 +106,15 @@ loop-again c =
       omega (arith, left i),
       l.loop-first2.invariant.1,
       l.loop-first2.invariant.2,
-      stacking_more s.args.n s.args.starts.now s.args.values.now s.args.starts2.now s.args.values2.now s.args.out.now s.pre.0.0 s.pre.0.1 s.pre.1 l.loop-first2.invariant.3 (left i)
+      stacking_more s.args.n s.args.starts.now s.args.values.now s.args.starts2.now s.args.values2.now s.args.out.now s.requires.0.0 s.requires.0.1 s.requires.1 l.loop-first2.invariant.3 (left i)
           t.put_values.ensures,
     )
 
 mul-end-2 : tie.Need-offset_bounds-starts-count invariant-loop decreases-loop
-mul-end-2 c = omega (arith, (start c.before).pre.0.0.0, c.loop-first2.invariant.1)
+mul-end-2 c = omega (arith, (start c.before).requires.0.0.0, c.loop-first2.invariant.1)
 
 shared-slice-read-end-2 : tie.Need-bounds-starts-count invariant-loop decreases-loop
-shared-slice-read-end-2 c = omega (arith, (start c.before.before).pre.0.0.0, c.loop-first2.invariant.1)
+shared-slice-read-end-2 c = omega (arith, (start c.before.before).requires.0.0.0, c.loop-first2.invariant.1)
 
 cast-end-2 : tie.Need-overflow_cast-end-2 invariant-loop decreases-loop
 cast-end-2 c = omega (arith, c.shared_slice_known-6-1.given (start c.before.before).args.n)
@@ -130,7 +130,7 @@ same_length c =
     let e = t.before.before.before in
     let l = e.before in
     let s = start l in
-    (stacking_done s.args.n s.args.starts.now s.args.values.now s.args.starts2.now s.args.values2.now s.args.out.now s.pre.0.0 s.pre.0.1 s.pre.1 l.loop-first2.invariant.3 l.loop-first2.invariant.0 (get_or s.args.starts2.now s.args.n 0) refl (omega (arith, e.loop-first2-test.false, l.loop-first2.invariant.2))
+    (stacking_done s.args.n s.args.starts.now s.args.values.now s.args.starts2.now s.args.values2.now s.args.out.now s.requires.0.0 s.requires.0.1 s.requires.1 l.loop-first2.invariant.3 l.loop-first2.invariant.0 (get_or s.args.starts2.now s.args.n 0) refl (omega (arith, e.loop-first2-test.false, l.loop-first2.invariant.2))
     t.put_values-2.ensures).1
 
 returns : tie.Need-returns invariant-loop decreases-loop
@@ -139,7 +139,7 @@ returns c =
     let e = t.before.before.before in
     let l = e.before in
     let s = start l in
-    (stacking_done s.args.n s.args.starts.now s.args.values.now s.args.starts2.now s.args.values2.now s.args.out.now s.pre.0.0 s.pre.0.1 s.pre.1 l.loop-first2.invariant.3 l.loop-first2.invariant.0 (get_or s.args.starts2.now s.args.n 0) refl (omega (arith, e.loop-first2-test.false, l.loop-first2.invariant.2))
+    (stacking_done s.args.n s.args.starts.now s.args.values.now s.args.starts2.now s.args.values2.now s.args.out.now s.requires.0.0 s.requires.0.1 s.requires.1 l.loop-first2.invariant.3 l.loop-first2.invariant.0 (get_or s.args.starts2.now s.args.n 0) refl (omega (arith, e.loop-first2-test.false, l.loop-first2.invariant.2))
     t.put_values-2.ensures).0
 
 pub stack_values_spec : {M : Type 1} → statement M

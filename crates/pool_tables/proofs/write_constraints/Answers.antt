@@ -21,5 +21,5 @@ returns c =
       a_starts = c.stack_starts.ensures;
       a_rows = c.stack_rows.ensures;
       a_values = c.stack_values.ensures;
-      c = c.append_values.ensures;
+      b = c.append_values.ensures;
     }

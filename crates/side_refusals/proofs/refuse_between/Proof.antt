@@ -167,7 +167,7 @@ check-limits-rooms-requires : tie.Need-check_limits_rooms-short-requires
 check-limits-rooms-requires c κs =
     let n = c.before.before in
     let s = start n.before.before.before.before.before.before.before.before in
-    (subst (λ (ks : List ℕ). 8 ≤ length ks) (sym (needed n)) (lit≤ tt), s.pre)
+    (subst (λ (ks : List ℕ). 8 ≤ length ks) (sym (needed n)) (lit≤ tt), s.requires)
 
 returns-3 : tie.Need-returns
 returns-3 c =

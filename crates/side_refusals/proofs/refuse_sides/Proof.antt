@@ -43,7 +43,7 @@ abbrev start : tie.After-count_problem-d → tie.Start
 start c = c.before.before.before.before.before.before.before.before.before.before.before.before.before.before
 
 first-number : (c : tie.After-count_problem-d) → c.count_problem-d.result.refusal ≡ problem_refusal (single (start c))
-first-number c = let s = start c in c.count_problem-d.ensures.0 ∙ ap (λ (b : List Float). problem_refusal (with_this s b)) s.pre.2
+first-number c = let s = start c in c.count_problem-d.ensures.0 ∙ ap (λ (b : List Float). problem_refusal (with_this s b)) s.requires.2
 
 -- the number of checks 1 to 7
 ordered : (c : tie.After-refuse_lengths-t)
@@ -89,7 +89,7 @@ answered f =
     let g = counts e in
     f.refuse_first-u.ensures
     ∙ ap₂ or_else
-    (ap (λ (t : Bool). cond t 0 9) (v.sides_right-c.ensures.0 ∙ ap (λ (b : List Float). entries_right a.m a.a_rows.now b (layout p)) s.pre.2))
+    (ap (λ (t : Bool). cond t 0 9) (v.sides_right-c.ensures.0 ∙ ap (λ (b : List Float). entries_right a.m a.a_rows.now b (layout p)) s.requires.2))
     (r.rows_refusal-rows_refused.ensures ∙ counted_rows compact a.m (layout p) d.rows d.overlaps (g.0, g.1))
     ∙ nine_ten (check9 compact p) (check10 compact a.m (layout p))
 
@@ -98,7 +98,7 @@ ok : (c : tie.Else-u-ne0) → refusal compact (single (start c.before.before.bef
 ok c =
     let e = c.before.before.before.before in
     let s = start e.before.before in
-    accepted-first (given s) s.args.count s.args.sides.now s.pre.0 s.pre.1 (passed e) c.refuse_first-u.result (answered c.before) c.if-u-ne0.false
+    accepted-first (given s) s.args.count s.args.sides.now s.requires.0 s.requires.1 (passed e) c.refuse_first-u.result (answered c.before) c.if-u-ne0.false
 
 fit : (k : tie.Else-u-ne0)
     → let s = start k.before.before.before.before.before.before in
@@ -136,7 +136,7 @@ returns c =
     let s = start k.before in
     let a = s.args in (
       c.IsRefused-as.ensures
-          ∙ stopped_early (given s) a.count a.sides.now s.pre.0 s.pre.1 a.rooms.now k.refuse_lengths-t.result (ordered k) c.if-t-ne0.true,
+          ∙ stopped_early (given s) a.count a.sides.now s.requires.0 s.requires.1 a.rooms.now k.refuse_lengths-t.result (ordered k) c.if-t-ne0.true,
       λ z. absurd (c.if-t-ne0.true (sym c.IsRefused-as.ensures ∙ z)),
     )
 
@@ -145,7 +145,7 @@ sides-right-requires c κs =
     let s = start c.before.before in
     let p = single s in
     let w = checked c in
-    (w.sound, (rows-below p w, ap length s.pre.2 ∙ w.length_b, omega (arith, (both c).1)))
+    (w.sound, (rows-below p w, ap length s.requires.2 ∙ w.length_b, omega (arith, (both c).1)))
 
 rows-refusal-requires : tie.Need-rows_refusal-rows_refused-requires
 rows-refusal-requires c κs = tt
@@ -163,7 +163,7 @@ returns-2 c =
     let s = start e.before.before in
     let a = s.args in (
       c.refused_as-then-u-ne0.ensures
-          ∙ stopped_late (given s) a.count a.sides.now s.pre.0 s.pre.1 (passed e) a.rooms.now f.refuse_first-u.result (answered f) c.if-u-ne0.true,
+          ∙ stopped_late (given s) a.count a.sides.now s.requires.0 s.requires.1 (passed e) a.rooms.now f.refuse_first-u.result (answered f) c.if-u-ne0.true,
       λ z. absurd (c.if-u-ne0.true (sym c.refused_as-then-u-ne0.ensures ∙ z)),
     )
 
@@ -186,7 +186,7 @@ check-sides-rooms-requires c κs =
     let s = start k.before.before.before.before.before.before in
     let d = k.count_problem-d.result in (
       subst (λ (ks : List ℕ). 8 ≤ length ks) (sym (needed n)) (lit≤ tt),
-      subst (λ (rows : ℕ). s.args.count * rows < 4294967296) (sym (ap (λ (ks : List ℕ). get_or ks 7 0) n.cut_needs.ensures)) (sides_few s.args.m s.args.count d.rows d.overlaps s.pre.1 (fit k).2),
+      subst (λ (rows : ℕ). s.args.count * rows < 4294967296) (sym (ap (λ (ks : List ℕ). get_or ks 7 0) n.cut_needs.ensures)) (sides_few s.args.m s.args.count d.rows d.overlaps s.requires.1 (fit k).2),
     )
 
 refuse-further-requires : tie.Need-refuse_further-further-requires
@@ -205,7 +205,7 @@ returns-3 c =
           ∙ ap₂ or_else
           (ap (λ (t : Bool). cond t 0 9) (v.sides_right-c.ensures.1 ∙ further_covers (given s) a.count a.sides.now))
           r.check_sides_rooms-room.ensures
-          ∙ by-others (given s) a.count a.sides.now s.pre.0 s.pre.1 (passed e) k.refuse_first-u.result (answered k.before) k.if-u-ne0.false n.cut_needs.new.out a.rooms.now (needed n),
+          ∙ by-others (given s) a.count a.sides.now s.requires.0 s.requires.1 (passed e) k.refuse_first-u.result (answered k.before) k.if-u-ne0.false n.cut_needs.new.out a.rooms.now (needed n),
       λ _. ((counts e).0, (counts e).1),
     )
 
