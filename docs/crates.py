@@ -166,7 +166,7 @@ def read_source(file):
 def listed():
     """Returns the crates of crates.txt, in its order."""
     lines = (ROOT / "crates.txt").read_text().splitlines()
-    return [line.split(":")[0] for line in lines if ":" in line and not line.startswith("#")]
+    return [line.split(":")[0].split()[0] for line in lines if ":" in line and not line.startswith("#")]
 
 
 def read_all():
