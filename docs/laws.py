@@ -6,7 +6,7 @@ TOKEN = re.compile(r"[(){},;]|[^\s(){},;]+")
 INDEX_HEAD = """# Laws
 
 Every public law of the crates, file by file: its comment, and the first line of its statement, with `…` where the statement goes on. What stands
-under `given` has these parameters too. That a function meets its contract (proofs/FUNCTION/Proof.antt) is not listed: the contract stands above the
+under `given` has these parameters too. That a function meets its contract (the folder proofs/FUNCTION) is not listed: the contract stands above the
 function. Written by `docs/check.py --write`.
 """
 
@@ -111,7 +111,7 @@ def repeated(files):
     for file in files:
         own = {item.name for item in file.items}
         for law in file.items:
-            if file.part == "proofs" and law.kind == "law" and not re.search(r"\btie\.|\bstatement\b", law.statement):
+            if file.part == "proofs" and law.kind == "law" and not re.search(r"\b(tie|goal)\.|\bstatement\b", law.statement):
                 groups.setdefault(plain(law, own), []).append(law)
     return [laws for laws in groups.values() if len(laws) > 1]
 
@@ -156,12 +156,12 @@ def uncited(files, documents):
 
 MARKS = re.compile(r"(?:abbrev |unfoldable |pub )*")
 OPENED = re.compile(r"(?:unfoldable |pub |ghost )*use ([^\s{};]+?)(?:\.\{([^}]*)\}| as \S+?)?;?$")
-PATH = re.compile(r"Rattle·[^\s(){},;]+")
+PATH = re.compile(r"Rattle\.[^\s(){},;]+")
 
 
 def plain_path(path):
     """Returns a path with its crate first, as docs/crates.py has it."""
-    return re.sub(r"^Rattle·(\w+)(·\w+)?\.", r"\1.", path)
+    return path.removeprefix("Rattle.")
 
 
 def home_of(file):
@@ -217,7 +217,7 @@ def only_at_home(files, told):
         own.update((item.name, own[item.owner]) for item in file.items if item.kind == "case")
         public = [item for item in file.items if item.public and not item.owner]
         seen = [item for item in public if item.name in used[home_of(file)] or id(item) in told
-                or file.is_function and re.search(r"\bstatement\b", item.statement)]
+                or file.is_function and re.search(r"\bstatement\b|\bgoal\.", item.statement)]
         kept, done = {item.name for item in seen}, set()
         while seen:
             item = seen.pop()
