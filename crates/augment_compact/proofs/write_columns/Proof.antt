@@ -17,13 +17,13 @@ use Rattle.augment_compact.specs.Groups.{RowsGrow, ValuesGrow}
 use Rattle.augment_compact.proofs.write_columns.Statement.{statement}
 use Rattle.augment_compact.proofs.write_columns.Tie as tie
 
-abbrev invariant-loop : tie.invariant-loop
+abbrev invariant-loop : tie.invariant-loop-c
 invariant-loop rows-out₀ values-out₀ codes₀ chunks₀ place n starts rows values run-starts count c₀ rows_out values-out codes chunks c =
     (c ≤ n) × (codes ≡ codes₀) × (chunks ≡ chunks₀)
     × (rows_out ≡ written (csc (coded_columns c (sums n (matrix starts rows values)) codes₀)).rows rows-out₀)
     × (values-out ≡ written (csc (coded_columns c (sums n (matrix starts rows values)) codes₀)).values values-out₀)
 
-abbrev decreases-loop : tie.decreases-loop
+abbrev decreases-loop : tie.decreases-loop-c
 decreases-loop rows-out₀ values-out₀ codes₀ chunks₀ place n starts rows values run-starts count c₀ rows_out values-out codes chunks c =
     count - c
 
@@ -34,64 +34,64 @@ right : (s : tie.Start invariant-loop decreases-loop) → RightStarts s.args.n (
 right s = starts-right s.args.n (M s) s.requires.0.0
 
 -- the outputs keep their lengths
-rows-length : (l : tie.At-loop invariant-loop decreases-loop) → let s = l.before.before.before.before.before.before.before.before.before.before in length l.loop.rows_out ≡ length s.args.rows_out.now
+rows-length : (l : tie.At-loop-c invariant-loop decreases-loop) → let s = l.before.before.before.before.before.before.before.before.before.before in length l.loop-c.rows_out ≡ length s.args.rows_out.now
 rows-length l =
     let s = l.before.before.before.before.before.before.before.before.before.before in
     let a = s.args in
-    let room = columns_room a.n (M s) a.codes.now a.place.now (right s) s.requires.0.1 s.requires.1.0.0 (λ (e : Entry). e.row) l.loop.c l.loop.invariant.0 in
-    ap length l.loop.invariant.3 ∙ length-written (csc (coded_columns l.loop.c (sums a.n (M s)) a.codes.now)).rows a.rows_out.now (omega (arith, room, s.requires.1.1.0))
+    let room = columns_room a.n (M s) a.codes.now a.place.now (right s) s.requires.0.1 s.requires.1.0.0 (λ (e : Entry). e.row) l.loop-c.c l.loop-c.invariant.0 in
+    ap length l.loop-c.invariant.3 ∙ length-written (csc (coded_columns l.loop-c.c (sums a.n (M s)) a.codes.now)).rows a.rows_out.now (omega (arith, room, s.requires.1.1.0))
 
-values_length : (l : tie.At-loop invariant-loop decreases-loop) → let s = l.before.before.before.before.before.before.before.before.before.before in length l.loop.values-out ≡ length s.args.values-out.now
+values_length : (l : tie.At-loop-c invariant-loop decreases-loop) → let s = l.before.before.before.before.before.before.before.before.before.before in length l.loop-c.values_out ≡ length s.args.values_out.now
 values_length l =
     let s = l.before.before.before.before.before.before.before.before.before.before in
     let a = s.args in
-    let room = columns_room a.n (M s) a.codes.now a.place.now (right s) s.requires.0.1 s.requires.1.0.0 (λ (e : Entry). e.value) l.loop.c l.loop.invariant.0 in
-    ap length l.loop.invariant.4 ∙ length-written (csc (coded_columns l.loop.c (sums a.n (M s)) a.codes.now)).values a.values-out.now (omega (arith, room, s.requires.1.1.1))
+    let room = columns_room a.n (M s) a.codes.now a.place.now (right s) s.requires.0.1 s.requires.1.0.0 (λ (e : Entry). e.value) l.loop-c.c l.loop-c.invariant.0 in
+    ap length l.loop-c.invariant.4 ∙ length-written (csc (coded_columns l.loop-c.c (sums a.n (M s)) a.codes.now)).values a.values_out.now (omega (arith, room, s.requires.1.1.1))
 
-loop-holds : tie.Need-loop-init invariant-loop decreases-loop
+loop-holds : tie.Need-loop-c-init invariant-loop decreases-loop
 loop-holds c = search rules
 
-write-group-requires : tie.Need-write-group-requires invariant-loop decreases-loop
+write-group-requires : tie.Need-write_group-c-requires invariant-loop decreases-loop
 write-group-requires c κs =
     let l = c.before.before.before.before.before in
     let s = l.before.before.before.before.before.before.before.before.before.before in (
       s.requires.0,
       (
-        (rw l.loop.invariant.1 s.requires.1.0.0, rw (l.loop.invariant.1, l.loop.invariant.2) s.requires.1.0.1, omega arith),
+        (rw l.loop-c.invariant.1 s.requires.1.0.0, rw (l.loop-c.invariant.1, l.loop-c.invariant.2) s.requires.1.0.1, omega arith),
         (omega (arith, rows-length l, s.requires.1.1.0), omega (arith, values_length l, s.requires.1.1.1)),
       ),
     )
 
-loop-less : tie.Need-loop-smaller invariant-loop decreases-loop
-loop-less c = let f = c.before.before.before.before.before.before.before.before in omega (arith, f.write-group.ensures.0)
+loop-less : tie.Need-loop-c-smaller invariant-loop decreases-loop
+loop-less c = let f = c.before.before.before.before.before.before.before.before in omega (arith, f.write_group-c.ensures.0)
 
-loop-again : tie.Need-loop-preserved invariant-loop decreases-loop
+loop-again : tie.Need-loop-c-preserved invariant-loop decreases-loop
 loop-again c =
     let f = c.before.before.before.before.before.before.before.before in
     let l = f.before.before.before.before.before.before in
     let s = l.before.before.before.before.before.before.before.before.before.before in
     let a = s.args in
-    let d = f.write-group.result in
-    let same = l.loop.invariant.1 in
-    let done = f.write-group.ensures in (
+    let d = f.write_group-c.result in
+    let same = l.loop-c.invariant.1 in
+    let done = f.write_group-c.ensures in (
       done.0.1,
       done.1.1.1.0 ∙ same,
-      done.1.1.1.1 ∙ l.loop.invariant.2,
-      subst (λ (codes : List ℕ). RowsGrow a.n (M s) codes l.loop.c d l.loop.rows_out f.write-group.new.0) same done.1.0 a.rows_out.now l.loop.invariant.3,
-      subst (λ (codes : List ℕ). ValuesGrow a.n (M s) codes l.loop.c d l.loop.values-out f.write-group.new.1.0) same done.1.1.0 a.values-out.now l.loop.invariant.4,
+      done.1.1.1.1 ∙ l.loop-c.invariant.2,
+      subst (λ (codes : List ℕ). RowsGrow a.n (M s) codes l.loop-c.c d l.loop-c.rows_out f.write_group-c.new.rows_out) same done.1.0 a.rows_out.now l.loop-c.invariant.3,
+      subst (λ (codes : List ℕ). ValuesGrow a.n (M s) codes l.loop-c.c d l.loop-c.values_out f.write_group-c.new.values_out) same done.1.1.0 a.values_out.now l.loop-c.invariant.4,
     )
 
-same_length : tie.Need-same-length invariant-loop decreases-loop
+same_length : tie.Need-shape_of-rows_out invariant-loop decreases-loop
 same_length c = rows-length c.before
 
-same-length-2 : tie.Need-same-length-2 invariant-loop decreases-loop
+same-length-2 : tie.Need-shape_of-values_out invariant-loop decreases-loop
 same-length-2 c = values_length c.before
 
-same-length-3 : tie.Need-same-length-3 invariant-loop decreases-loop
-same-length-3 c = ap length c.before.loop.invariant.1
+same-length-3 : tie.Need-shape_of-codes invariant-loop decreases-loop
+same-length-3 c = ap length c.loop-c.invariant.1
 
-same-length-4 : tie.Need-same-length-4 invariant-loop decreases-loop
-same-length-4 c = ap length c.before.loop.invariant.2
+same-length-4 : tie.Need-shape_of-chunks invariant-loop decreases-loop
+same-length-4 c = ap length c.loop-c.invariant.2
 
 returns : tie.Need-returns invariant-loop decreases-loop
 returns c =
@@ -99,9 +99,9 @@ returns c =
     let s = l.before.before.before.before.before.before.before.before.before.before in
     let A = sums s.args.n (M s) in
     let codes = s.args.codes.now in
-    let e : l.loop.c ≡ s.args.n = omega (arith, c.loop-test.false, l.loop.invariant.0) in (
-      l.loop.invariant.3 ∙ ap (λ (k : ℕ). written (csc (coded_columns k A codes)).rows s.args.rows_out.now) e,
-      (l.loop.invariant.4 ∙ ap (λ (k : ℕ). written (csc (coded_columns k A codes)).values s.args.values-out.now) e, (l.loop.invariant.1, l.loop.invariant.2)),
+    let e : l.loop-c.c ≡ s.args.n = omega (arith, c.loop-c-test.false, l.loop-c.invariant.0) in (
+      l.loop-c.invariant.3 ∙ ap (λ (k : ℕ). written (csc (coded_columns k A codes)).rows s.args.rows_out.now) e,
+      (l.loop-c.invariant.4 ∙ ap (λ (k : ℕ). written (csc (coded_columns k A codes)).values s.args.values_out.now) e, (l.loop-c.invariant.1, l.loop-c.invariant.2)),
     )
 
 pub write_columns_spec : {M : Type 1} → statement M

@@ -46,73 +46,73 @@ module _ (s : tie.Start) where
   four : Put from vs to old 4 with_four
   four = put_one from vs to old 3 (from + 3) (to + 3) with_three (omega arith) (omega arith) (omega arith) (omega arith) three
 
-mul-first : tie.Need-overflow-mul-first
+mul-first : tie.Need-offset_bounds-values-from
 mul-first c = search rules
 
-shared-slice-read-first : tie.Need-shared-slice-read-first
+shared-slice-read-first : tie.Need-bounds-values-from
 shared-slice-read-first c = search rules
 
-add-second : tie.Need-overflow-add-second
+add-second : tie.Need-overflow_add-second
 add-second c = search rules
 
-mul-second : tie.Need-overflow-mul-second
+mul-second : tie.Need-offset_bounds-values-from-2
 mul-second c = search rules
 
-shared-slice-read-second : tie.Need-shared-slice-read-second
+shared-slice-read-second : tie.Need-bounds-values-from-2
 shared-slice-read-second c = search rules
 
-add-third : tie.Need-overflow-add-third
+add-third : tie.Need-overflow_add-third
 add-third c = search rules
 
-mul-third : tie.Need-overflow-mul-third
+mul-third : tie.Need-offset_bounds-values-from-3
 mul-third c = search rules
 
-shared-slice-read-third : tie.Need-shared-slice-read-third
+shared-slice-read-third : tie.Need-bounds-values-from-3
 shared-slice-read-third c = search rules
 
-add-fourth : tie.Need-overflow-add-fourth
+add-fourth : tie.Need-overflow_add-fourth
 add-fourth c = search rules
 
-mul-fourth : tie.Need-overflow-mul-fourth
+mul-fourth : tie.Need-offset_bounds-values-from-4
 mul-fourth c = search rules
 
-shared-slice-read-fourth : tie.Need-shared-slice-read-fourth
+shared-slice-read-fourth : tie.Need-bounds-values-from-4
 shared-slice-read-fourth c = search rules
 
-mul-out : tie.Need-overflow-mul-out
+mul-out : tie.Need-offset_bounds-out-to
 mul-out c = search rules
 
-slice-write-out : tie.Need-slice-write-out
+slice-write-out : tie.Need-bounds-out-to
 slice-write-out c = search rules
 
-add-out : tie.Need-overflow-add-out
+add-out : tie.Need-overflow_add-out
 add-out c = search rules
 
-mul-out-2 : tie.Need-overflow-mul-out-2
+mul-out-2 : tie.Need-offset_bounds-out-to-2
 mul-out-2 c = search rules
 
-slice-write-out-2 : tie.Need-slice-write-out-2
+slice-write-out-2 : tie.Need-bounds-out-to-2
 slice-write-out-2 c = omega (arith, (one c.before.before.before.before).0)
 
-add-out-2 : tie.Need-overflow-add-out-2
+add-out-2 : tie.Need-overflow_add-out-2
 add-out-2 c = search rules
 
-mul-out-3 : tie.Need-overflow-mul-out-3
+mul-out-3 : tie.Need-offset_bounds-out-to-3
 mul-out-3 c = search rules
 
-slice-write-out-3 : tie.Need-slice-write-out-3
+slice-write-out-3 : tie.Need-bounds-out-to-3
 slice-write-out-3 c = omega (arith, (two c.before.before.before.before).0)
 
-add-out-3 : tie.Need-overflow-add-out-3
+add-out-3 : tie.Need-overflow_add-out-3
 add-out-3 c = search rules
 
-mul-out-4 : tie.Need-overflow-mul-out-4
+mul-out-4 : tie.Need-offset_bounds-out-to-4
 mul-out-4 c = search rules
 
-slice-write-out-4 : tie.Need-slice-write-out-4
+slice-write-out-4 : tie.Need-bounds-out-to-4
 slice-write-out-4 c = omega (arith, (three c.before.before.before.before).0)
 
-same_length : tie.Need-same-length
+same_length : tie.Need-shape_of-out
 same_length c = search rules
 
 returns : tie.Need-returns

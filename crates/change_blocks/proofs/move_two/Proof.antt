@@ -34,37 +34,37 @@ module _ (s : tie.Start) where
   two : Put from vs to old 2 with_two
   two = put_one from vs to old 1 (from + 1) (to + 1) with_one (omega arith) (omega arith) (omega arith) (omega arith) one
 
-mul-first : tie.Need-overflow-mul-first
+mul-first : tie.Need-offset_bounds-values-from
 mul-first c = search rules
 
-shared-slice-read-first : tie.Need-shared-slice-read-first
+shared-slice-read-first : tie.Need-bounds-values-from
 shared-slice-read-first c = search rules
 
-add-second : tie.Need-overflow-add-second
+add-second : tie.Need-overflow_add-second
 add-second c = search rules
 
-mul-second : tie.Need-overflow-mul-second
+mul-second : tie.Need-offset_bounds-values-from-2
 mul-second c = search rules
 
-shared-slice-read-second : tie.Need-shared-slice-read-second
+shared-slice-read-second : tie.Need-bounds-values-from-2
 shared-slice-read-second c = search rules
 
-mul-out : tie.Need-overflow-mul-out
+mul-out : tie.Need-offset_bounds-out-to
 mul-out c = search rules
 
-slice-write-out : tie.Need-slice-write-out
+slice-write-out : tie.Need-bounds-out-to
 slice-write-out c = search rules
 
-add-out : tie.Need-overflow-add-out
+add-out : tie.Need-overflow_add-out
 add-out c = search rules
 
-mul-out-2 : tie.Need-overflow-mul-out-2
+mul-out-2 : tie.Need-offset_bounds-out-to-2
 mul-out-2 c = search rules
 
-slice-write-out-2 : tie.Need-slice-write-out-2
+slice-write-out-2 : tie.Need-bounds-out-to-2
 slice-write-out-2 c = omega (arith, (one c.before.before).0)
 
-same_length : tie.Need-same-length
+same_length : tie.Need-shape_of-out
 same_length c = search rules
 
 returns : tie.Need-returns

@@ -16,7 +16,7 @@ use Rattle.change_route.proofs.Order.{columns_few, refused_early, refused_late, 
 use Rattle.change_route.proofs.change_route.Statement.{statement}
 use Rattle.change_route.proofs.change_route.Tie as tie
 
-abbrev start : tie.After-check-joined → tie.Start
+abbrev start : tie.After-check_joined-c → tie.Start
 start k = k.before.before.before.before.before.before.before.before.before.before
 
 module _ (s : tie.Start) where
@@ -24,109 +24,108 @@ module _ (s : tie.Start) where
   given = let a = s.args in solution a.x.now a.s.now a.z.now a.tau a.kappa
 
   abbrev rooms : List ℕ
-  rooms = let a = s.args in length a.x-out.now ∷ length a.s-out.now ∷ length a.z-out.now ∷ length a.scalars-out.now ∷ []
+  rooms = let a = s.args in length a.x_out.now ∷ length a.s_out.now ∷ length a.z_out.now ∷ length a.scalars_out.now ∷ []
 
   abbrev number : ℕ
   number = let a = s.args in change_refusal a.n a.m a.cones.now a.count a.words.now given rooms
-
 -- checks 1 to 7 refuse nothing
-module _ (e : tie.Else1) where
-  abbrev checked : tie.After-check-joined
+module _ (e : tie.Else-c-ne0) where
+  abbrev checked : tie.After-check_joined-c
   checked = e.before.before
 
   none_early : let a = (start checked).args in joined_refusal a.n a.m a.cones.now a.count a.words.now ≡ 0
-  none_early = sym checked.check-joined.ensures.0 ∙ e.if1.left
+  none_early = sym checked.check_joined-c.ensures.0 ∙ e.if-c-ne0.left
 
   counted : let a = (start checked).args in
-      Counted (joined_parts a.cones.now a.count a.words.now) checked.check-joined.result.rows checked.check-joined.result.overlaps
-  counted = let g = checked.check-joined.ensures.1 e.if1.left in (g.0, g.1)
+      Counted (joined_parts a.cones.now a.count a.words.now) checked.check_joined-c.result.rows checked.check_joined-c.result.overlaps
+  counted = let g = checked.check_joined-c.ensures.1 e.if-c-ne0.left in (g.0, g.1)
 
 -- the number that `refuse_counted` returned
-answered : (g : tie.After-refuse-counted) → g.refuse-counted.result ≡ number (start (checked g.before))
+answered : (g : tie.After-refuse_counted-r) → g.refuse_counted-r.result ≡ number (start (checked g.before))
 answered g =
     let e = g.before in
     let k = checked e in
     let s = start k in
     let a = s.args in
-    g.refuse-counted.ensures
-    ∙ refused_late a.n a.m a.cones.now a.count a.words.now (given s) (rooms s) k.check-joined.result.rows
-    k.check-joined.result.overlaps (counted e) (none_early e)
+    g.refuse_counted-r.ensures
+    ∙ refused_late a.n a.m a.cones.now a.count a.words.now (given s) (rooms s) k.check_joined-c.result.rows
+    k.check_joined-c.result.overlaps (counted e) (none_early e)
 
 -- nothing is refused
-module _ (f : tie.Else2) where
+module _ (f : tie.Else-r-ne0) where
   abbrev first : tie.Start
   first = start (checked f.before.before)
 
   none : number first ≡ 0
-  none = sym (answered f.before) ∙ f.if2.left
+  none = sym (answered f.before) ∙ f.if-r-ne0.left
 
   accepted : let a = first.args in
-      Accepted a.n a.m a.cones.now a.count a.words.now (given first) (length a.x-out.now) (length a.s-out.now)
-      (length a.z-out.now) (length a.scalars-out.now)
+      Accepted a.n a.m a.cones.now a.count a.words.now (given first) (length a.x_out.now) (length a.s_out.now)
+      (length a.z_out.now) (length a.scalars_out.now)
   accepted =
       let a = first.args in
-      change_accepted a.n a.m a.cones.now a.count a.words.now (given first) (length a.x-out.now) (length a.s-out.now)
-      (length a.z-out.now) (length a.scalars-out.now) none
+      change_accepted a.n a.m a.cones.now a.count a.words.now (given first) (length a.x_out.now) (length a.s_out.now)
+      (length a.z_out.now) (length a.scalars_out.now) none
 
-check-joined-requires : tie.Need-check-joined-requires
+check-joined-requires : tie.Need-check_joined-c-requires
 check-joined-requires c κs = tt
 
-returns : tie.Need-returns
+returns : tie.Need-returns-then-c-ne0
 returns c =
     let k = c.before.before in
     let s = start k in
     let a = s.args in
-    let r = k.check-joined.result.refusal in record {
-      number = refused_early a.n a.m a.cones.now a.count a.words.now (given s) (rooms s) r k.check-joined.ensures.0 c.if1.true;
-      tables = rejoined-kept r c.if1.true _ _;
+    let r = k.check_joined-c.result.refusal in record {
+      number = refused_early a.n a.m a.cones.now a.count a.words.now (given s) (rooms s) r k.check_joined-c.ensures.0 c.if-c-ne0.true;
+      tables = rejoined-kept r c.if-c-ne0.true _ _;
     }
 
-refuse-counted-requires : tie.Need-refuse-counted-requires
+refuse-counted-requires : tie.Need-refuse_counted-r-requires
 refuse-counted-requires c κs =
     let a = (start (checked c)).args in (
       columns_few a.n a.m a.cones.now a.count a.words.now (none_early c),
       omega (arith, overlaps-few (joined_parts a.cones.now a.count a.words.now), (counted c).0, (counted c).1),
     )
 
-returns-2 : tie.Need-returns-2
-returns-2 c = let g = c.before in record { number = answered g; tables = rejoined-kept g.refuse-counted.result c.if2.true _ _ }
+returns-2 : tie.Need-returns-then-r-ne0
+returns-2 c = let g = c.before in record { number = answered g; tables = rejoined-kept g.refuse_counted-r.result c.if-r-ne0.true _ _ }
 
-change-x-requires : tie.Need-change-x-requires
+change-x-requires : tie.Need-change_x-requires
 change-x-requires c κs =
     let f = c.before in
     let a = (first f).args in (
       (accepted f).columns,
-      subst (λ (k : ℕ). a.n + k ≤ length a.x-out.now) (sym (counted f.before.before).1) (accepted f).room_x,
+      subst (λ (k : ℕ). a.n + k ≤ length a.x_out.now) (sym (counted f.before.before).1) (accepted f).room_x,
     )
 
-change-slacks-requires : tie.Need-change-slacks-requires
+change-slacks-requires : tie.Need-change_slacks-requires
 change-slacks-requires c κs =
     let g = accepted c.before.before.before.before.before.before in
     (g.sound, ((g.slacks, g.duals), (g.room_s, g.room_z)))
 
 -- the states in which x is written, and in which s and z are written
-abbrev x-written : tie.After-change-slacks → tie.After-change-x
+abbrev x-written : tie.After-change_slacks → tie.After-change_x
 x-written c = c.before.before.before.before.before
 
-abbrev slacks-written : tie.After-write-scalars → tie.After-change-slacks
+abbrev slacks-written : tie.After-write_scalars → tie.After-change_slacks
 slacks-written c = c.before.before.before.before.before.before
 
-write-scalars-requires : tie.Need-write-scalars-requires
+write-scalars-requires : tie.Need-write_scalars-requires
 write-scalars-requires c κs = (accepted (x-written c.before.before.before.before.before).before.before).room_scalars
 
-same_length : tie.Need-same-length
-same_length c = (x-written (slacks-written c.before.before)).change-x.auto.1.1.1.0
+same_length : tie.Need-shape_of-x_out
+same_length c = (x-written (slacks-written c.before.before)).change_x.auto.out
 
-same-length-2 : tie.Need-same-length-2
-same-length-2 c = (slacks-written c.before.before).change-slacks.auto.1.1.1.1.1.1.0
+same-length-2 : tie.Need-shape_of-s_out
+same-length-2 c = (slacks-written c.before.before).change_slacks.auto.s_out
 
-same-length-3 : tie.Need-same-length-3
-same-length-3 c = (slacks-written c.before.before).change-slacks.auto.1.1.1.1.1.1.1.0
+same-length-3 : tie.Need-shape_of-z_out
+same-length-3 c = (slacks-written c.before.before).change_slacks.auto.z_out
 
-same-length-4 : tie.Need-same-length-4
-same-length-4 c = c.before.before.write-scalars.auto.1.0
+same-length-4 : tie.Need-shape_of-scalars_out
+same-length-4 c = c.write_scalars.auto.out
 
-returns-3 : tie.Need-returns-3
+returns-3 : tie.Need-returns
 returns-3 c =
     let w = c.before.before in
     let d = slacks-written w in
@@ -136,11 +135,11 @@ returns-3 c =
       number = sym (none f);
       tables = record {
         x =
-            x.change-x.ensures
-            ∙ ap (λ (k : ℕ). written (take a.n a.x.now ++ replicate k zero64) a.x-out.now) (counted f.before.before).1;
-        s = d.change-slacks.ensures.0;
-        z = d.change-slacks.ensures.1;
-        scalars = w.write-scalars.ensures;
+            x.change_x.ensures
+            ∙ ap (λ (k : ℕ). written (take a.n a.x.now ++ replicate k zero64) a.x_out.now) (counted f.before.before).1;
+        s = d.change_slacks.ensures.0;
+        z = d.change_slacks.ensures.1;
+        scalars = w.write_scalars.ensures;
       };
     }
 

@@ -18,143 +18,143 @@ use borrow.Author.Rules.{rules}
 use Rattle.check_covered.proofs.mark_covered.Statement.{statement}
 use Rattle.check_covered.proofs.mark_covered.Tie as tie
 
-abbrev invariant-loop : tie.invariant-loop
+abbrev invariant-loop : tie.invariant-loop-size
 invariant-loop m cones count words covered₀ place₀ covered place =
     Reached m cones words place × (length covered ≡ length covered₀)
     × (marked true (join part_originals (ahead cones words place)) covered ≡ marked true (covered_rows (parts (records cones) (patterns count words))) covered₀)
 
-abbrev decreases-loop : tie.decreases-loop
+abbrev decreases-loop : tie.decreases-loop-size
 decreases-loop m cones count words covered₀ place₀ covered place = length (ahead cones words place)
 
 -- the next cone is undecomposed
-whole_meets : (k : tie.After-met invariant-loop decreases-loop)
+whole_meets : (k : tie.In-Whole-2 invariant-loop decreases-loop)
     → let l = k.before.before.before in
-    let a = l.before.before.before.before.before.args in
-    ahead a.cones.now a.words.now l.loop.place
-    ≡ meets a.cones.now a.words.now l.loop.place (Whole k.met.given.0.0 k.met.given.0.1.0)
+    let a = l.args in
+    ahead a.cones.now a.words.now l.loop-size.place
+    ≡ meets a.cones.now a.words.now l.loop-size.place (Whole k.met-1.given.0.0 k.met-1.given.0.1.0)
 whole_meets k =
     let l = k.before.before.before in
-    let a = l.before.before.before.before.before.args in
-    k.before.before.next.ensures.0 ∙ ap (meets a.cones.now a.words.now l.loop.place) k.met.given.1
+    let a = l.args in
+    k.next-met.ensures.0 ∙ ap (meets a.cones.now a.words.now l.loop-size.place) k.met-1.given.1
 
-whole_knows : (k : tie.After-met invariant-loop decreases-loop)
+whole_knows : (k : tie.In-Whole-2 invariant-loop decreases-loop)
     → let l = k.before.before.before in
-    let a = l.before.before.before.before.before.args in
-    Knows a.m a.cones.now a.words.now l.loop.place (Whole k.met.given.0.0 k.met.given.0.1.0)
+    let a = l.args in
+    Knows a.m a.cones.now a.words.now l.loop-size.place (Whole k.met-1.given.0.0 k.met-1.given.0.1.0)
 whole_knows k =
     let l = k.before.before.before in
-    let a = l.before.before.before.before.before.args in
-    subst (Knows a.m a.cones.now a.words.now l.loop.place) k.met.given.1 k.before.before.next.ensures.1
+    let a = l.args in
+    subst (Knows a.m a.cones.now a.words.now l.loop-size.place) k.met-1.given.1 k.next-met.ensures.1
 
 -- the next cone is decomposed
-cut-meets : (k : tie.After-met2 invariant-loop decreases-loop)
+cut-meets : (k : tie.In-Cut-2 invariant-loop decreases-loop)
     → let l = k.before.before.before in
-    let a = l.before.before.before.before.before.args in
-    ahead a.cones.now a.words.now l.loop.place
-    ≡ meets a.cones.now a.words.now l.loop.place (Cut k.met2.given.0.0 k.met2.given.0.1.0)
+    let a = l.args in
+    ahead a.cones.now a.words.now l.loop-size.place
+    ≡ meets a.cones.now a.words.now l.loop-size.place (Cut k.met-in-Cut-1.given.0.0 k.met-in-Cut-1.given.0.1.0)
 cut-meets k =
     let l = k.before.before.before in
-    let a = l.before.before.before.before.before.args in
-    k.before.before.next.ensures.0 ∙ ap (meets a.cones.now a.words.now l.loop.place) k.met2.given.1
+    let a = l.args in
+    k.next-met.ensures.0 ∙ ap (meets a.cones.now a.words.now l.loop-size.place) k.met-in-Cut-1.given.1
 
-cut_knows : (k : tie.After-met2 invariant-loop decreases-loop)
+cut_knows : (k : tie.In-Cut-2 invariant-loop decreases-loop)
     → let l = k.before.before.before in
-    let a = l.before.before.before.before.before.args in
-    Knows a.m a.cones.now a.words.now l.loop.place (Cut k.met2.given.0.0 k.met2.given.0.1.0)
+    let a = l.args in
+    Knows a.m a.cones.now a.words.now l.loop-size.place (Cut k.met-in-Cut-1.given.0.0 k.met-in-Cut-1.given.0.1.0)
 cut_knows k =
     let l = k.before.before.before in
-    let a = l.before.before.before.before.before.args in
-    subst (Knows a.m a.cones.now a.words.now l.loop.place) k.met2.given.1 k.before.before.next.ensures.1
+    let a = l.args in
+    subst (Knows a.m a.cones.now a.words.now l.loop-size.place) k.met-in-Cut-1.given.1 k.next-met.ensures.1
 
-start-requires : tie.Need-start-requires invariant-loop decreases-loop
+start-requires : tie.Need-start-place-requires invariant-loop decreases-loop
 start-requires c κs = search rules
 
-loop-holds : tie.Need-loop-init invariant-loop decreases-loop
+loop-holds : tie.Need-loop-size-init invariant-loop decreases-loop
 loop-holds c =
     let s = c.before.before.before.before in
     let a = s.args in (
-      c.start.ensures.1,
+      c.start-place.ensures.1,
       refl,
-      ap (λ (ps : List Part). marked true (join part_originals ps) a.covered.now) c.start.ensures.0
+      ap (λ (ps : List Part). marked true (join part_originals ps) a.covered.now) c.start-place.ensures.0
           ∙ ap (λ (os : List ℕ). marked true os a.covered.now) (sym (covered_parts s.requires.0)),
     )
 
-next-requires : tie.Need-next-requires invariant-loop decreases-loop
-next-requires c κs = c.loop.invariant.0
+next-requires : tie.Need-next-met-requires invariant-loop decreases-loop
+next-requires c κs = c.loop-size.invariant.0
 
-enum-known-met : tie.Need-enum-known-met invariant-loop decreases-loop
+enum-known-met : tie.Need-enum_known-met invariant-loop decreases-loop
 enum-known-met c = search rules
 
-mark-range-requires : tie.Need-mark-range-requires invariant-loop decreases-loop
+mark-range-requires : tie.Need-mark_range-requires invariant-loop decreases-loop
 mark-range-requires c κs =
     let k = c.before.before in
     let l = k.before.before.before in
     let s = l.before.before.before.before.before in
-    omega (arith, (whole_knows k).1, l.loop.invariant.0.few, l.loop.invariant.1, s.requires.1)
+    omega (arith, (whole_knows k).1, l.loop-size.invariant.0.few, l.loop-size.invariant.1, s.requires.1)
 
-loop-less : tie.Need-loop-smaller invariant-loop decreases-loop
+loop-less : tie.Need-loop-size-smaller-in-Whole invariant-loop decreases-loop
 loop-less c = omega (arith, ap length (whole_meets c.before.before.before.before.before))
 
-loop-again : tie.Need-loop-preserved invariant-loop decreases-loop
+loop-again : tie.Need-loop-size-preserved-in-Whole invariant-loop decreases-loop
 loop-again c =
     let r = c.before.before in
     let k = r.before.before.before in
     let l = k.before.before.before in
-    let cones = l.before.before.before.before.before.args.cones.now in
-    let words = l.before.before.before.before.before.args.words.now in
-    let at = l.loop.place in (
+    let cones = l.args.cones.now in
+    let words = l.args.words.now in
+    let at = l.loop-size.place in (
       (whole_knows k).5,
-      r.mark-range.auto.1.1.0 ∙ l.loop.invariant.1,
-      ap (marked true (join part_originals (ahead cones words k.met.given.0.1.0))) r.mark-range.ensures
+      r.mark_range.auto.covered ∙ l.loop-size.invariant.1,
+      ap (marked true (join part_originals (ahead cones words k.met-1.given.0.1.0))) r.mark_range.ensures
           ∙ part_step (whole at.cone (get_or (records cones) at.cone no_cone) at.row) (ahead cones words at)
-          (ahead cones words k.met.given.0.1.0) (up_from at.row k.met.given.0.0) l.loop.covered (whole_meets k)
+          (ahead cones words k.met-1.given.0.1.0) (up_from at.row k.met-1.given.0.0) l.loop-size.covered (whole_meets k)
           (ap (up_from at.row) (whole_knows k).0)
-          ∙ l.loop.invariant.2,
+          ∙ l.loop-size.invariant.2,
     )
 
-enum-known-met-2 : tie.Need-enum-known-met-2 invariant-loop decreases-loop
+enum-known-met-2 : tie.Need-enum_known-met-in-Cut-1 invariant-loop decreases-loop
 enum-known-met-2 c = search rules
 
-mark-pattern-requires : tie.Need-mark-pattern-requires invariant-loop decreases-loop
+mark-pattern-requires : tie.Need-mark_pattern-requires invariant-loop decreases-loop
 mark-pattern-requires c κs =
     let k = c.before.before in
     let l = k.before.before.before in
     let s = l.before.before.before.before.before in
-    (((cut_knows k).1, (cut_knows k).2), omega (arith, (cut_knows k).3, l.loop.invariant.0.few, l.loop.invariant.1, s.requires.1))
+    (((cut_knows k).1, (cut_knows k).2), omega (arith, (cut_knows k).3, l.loop-size.invariant.0.few, l.loop-size.invariant.1, s.requires.1))
 
-loop-less-2 : tie.Need-loop-smaller-2 invariant-loop decreases-loop
+loop-less-2 : tie.Need-loop-size-smaller invariant-loop decreases-loop
 loop-less-2 c = omega (arith, ap length (cut-meets c.before.before.before.before.before))
 
-loop-again-2 : tie.Need-loop-preserved-2 invariant-loop decreases-loop
+loop-again-2 : tie.Need-loop-size-preserved invariant-loop decreases-loop
 loop-again-2 c =
     let r = c.before.before in
     let k = r.before.before.before in
     let l = k.before.before.before in
-    let cones = l.before.before.before.before.before.args.cones.now in
-    let words = l.before.before.before.before.before.args.words.now in
-    let at = l.loop.place in
-    let p = pattern_at words k.met2.given.0.0 in (
+    let cones = l.args.cones.now in
+    let words = l.args.words.now in
+    let at = l.loop-size.place in
+    let p = pattern_at words k.met-in-Cut-1.given.0.0 in (
       (cut_knows k).6,
-      r.mark-pattern.auto.1.1.1.0 ∙ l.loop.invariant.1,
-      ap (marked true (join part_originals (ahead cones words k.met2.given.0.1.0))) (r.mark-pattern.ensures 0)
+      r.mark_pattern.auto.covered ∙ l.loop-size.invariant.1,
+      ap (marked true (join part_originals (ahead cones words k.met-in-Cut-1.given.0.1.0))) (r.mark_pattern.ensures 0)
           ∙ part_step (cut at.cone at.row at.pattern p) (ahead cones words at)
-          (ahead cones words k.met2.given.0.1.0) (map original_row (pattern_rows p at.row 0)) l.loop.covered (cut-meets k) refl
-          ∙ l.loop.invariant.2,
+          (ahead cones words k.met-in-Cut-1.given.0.1.0) (map original_row (pattern_rows p at.row 0)) l.loop-size.covered (cut-meets k) refl
+          ∙ l.loop-size.invariant.2,
     )
 
-enum_told : tie.Need-enum-told invariant-loop decreases-loop
+enum_told : tie.Need-enum_told-1 invariant-loop decreases-loop
 enum_told c = search rules
 
-same_length : tie.Need-same-length invariant-loop decreases-loop
-same_length c = c.before.before.before.loop.invariant.1
+same_length : tie.Need-shape_of-covered-in-Done invariant-loop decreases-loop
+same_length c = c.loop-size.invariant.1
 
-returns : tie.Need-returns invariant-loop decreases-loop
+returns : tie.Need-returns-in-Done invariant-loop decreases-loop
 returns c =
     let n = c.before.before in
     let l = n.before in
-    let a = l.before.before.before.before.before.args in
-    parts-done (ahead a.cones.now a.words.now l.loop.place) l.loop.covered
-    (n.next.ensures.0 ∙ ap (meets a.cones.now a.words.now l.loop.place) c.enum_told.given.1) ∙ l.loop.invariant.2
+    let a = l.args in
+    parts-done (ahead a.cones.now a.words.now l.loop-size.place) l.loop-size.covered
+    (n.next-met.ensures.0 ∙ ap (meets a.cones.now a.words.now l.loop-size.place) c.enum_told-1.given.1) ∙ l.loop-size.invariant.2
 
 pub mark_covered_spec : {M : Type 1} → statement M
 mark_covered_spec =

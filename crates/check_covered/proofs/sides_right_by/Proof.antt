@@ -30,16 +30,16 @@ inside s k l =
 abbrev rows : tie.Start → List ℕ
 rows s = covered_rows (parts (records s.args.cones.now) (patterns s.args.count s.args.words.now))
 
-abbrev start : tie.After-mark-covered → tie.Start
+abbrev start : tie.After-mark_covered → tie.Start
 start r = r.before.before.before.before.before.before.before.before
 
-abbrev marks : tie.After-mark-covered → List Bool
-marks r = r.mark-covered.new.1.1.1.1.0
+abbrev marks : tie.After-mark_covered → List Bool
+marks r = r.mark_covered.new.covered
 
-table : (r : tie.After-mark-covered) → marks r ≡ marked true (rows (start r)) (replicate (length (start r).args.covered.now) false)
-table r = let s = start r in r.mark-covered.ensures ∙ ap (marked true (rows s)) s.pre.1.1.1
+table : (r : tie.After-mark_covered) → marks r ≡ marked true (rows (start r)) (replicate (length (start r).args.covered.now) false)
+table r = let s = start r in r.mark_covered.ensures ∙ ap (marked true (rows s)) s.pre.1.1.1
 
-first_test : (r : tie.After-mark-covered)
+first_test : (r : tie.After-mark_covered)
     → let s = start r in
     let a = s.args in
     (rows_marked (marks r) a.a_rows.now && values_marked (marks r) a.b.now)
@@ -52,7 +52,7 @@ first_test r =
     ∙ ap₂ {C = Bool} (λ u v. u && v) (cleared_rows n (rows s) a.a_rows.now (inside s))
     (cleared_values n (rows s) a.b.now (omega (arith, s.pre.1.0.1, s.pre.1.1.0)) ∙ ap (λ (k : ℕ). values_on (rows s) k a.b.now) s.pre.1.0.1)
 
-further_test : (r : tie.After-mark-covered)
+further_test : (r : tie.After-mark_covered)
     → let s = start r in
     let a = s.args in
     sides_marked (marks r) a.m a.first a.last a.sides.now ≡ sides_on (rows s) a.m a.first a.last a.sides.now
@@ -62,31 +62,31 @@ further_test r =
     ap (λ (m : List Bool). sides_marked m a.m a.first a.last a.sides.now) (table r)
     ∙ cleared_sides (length a.covered.now) (rows s) a.m a.first a.last a.sides.now s.pre.1.1.0 s.pre.1.0.2
 
-mark-covered-requires : tie.Need-mark-covered-requires
+mark-covered-requires : tie.Need-mark_covered-requires
 mark-covered-requires c κs = let s = c.before.before.before.before.before.before.before in (s.requires.0, s.requires.1.1.0)
 
-first-covered-requires : tie.Need-first-covered-requires
+first-covered-requires : tie.Need-first_covered-right-requires
 first-covered-requires c κs =
     let r = c.before.before.before in
     let s = start r in
-    (λ k l. omega (arith, inside s k l, r.mark-covered.auto.1.1.1.1.0), omega (arith, s.pre.1.0.1, s.pre.1.1.0, r.mark-covered.auto.1.1.1.1.0))
+    (λ k l. omega (arith, inside s k l, r.mark_covered.auto.covered), omega (arith, s.pre.1.0.1, s.pre.1.1.0, r.mark_covered.auto.covered))
 
-sides-covered-requires : tie.Need-sides-covered-requires
+sides-covered-requires : tie.Need-sides_covered-further-requires
 sides-covered-requires c κs =
     let r = c.before.before.before.before.before in
     let s = start r in
-    (omega (arith, s.pre.1.1.0, r.mark-covered.auto.1.1.1.1.0), s.pre.1.0.2)
+    (omega (arith, s.pre.1.1.0, r.mark_covered.auto.covered), s.pre.1.0.2)
 
-same_length : tie.Need-same-length
+same_length : tie.Need-shape_of-covered
 same_length c = search rules
 
 returns : tie.Need-returns
 returns c =
     let r = c.before.before.before.before.before.before in
-    (c.before.before.first-covered.ensures ∙ first_test r, c.sides-covered.ensures ∙ further_test r)
+    (c.first_covered-right.ensures ∙ first_test r, c.sides_covered-further.ensures ∙ further_test r)
 
-pub sides_right-by_spec : {M : Type 1} → statement M
-sides_right-by_spec =
+pub sides_right_by_spec : {M : Type 1} → statement M
+sides_right_by_spec =
     tie.close
     (tie.spec
     mark-covered-requires

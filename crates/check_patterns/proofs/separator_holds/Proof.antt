@@ -38,12 +38,12 @@ outside n cs ws parent a e h l k some =
     go [] h = absurd (omega arith)
     go (u ∷ us) h = and_right (all (λ x. ltb x n) (u ∷ us)) _ (and_right (distinct (u ∷ us)) _ refl)
 
-small : (c : tie.Else1) → let q = c.before.before.before.before.before.args.q in
+small : (c : tie.Else-get_nblk-gt-VERTICES) → let q = c.args.q in
     q.snode_count + q.separator_count ≤ 256
-small c = omega (arith, c.if1.false, c.before.get-nblk.ensures)
+small c = omega (arith, c.if-get_nblk-gt-VERTICES.false, c.get_nblk.ensures)
 
 -- the parent's clique is at its offset
-parent-read : (c : tie.After-shared-slice-known3) → let a = c.before.before.before.before.before.before.before.before.before.before.before.before.args in
+parent-read : (c : tie.After-shared_slice_known-3-1) → let a = c.args in
     let ws = a.words.now in
     read_clique (drop (get_or a.offsets.now a.q.parent 0) ws)
     ≡ read (get_or (cliques_from ws a.p.cliques a.p.clique_count) a.q.parent no_clique) (after ws a.p.cliques (suc a.q.parent))
@@ -53,58 +53,58 @@ parent-read c =
     let ws = a.words.now in
     let parent = a.q.parent in
     let o : parent * 1 ≡ parent = omega arith in
-    after-clique ws a.p.cliques a.p.clique_count s.requires.0.0 parent (get_or a.offsets.now parent 0) c.before.before.if3.false (s.requires.0.2 parent (omega (arith, c.before.before.if3.false)) ∙ ap (after ws a.p.cliques) o)
+    after-clique ws a.p.cliques a.p.clique_count s.requires.0.0 parent (get_or a.offsets.now parent 0) c.if-p-q.false (s.requires.0.2 parent (omega (arith, c.if-p-q.false)) ∙ ap (after ws a.p.cliques) o)
 
-get-nblk-requires : tie.Need-get-nblk-requires
-get-nblk-requires c κs = c.before.before.before.requires.1.1.0
+get-nblk-requires : tie.Need-get_nblk-requires
+get-nblk-requires c κs = c.requires.1.1.0
 
-returns : tie.Need-returns
-returns c = let q = c.before.before.before.before.before.args.q in sym (and-false _ _ (lt-leb (q.snode_count + q.separator_count) 256 (omega (arith, c.if1.true, c.before.get-nblk.ensures))))
+returns : tie.Need-returns-then-get_nblk-gt-VERTICES
+returns c = let q = c.args.q in sym (and-false _ _ (lt-leb (q.snode_count + q.separator_count) 256 (omega (arith, c.if-get_nblk-gt-VERTICES.true, c.get_nblk.ensures))))
 
-returns-2 : tie.Need-returns-2
+returns-2 : tie.Need-returns-then-q
 returns-2 c =
     let s = c.before.before.before.before.before.before.before in
     let ws = s.args.words.now in
     let q = s.args.q in
     let p = s.args.p in
     sym (and-true _ _ (le-leb _ 256 (small c.before.before)) ∙
-    none p.vertex_count (members (get_or (cliques_from ws p.cliques p.clique_count) q.parent no_clique)) ws q.separator q.next c.if2.true)
+    none p.vertex_count (members (get_or (cliques_from ws p.cliques p.clique_count) q.parent no_clique)) ws q.separator q.next c.if-q.true)
 
-returns-3 : tie.Need-returns-3
+returns-3 : tie.Need-returns-then-p-q
 returns-3 c =
     let s = c.before.before.before.before.before.before.before.before.before.before in
     let ws = s.args.words.now in
     let q = s.args.q in
     let p = s.args.p in
     sym (and_right (leb (q.snode_count + q.separator_count) 256) _ (outside p.vertex_count (cliques_from ws p.cliques p.clique_count) ws q.parent q.separator q.next
-    (omega (arith, many-length read_clique p.clique_count (drop p.cliques ws) s.requires.0.0, c.if3.true)) s.requires.1.0.0 s.requires.1.0.1 c.before.before.before.if2.false))
+    (omega (arith, many-length read_clique p.clique_count (drop p.cliques ws) s.requires.0.0, c.if-p-q.true)) s.requires.1.0.0 s.requires.1.0.1 c.if-q.false))
 
-cast-at : tie.Need-overflow-cast-at
+cast-at : tie.Need-overflow_cast-at
 cast-at c = omega arith
 
-mul_at : tie.Need-overflow-mul-at
+mul_at : tie.Need-offset_bounds-offsets-q
 mul_at c = omega arith
 
-shared-slice-read-at : tie.Need-shared-slice-read-at
-shared-slice-read-at c = le_trans c.before.before.if3.false c.before.before.before.before.before.before.before.before.before.before.before.before.requires.0.1
+shared-slice-read-at : tie.Need-bounds-offsets-q
+shared-slice-read-at c = le_trans c.if-p-q.false c.requires.0.1
 
-here-requires : tie.Need-here-requires
+here-requires : tie.Need-here-m-requires
 here-requires c κs = ap is_whole (parent-read c)
 
-separator-right-requires : tie.Need-separator-right-requires
+separator-right-requires : tie.Need-separator_right-requires
 separator-right-requires c κs =
     let h = c.before in
     let s = h.before.before.before.before.before.before.before.before.before.before.before.before.before in
-    let inside = h.here.ensures.1 in
+    let inside = h.here-m.ensures.1 in
     (s.requires.1.0, ((members_rise _ _ _ _ _ inside.1 inside.2, inside.3), s.requires.1.1.1))
 
-same_length : tie.Need-same-length
-same_length c = c.before.before.separator-right.auto.1.1.1.1.1.1.0
+same_length : tie.Need-shape_of-marks
+same_length c = c.separator_right.auto.marks
 
-returns-4 : tie.Need-returns-4
+returns-4 : tie.Need-returns
 returns-4 c =
     let h = c.before.before.before.before in
-    let m = h.here.result in
+    let m = h.here-m.result in
     let s = c.before.before.before.before.before.before.before.before.before.before.before.before.before.before.before.before.before in
     let ws = s.args.words.now in
     let q = s.args.q in
@@ -112,8 +112,8 @@ returns-4 c =
     let at = get_or s.args.offsets.now q.parent 0 in
     let us = take (q.next - q.separator) (drop q.separator ws) in
     let same : clique_of ws m ≡ get_or (cliques_from ws p.cliques p.clique_count) q.parent no_clique =
-    ap (value_or no_clique) (h.here.ensures.0 ∙ parent-read h.before) in
-    c.before.before.separator-right.ensures ∙ ap (λ (ms : List ℕ). once_below_in p.vertex_count ms us) (members-part ws at m h.here.ensures.1 ∙ ap members same)
+    ap (value_or no_clique) (h.here-m.ensures.0 ∙ parent-read h.before) in
+    c.separator_right.ensures ∙ ap (λ (ms : List ℕ). once_below_in p.vertex_count ms us) (members-part ws at m h.here-m.ensures.1 ∙ ap members same)
     ∙ sym (and-true _ _ (le-leb _ 256 (small c.before.before.before.before.before.before.before.before.before.before.before.before)))
 
 pub separator_holds_spec : {M : Type 1} → statement M

@@ -10,55 +10,55 @@ use native.Mathlib.Omega.{arith}
 use Rattle.check_problem.proofs.check_joined.Statement.{statement}
 use Rattle.check_problem.proofs.check_joined.Tie as tie
 
-join-bounded-requires : tie.Need-join-bounded-requires
+join-bounded-requires : tie.Need-join_bounded-requires
 join-bounded-requires c κs = tt
 
-refused-as-requires : tie.Need-refused-as-requires
+refused-as-requires : tie.Need-refused_as-requires
 refused-as-requires c κs = tt
 
-all-bounded : (c : tie.Else1) → let s = c.before.before.before.before in
+all-bounded : (c : tie.Else-not-join_bounded) → let s = c.before.before.before.before in
     join_bounded s.args.n s.args.m s.args.cones.now ≡ true
-all-bounded c = sym c.before.join-bounded.ensures ∙ not-false _ c.if1.false
+all-bounded c = sym c.join_bounded.ensures ∙ not-false _ c.if-not-join_bounded.false-raw
 
-all_read : (c : tie.Else2) → let s = c.before.before.before.before.before.before in
+all_read : (c : tie.Else-check_cones-ne-DONE) → let s = c.before.before.before.before.before.before in
     cones_read s.args.m s.args.cones.now ≡ true
 all_read c =
     let s = c.before.before.before.before.before.before in
-    cones-read s.args.m s.args.cones.now (sym c.before.check-cones.ensures ∙ c.if2.false)
+    cones-read s.args.m s.args.cones.now (sym c.check_cones.ensures ∙ c.if-check_cones-ne-DONE.false)
 
-returns : tie.Need-returns
-returns c = (c.IsRefused-as.ensures ∙ rw (sym c.before.before.join-bounded.ensures ∙ not-true _ c.before.if1.true), λ z. absurd (omega (arith, c.IsRefused-as.ensures)))
+returns : tie.Need-returns-then-not-join_bounded
+returns c = (c.IsRefused-as.ensures ∙ rw (sym c.join_bounded.ensures ∙ not-true _ c.if-not-join_bounded.true-raw), λ z. absurd (omega (arith, c.IsRefused-as.ensures)))
 
-check-cones-requires : tie.Need-check-cones-requires
+check-cones-requires : tie.Need-check_cones-requires
 check-cones-requires c κs =
     let s = c.before.before.before.before in
     bounded-cones s.args.n s.args.m s.args.cones.now (all-bounded c)
 
-refused-as-requires-2 : tie.Need-refused-as-requires-2
+refused-as-requires-2 : tie.Need-refused_as-requires-then-check_cones-ne-DONE
 refused-as-requires-2 c κs = tt
 
-returns-2 : tie.Need-returns-2
+returns-2 : tie.Need-returns-then-check_cones-ne-DONE
 returns-2 c =
     let s = c.before.before.before.before.before.before.before in (
-      c.refused-as2.ensures
+      c.refused_as-then-check_cones-ne-DONE.ensures
           ∙ rw (
             all-bounded c.before.before.before,
-            refused (cones_read s.args.m s.args.cones.now) 4 (λ e. c.before.if2.true (c.before.before.check-cones.ensures ∙ e)),
+            refused (cones_read s.args.m s.args.cones.now) 4 (λ e. c.if-check_cones-ne-DONE.true (c.check_cones.ensures ∙ e)),
           ),
-      λ z. absurd (omega (arith, c.refused-as2.ensures)),
+      λ z. absurd (omega (arith, c.refused_as-then-check_cones-ne-DONE.ensures)),
     )
 
-count-patterns-requires : tie.Need-count-patterns-requires
+count-patterns-requires : tie.Need-count_patterns-requires
 count-patterns-requires c κs =
     let s = c.before.before.before.before.before.before in
     let bounds = simp (and_iff, leb_iff) at (passes _ (all-bounded c.before.before)) in
     (bounds.0.1, passes _ (bounded-cones s.args.n s.args.m s.args.cones.now (all-bounded c.before.before)), passes _ (all_read c))
 
-returns-3 : tie.Need-returns-3
-returns-3 c = (rw (all-bounded c.before.before.before, all_read c.before) c.count-patterns.ensures.0, c.count-patterns.ensures.1)
+returns-3 : tie.Need-returns
+returns-3 c = (rw (all-bounded c.before.before.before, all_read c.before) c.count_patterns.ensures.0, c.count_patterns.ensures.1)
 
-pub check-joined_spec : {M : Type 1} → statement M
-check-joined_spec =
+pub check_joined_spec : {M : Type 1} → statement M
+check_joined_spec =
     tie.close
     (tie.spec
     join-bounded-requires

@@ -37,59 +37,59 @@ by_count s =
     let alphas = s.args.alphas.now in
     alphas-lengths s.args.cones.now (unvalued (length alphas)) alphas (length-replicate (length alphas) nan)
 
-none-refused : (c : tie.Else1) → let p = given c.before.before.before.before.before.before.before.before.before.before.before.before.before in tables_refusal p.n p.m p.P p.q p.A p.b p.cones ≡ 0
-none-refused c = sym c.before.check-tables.ensures ∙ c.if1.false
+none-refused : (c : tie.Else-tables-ne-DONE) → let p = given c.before.before.before.before.before.before.before.before.before.before.before.before.before in tables_refusal p.n p.m p.P p.q p.A p.b p.cones ≡ 0
+none-refused c = sym c.check_tables-tables.ensures ∙ c.if-tables-ne-DONE.false
 
-rows-and-cones : (c : tie.Else1) → let p = given c.before.before.before.before.before.before.before.before.before.before.before.before.before in (p.m ≤ 65536) × T (cones_bounded p.cones) × T (cones_read p.m p.cones)
+rows-and-cones : (c : tie.Else-tables-ne-DONE) → let p = given c.before.before.before.before.before.before.before.before.before.before.before.before.before in (p.m ≤ 65536) × T (cones_bounded p.cones) × T (cones_read p.m p.cones)
 rows-and-cones c =
     let p = given c.before.before.before.before.before.before.before.before.before.before.before.before.before in
     tables_passed p.n p.m p.P p.q p.A p.b p.cones (none-refused c)
 
-check-tables-requires : tie.Need-check-tables-requires
+check-tables-requires : tie.Need-check_tables-tables-requires
 check-tables-requires c κs = tt
 
-refused-as-requires : tie.Need-refused-as-requires
+refused-as-requires : tie.Need-refused_as-requires
 refused-as-requires c κs = tt
 
-returns : tie.Need-returns
+returns : tie.Need-returns-then-tables-ne-DONE
 returns c =
     let s = c.before.before.before.before.before.before.before.before.before.before.before.before.before.before in
-    let e = c.before.before.check-tables.ensures in (
-      c.IsRefused-as.ensures ∙ e ∙ sym (by_lengths s ∙ (problem_order (given s)).0 (λ z. c.before.if1.true (e ∙ z))),
-      λ z. absurd (c.before.if1.true (sym c.IsRefused-as.ensures ∙ z)),
+    let e = c.check_tables-tables.ensures in (
+      c.IsRefused-as.ensures ∙ e ∙ sym (by_lengths s ∙ (problem_order (given s)).0 (λ z. c.if-tables-ne-DONE.true (e ∙ z))),
+      λ z. absurd (c.if-tables-ne-DONE.true (sym c.IsRefused-as.ensures ∙ z)),
     )
 
-alphas-as-many-requires : tie.Need-alphas-as-many-requires
+alphas-as-many-requires : tie.Need-alphas_as_many-requires
 alphas-as-many-requires c κs =
     let p = given c.before.before.before.before.before.before.before.before.before.before.before.before.before in
     all_read p.m p.cones (passed _ (rows-and-cones c).2)
 
-refused-as-requires-2 : tie.Need-refused-as-requires-2
+refused-as-requires-2 : tie.Need-refused_as-requires-then-not-alphas_as_many
 refused-as-requires-2 c κs = tt
 
-returns-2 : tie.Need-returns-2
+returns-2 : tie.Need-returns-then-not-alphas_as_many
 returns-2 c =
     let d = c.before in
     let s = c.before.before.before.before.before.before.before.before.before.before.before.before.before.before.before.before in (
-      c.refused-as2.ensures
-          ∙ sym (by_lengths s ∙ (problem_order (given s)).1 (none-refused d.before.before) (by_count s ∙ sym d.before.alphas-as-many.ensures ∙ not-true _ d.if2.true)),
-      λ z. absurd (omega (arith, c.refused-as2.ensures)),
+      c.refused_as-then-not-alphas_as_many.ensures
+          ∙ sym (by_lengths s ∙ (problem_order (given s)).1 (none-refused d.before.before) (by_count s ∙ sym d.alphas_as_many.ensures ∙ not-true _ d.if-not-alphas_as_many.true-raw)),
+      λ z. absurd (omega (arith, c.refused_as-then-not-alphas_as_many.ensures)),
     )
 
-count-patterns-requires : tie.Need-count-patterns-requires
+count-patterns-requires : tie.Need-count_patterns-requires
 count-patterns-requires c κs = rows-and-cones c.before.before
 
-returns-3 : tie.Need-returns-3
+returns-3 : tie.Need-returns
 returns-3 c =
     let d = c.before in
     let s = c.before.before.before.before.before.before.before.before.before.before.before.before.before.before.before.before in (
-      c.count-patterns.ensures.0
-          ∙ sym (by_lengths s ∙ (problem_order (given s)).2 (none-refused d.before.before) (by_count s ∙ sym d.before.alphas-as-many.ensures ∙ not-false _ d.if2.false)),
-      c.count-patterns.ensures.1,
+      c.count_patterns.ensures.0
+          ∙ sym (by_lengths s ∙ (problem_order (given s)).2 (none-refused d.before.before) (by_count s ∙ sym d.alphas_as_many.ensures ∙ not-false _ d.if-not-alphas_as_many.false-raw)),
+      c.count_patterns.ensures.1,
     )
 
-pub count-problem_spec : {M : Type 1} → statement M
-count-problem_spec =
+pub count_problem_spec : {M : Type 1} → statement M
+count_problem_spec =
     tie.close
     (tie.spec
     check-tables-requires

@@ -24,42 +24,42 @@ nine s = let a = s.args in entries_check (route_of a.route) a.m a.a_rows.now a.b
 abbrev ten : tie.Start → Bool
 ten s = check10 (route_of s.args.route) s.args.m (here s)
 
-rows-refusal-requires : tie.Need-rows-refusal-requires
+rows-refusal-requires : tie.Need-rows_refusal-requires
 rows-refusal-requires c κs = search rules
 
-returns : tie.Need-returns
+returns : tie.Need-returns-then-route-eq-STANDARD
 returns c =
     let s = c.before.before.before.before.before.before in
     let a = s.args in
-    c.rows-refusal.ensures
+    c.rows_refusal.ensures
     ∙ counted_rows (route_of a.route) a.m (here s) a.rows a.overlaps s.requires.1.1
-    ∙ sym (entries_pass (nine s) (ten s) (entries_standard a.route a.m a.a_rows.now a.b.now (here s) c.before.if1.true))
+    ∙ sym (entries_pass (nine s) (ten s) (entries_standard a.route a.m a.a_rows.now a.b.now (here s) c.if-route-eq-STANDARD.true))
 
-entries-right-requires : tie.Need-entries-right-requires
+entries-right-requires : tie.Need-entries_right-requires
 entries-right-requires c κs = let s = c.before.before.before.before.before in (s.requires.0, s.requires.1.0)
 
 -- `entries_right` returns whether check 9 passes
-answered : (c : tie.After-entries-right) → let s = c.before.before.before.before.before.before in nine s ≡ c.entries-right.result
+answered : (c : tie.After-entries_right) → let s = c.before.before.before.before.before.before in nine s ≡ c.entries_right.result
 answered c =
     let s = c.before.before.before.before.before.before in
     let a = s.args in
-    entries_compact a.route a.m a.a_rows.now a.b.now (here s) c.before.if1.false ∙ sym c.entries-right.ensures
+    entries_compact a.route a.m a.a_rows.now a.b.now (here s) c.if-route-eq-STANDARD.false ∙ sym c.entries_right.ensures
 
-returns-2 : tie.Need-returns-2
+returns-2 : tie.Need-returns-then-not-entries_right
 returns-2 c =
     let s = c.before.before.before.before.before.before.before in
-    sym (entries_fail (nine s) (ten s) (answered c.before ∙ not-true _ c.if2.true))
+    sym (entries_fail (nine s) (ten s) (answered c.before ∙ not-true _ c.if-not-entries_right.true-raw))
 
-rows-refusal-requires-2 : tie.Need-rows-refusal-requires-2
+rows-refusal-requires-2 : tie.Need-rows_refusal-requires-2
 rows-refusal-requires-2 c κs = search rules
 
-returns-3 : tie.Need-returns-3
+returns-3 : tie.Need-returns
 returns-3 c =
     let s = c.before.before.before.before.before.before.before.before in
     let a = s.args in
-    c.rows-refusal2.ensures
+    c.rows_refusal-2.ensures
     ∙ counted_rows (route_of a.route) a.m (here s) a.rows a.overlaps s.requires.1.1
-    ∙ sym (entries_pass (nine s) (ten s) (answered c.before.before ∙ not-false _ c.before.if2.false))
+    ∙ sym (entries_pass (nine s) (ten s) (answered c.before.before ∙ not-false _ c.if-not-entries_right.false-raw))
 
 pub check_route_spec : {M : Type 1} → statement M
 check_route_spec =

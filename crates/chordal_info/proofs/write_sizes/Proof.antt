@@ -18,88 +18,88 @@ use Rattle.chordal_info.proofs.write_sizes.Tie as tie
 few : (s : tie.Start) → s.args.rows ≤ 262144
 few s = rows_few (route_of s.args.route) s.args.m s.args.rows s.args.overlaps s.requires.1.2
 
-tall : (c : tie.Then1) → let a = c.before.before.args in a.m + a.rows ≤ 262144
+tall : (c : tie.Then-route-eq-STANDARD) → let a = c.args in a.m + a.rows ≤ 262144
 tall c =
     let s = c.before.before in
     let a = s.args in
     (leb_iff (a.m + a.rows) 262144).0
-    (subst (λ (x : Route). T (rows_fit x a.m a.rows a.overlaps)) (route_standard a.route c.if1.true) s.requires.1.2)
+    (subst (λ (x : Route). T (rows_fit x a.m a.rows a.overlaps)) (route_standard a.route c.if-route-eq-STANDARD.true) s.requires.1.2)
 
 -- at most 262144 columns are added
-short : (j : tie.Joined1) → j.if1.added ≤ 262144
+short : (j : tie.Joined-route-eq-STANDARD) → j.if-route-eq-STANDARD.added ≤ 262144
 short j =
     let s = j.before.before in
-    ⊎_elim (λ w. omega (arith, w.1, few s)) (λ w. omega (arith, w.1, few s, s.requires.1.3)) j.if1.branch
+    ⊎_elim (λ w. omega (arith, w.1, few s)) (λ w. omega (arith, w.1, few s, s.requires.1.3)) j.if-route-eq-STANDARD.branch
 
 -- the computed lengths are those of the route
-lengths : (j : tie.Joined1)
-    → let a = j.before.before.args in
-    let x = j.if1 in
-    output_lengths (a.n + x.added) a.p-entries (a.a-entries + 2 * x.added) x.b x.cone-words a.alphas x.map-words
-    ≡ route_sizes (route_of a.route) a.n a.m a.p-entries a.a-entries a.alphas a.rows a.overlaps a.cones
+lengths : (j : tie.Joined-route-eq-STANDARD)
+    → let a = j.args in
+    let x = j.if-route-eq-STANDARD in
+    output_lengths (a.n + x.added) a.p_entries (a.a_entries + 2 * x.added) x.b x.cone_words a.alphas x.map_words
+    ≡ route_sizes (route_of a.route) a.n a.m a.p_entries a.a_entries a.alphas a.rows a.overlaps a.cones
 lengths j =
-    let a = j.before.before.args in
+    let a = j.args in
     ⊎_elim
-    (λ w. lengths_standard a.n a.m a.p-entries a.a-entries a.alphas a.rows a.overlaps a.cones
+    (λ w. lengths_standard a.n a.m a.p_entries a.a_entries a.alphas a.rows a.overlaps a.cones
     (route_standard a.route w.0.taken) w.1 w.2 w.3 w.4)
-    (λ w. lengths_compact a.n a.m a.p-entries a.a-entries a.alphas a.rows a.overlaps a.cones
+    (λ w. lengths_compact a.n a.m a.p_entries a.a_entries a.alphas a.rows a.overlaps a.cones
     (route_compact a.route w.0.left) w.1 w.2 w.3 w.4)
-    j.if1.branch
+    j.if-route-eq-STANDARD.branch
 
-cast-added : tie.Need-overflow-cast-added
+cast-added : tie.Need-overflow_cast-added
 cast-added c = omega (arith, few c.before)
 
-cast-b : tie.Need-overflow-cast-b
+cast-b : tie.Need-overflow_cast-b
 cast-b c = omega (arith, few c.before)
 
-cast-cone-words : tie.Need-overflow-cast-cone-words
+cast-cone-words : tie.Need-overflow_cast-cone_words
 cast-cone-words c = omega (arith, few c.before)
 
-mul-cone-words : tie.Need-overflow-mul-cone-words
+mul-cone-words : tie.Need-overflow_mul-cone_words
 mul-cone-words c = omega (arith, few c.before)
 
-cast-map-words : tie.Need-overflow-cast-map-words
+cast-map-words : tie.Need-overflow_cast-map_words
 cast-map-words c = omega (arith, few c.before)
 
-mul-map-words : tie.Need-overflow-mul-map-words
+mul-map-words : tie.Need-overflow_mul-map_words
 mul-map-words c = omega (arith, few c.before)
 
-add-b : tie.Need-overflow-add-b
+add-b : tie.Need-overflow_add-b
 add-b c = omega (arith, tall c)
 
-add-cone-words : tie.Need-overflow-add-cone-words
+add-cone-words : tie.Need-overflow_add-cone_words
 add-cone-words c = omega (arith, few c.before.before)
 
-add-columns : tie.Need-overflow-add-columns
+add-columns : tie.Need-overflow_add-columns
 add-columns c = omega (arith, short c.before)
 
-add-starts : tie.Need-overflow-add-starts
+add-starts : tie.Need-overflow_add-starts
 add-starts c = omega (arith, short c.before)
 
-mul-entries : tie.Need-overflow-mul-entries
+mul-entries : tie.Need-overflow_mul-entries
 mul-entries c = omega (arith, short c.before)
 
-add-entries : tie.Need-overflow-add-entries
+add-entries : tie.Need-overflow_add-entries
 add-entries c = omega (arith, short c.before)
 
-slice-aggregate-copy-numbers : tie.Need-slice-aggregate-copy-numbers
+slice-aggregate-copy-numbers : tie.Need-slice_bounds-copy_numbers-end
 slice-aggregate-copy-numbers c = search rules
 
-copy-numbers-requires : tie.Need-copy-numbers-requires
+copy-numbers-requires : tie.Need-copy_numbers-requires
 copy-numbers-requires c κs = search rules
 
-same_length : tie.Need-same-length
+same_length : tie.Need-shape_of-out
 same_length c = search rules
 
 returns : tie.Need-returns
 returns c =
     let w = c.before.before in
     let j = w.before.before.before.before in
-    let a = j.before.before.args in
-    let x = j.if1 in
-    w.copy-numbers.ensures
+    let a = j.args in
+    let x = j.if-route-eq-STANDARD in
+    w.copy_numbers.ensures
     ∙ ap (λ (xs : List ℕ). written xs a.out.now)
-    (lengths-listed (a.n + x.added) a.p-entries (a.a-entries + 2 * x.added) x.b x.cone-words a.alphas x.map-words ∙ lengths j)
+    (lengths-listed (a.n + x.added) a.p_entries (a.a_entries + 2 * x.added) x.b x.cone_words a.alphas x.map_words ∙ lengths j)
 
 pub write_sizes_spec : {M : Type 1} → statement M
 write_sizes_spec =

@@ -9,14 +9,19 @@ use Rattle.csc.proofs.nnz.Tie as tie
 right : (c : tie.Start) → RightStarts c.args.n (matrix c.args.starts.now c.args.rows.now c.args.values.now)
 right c = starts-right c.args.n (matrix c.args.starts.now c.args.rows.now c.args.values.now) c.requires
 
-mul-result : tie.Need-overflow-mul-result
+mul-result : tie.Need-offset_bounds-starts-n
 mul-result c = search rules
 
-shared-slice-read-result : tie.Need-shared-slice-read-result
+shared-slice-read-result : tie.Need-bounds-starts-n
 shared-slice-read-result c = omega (arith, right c.before)
 
 returns : tie.Need-returns
 returns c = (right c.before).last ∙ (right c.before).even
 
 pub nnz_spec : {M : Type 1} → statement M
-nnz_spec = tie.close (tie.spec mul-result shared-slice-read-result returns)
+nnz_spec =
+    tie.close
+    (tie.spec
+    mul-result
+    shared-slice-read-result
+    returns)

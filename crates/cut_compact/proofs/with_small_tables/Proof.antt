@@ -19,81 +19,81 @@ few : (s : tie.Start) → s.args.rows ≤ 2048
 few s = s.requires.1.1.0
 
 -- the codes of the augmented rows are a prefix of the table
-abbrev start : tie.After-write-sides → tie.Start
+abbrev start : tie.After-write_sides → tie.Start
 start w = w.before.before.before.before.before.before.before.before.before.before.before.before.before.before.before.before.before.before.before.before
 
-abbrev table : tie.After-write-sides → List ℕ
-table w = w.write-sides.new.1.1.1.1.1.1.1.1.1.0
+abbrev table : tie.After-write_sides → List ℕ
+table w = w.write_sides.new.table
 
-codes : (w : tie.After-write-sides)
+codes : (w : tie.After-write_sides)
     → let s = start w in
     (take s.args.rows (table w) ≡ map cut_code (compact_rows (joined_parts s.args.cones.now s.args.count s.args.words.now)))
     × (s.args.rows ≤ length (table w))
-codes w = let s = start w in coded s.pre.0.accepted s.pre.0.blocks (few s) w.write-sides.ensures.0
+codes w = let s = start w in coded s.pre.0.accepted s.pre.0.blocks (few s) w.write_sides.ensures.0
 
-write-starts-requires : tie.Need-write-starts-requires
+write-starts-requires : tie.Need-write_starts-requires
 write-starts-requires c κs =
     let s = c.before.before.before.before.before.before.before.before.before.before.before.before.before in
     let f = s.requires.0 in
     (columns_inside f.accepted, (f.starts, few-overlaps f.accepted s.args.k f.overlaps))
 
-slice-aggregate-write-sides : tie.Need-slice-aggregate-write-sides
+slice-aggregate-write-sides : tie.Need-slice_bounds-write_sides-end
 slice-aggregate-write-sides c = sym (length-replicate {A = ℕ} 2048 0)
 
-write-sides-requires : tie.Need-write-sides-requires
+write-sides-requires : tie.Need-write_sides-requires
 write-sides-requires c κs =
     let s = c.before.before.before.before.before.before.before.before.before.before.before.before.before.before.before.before.before.before.before in
     let f = s.requires.0 in
     (sound f.accepted, ((f.blocks, few-rows f.accepted f.blocks, cleared 2048 (few s)), (rows_inside f.accepted, s.requires.1.0)))
 
-add-end : tie.Need-overflow-add-end
+add-end : tie.Need-overflow_add-end
 add-end c =
     let s = c.before.before.before.before.before.before.before.before.before.before.before.before.before.before.before.before.before.before.before.before.before.before.before.before.before in
     flags_fit s.args.rows (few-rows s.requires.0.accepted s.requires.0.blocks)
 
-array-borrow-prefix-table : tie.Need-array-borrow-prefix-table
+array-borrow-prefix-table : tie.Need-slice_bounds-table-end
 array-borrow-prefix-table c = (codes c.before.before.before.before.before.before.before).1
 
-slice-aggregate-write-entries : tie.Need-slice-aggregate-write-entries
+slice-aggregate-write-entries : tie.Need-slice_bounds-write_entries-end
 slice-aggregate-write-entries c =
     let w = c.before.before.before.before.before.before.before.before in
     sym (length-take-le (start w).args.rows (table w) (codes w).1)
 
-slice-aggregate-write-entries-2 : tie.Need-slice-aggregate-write-entries-2
+slice-aggregate-write-entries-2 : tie.Need-slice_bounds-write_entries-end-2
 slice-aggregate-write-entries-2 c = sym (length-replicate {A = ℕ} 2048 0)
 
-array-borrow-prefix-chunks : tie.Need-array-borrow-prefix-chunks
+array-borrow-prefix-chunks : tie.Need-slice_bounds-chunks-end
 array-borrow-prefix-chunks c =
     let s = c.before.before.before.before.before.before.before.before.before.before.before.before.before.before.before.before.before.before.before.before.before.before.before.before.before.before.before.before.before in
     few_flags s.args.rows 32 (few s)
 
-slice-aggregate-write-entries-3 : tie.Need-slice-aggregate-write-entries-3
+slice-aggregate-write-entries-3 : tie.Need-slice_bounds-write_entries-end-3
 slice-aggregate-write-entries-3 c =
     let s = c.before.before.before.before.before.before.before.before.before.before.before.before.before.before.before.before.before.before.before.before.before.before.before.before.before.before.before.before.before.before in
     flags_count s.args.rows 32 (few s)
 
-write-entries-requires : tie.Need-write-entries-requires
+write-entries-requires : tie.Need-write_entries-requires
 write-entries-requires c κs =
     let w = c.before.before.before.before.before.before.before.before.before.before.before in
     let s = start w in
     let a = s.args in
     let f = s.pre.0 in
-    (columns_right f.accepted a.k a.a-starts-out.now f.starts c.before.before.before.before.before.before.before.before.before.before.before.before.before.before.before.before.before.write-starts.ensures, placeable f.accepted f.blocks 2048 32 a.k (length a.a-rows-out.now) (length a.a-values-out.now) (codes w).0 s.pre.1.1.1 (few s) (lit≤ tt) f.overlaps f.entries f.values)
+    (columns_right f.accepted a.k a.a_starts_out.now f.starts c.write_starts.ensures, placeable f.accepted f.blocks 2048 32 a.k (length a.a_rows_out.now) (length a.a_values_out.now) (codes w).0 s.pre.1.1.1 (few s) (lit≤ tt) f.overlaps f.entries f.values)
 
-same_length : tie.Need-same-length
-same_length c = c.before.before.before.before.before.before.before.before.before.before.before.before.before.before.before.before.before.before.before.before.before.before.before.before.before.write-starts.auto.0
+same_length : tie.Need-shape_of-a_starts_out
+same_length c = c.write_starts.auto.out
 
-same-length-2 : tie.Need-same-length-2
-same-length-2 c = c.before.before.before.before.before.before.before.write_entries.auto.0
+same-length-2 : tie.Need-shape_of-a_rows_out
+same-length-2 c = c.write_entries.auto.rows_out
 
-same-length-3 : tie.Need-same-length-3
-same-length-3 c = c.before.before.before.before.before.before.before.write_entries.auto.1.0
+same-length-3 : tie.Need-shape_of-a_values_out
+same-length-3 c = c.write_entries.auto.values_out
 
-same-length-4 : tie.Need-same-length-4
-same-length-4 c = c.before.before.before.before.before.before.before.before.before.before.before.before.before.before.before.before.before.before.before.write-sides.auto.1.1.1.1.1.1.1.1.1.1.0
+same-length-4 : tie.Need-shape_of-sides_out
+same-length-4 c = c.write_sides.auto.sides_out
 
-same-length-5 : tie.Need-same-length-5
-same-length-5 c = c.before.before.before.before.before.before.before.before.before.before.before.before.before.before.before.before.before.before.before.write-sides.auto.1.1.1.1.1.1.1.1.1.1.1.0
+same-length-5 : tie.Need-shape_of-others_out
+same-length-5 c = c.write_sides.auto.others_out
 
 returns : tie.Need-returns
 returns c =
@@ -102,19 +102,19 @@ returns c =
     let a = s.args in
     let f = s.pre.0 in
     let A = matrix a.a_starts.now a.a_rows.now a.a_values.now in
-    let moved = c.before.before.before.before.before.before.before.write_entries.ensures in
-    let sides = w.write-sides.ensures.1 in (
+    let moved = c.write_entries.ensures in
+    let sides = w.write_sides.ensures.1 in (
       record {
-        a_starts = renamed a.a-starts-out.now (starts_A f.accepted a.k f.overlaps) c.before.before.before.before.before.before.before.before.before.before.before.before.before.before.before.before.before.before.before.before.before.before.before.before.before.write-starts.ensures;
-        a_rows = renamed a.a-rows-out.now (ap (cut_rows a.n (sums a.n A)) (codes w).0 ∙ rows_A f.accepted) moved.0;
-        a_values = renamed a.a-values-out.now (ap (λ (cs : List ℕ). cut_values a.n (sums a.n A) cs a.k) (codes w).0 ∙ values_A f.accepted a.k f.overlaps) moved.1.0;
+        a_starts = renamed a.a_starts_out.now (starts_A f.accepted a.k f.overlaps) c.write_starts.ensures;
+        a_rows = renamed a.a_rows_out.now (ap (cut_rows a.n (sums a.n A)) (codes w).0 ∙ rows_A f.accepted) moved.0;
+        a_values = renamed a.a_values_out.now (ap (λ (cs : List ℕ). cut_values a.n (sums a.n A) cs a.k) (codes w).0 ∙ values_A f.accepted a.k f.overlaps) moved.1.0;
       },
-      renamed a.sides-out.now (values_b f.accepted a.sides.now a.side-count) sides.0,
-      renamed a.others-out.now (values_b f.accepted a.others.now a.other-count) sides.1,
+      renamed a.sides_out.now (values_b f.accepted a.sides.now a.side_count) sides.0,
+      renamed a.others_out.now (values_b f.accepted a.others.now a.other_count) sides.1,
     )
 
-pub with_small-tables_spec : {M : Type 1} → statement M
-with_small-tables_spec =
+pub with_small_tables_spec : {M : Type 1} → statement M
+with_small_tables_spec =
     tie.close
     (tie.spec
     write-starts-requires

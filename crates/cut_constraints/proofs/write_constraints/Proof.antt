@@ -12,64 +12,64 @@ given s =
     let a = s.args in
     constraints a.n a.m a.a_starts.now a.a_rows.now a.a_values.now a.b.now a.cones.now a.count a.words.now
 
-decomp-augment-standard-requires : tie.Need-decomp-augment-standard-requires
-decomp-augment-standard-requires c κs = fits_on (route_standard _ c.before.before.before.before.before.if1.true) c.before.before.before.before.before.before.before.before.before.before.before.before.before.before.before.before.before.before.requires.0
+decomp-augment-standard-requires : tie.Need-decomp_augment_standard-requires
+decomp-augment-standard-requires c κs = fits_on (route_standard _ c.if-route-eq-STANDARD.true) c.requires.0
 
-same_length : tie.Need-same-length
-same_length c = c.before.before.before.before.before.before.before.before.before.before.decomp-augment-standard.auto.1.1.1.1.1.1.1.1.1.1.0
+same_length : tie.Need-shape_of-a_starts_out-then-route-eq-STANDARD
+same_length c = c.decomp_augment_standard.auto.a_starts_out
 
-same-length-2 : tie.Need-same-length-2
-same-length-2 c = c.before.before.before.before.before.before.before.before.before.before.decomp-augment-standard.auto.1.1.1.1.1.1.1.1.1.1.1.0
+same-length-2 : tie.Need-shape_of-a_rows_out-then-route-eq-STANDARD
+same-length-2 c = c.decomp_augment_standard.auto.a_rows_out
 
-same-length-3 : tie.Need-same-length-3
-same-length-3 c = c.before.before.before.before.before.before.before.before.before.before.decomp-augment-standard.auto.1.1.1.1.1.1.1.1.1.1.1.1.0
+same-length-3 : tie.Need-shape_of-a_values_out-then-route-eq-STANDARD
+same-length-3 c = c.decomp_augment_standard.auto.a_values_out
 
-same-length-4 : tie.Need-same-length-4
-same-length-4 c = c.before.before.before.before.before.before.before.before.before.before.decomp-augment-standard.auto.1.1.1.1.1.1.1.1.1.1.1.1.1.0
+same-length-4 : tie.Need-shape_of-b_out-then-route-eq-STANDARD
+same-length-4 c = c.decomp_augment_standard.auto.b_out
 
-same-length-5 : tie.Need-same-length-5
-same-length-5 c = c.before.before.before.before.before.before.before.before.before.before.decomp-augment-standard.auto.1.1.1.1.1.1.1.1.1.1.1.1.1.1.0
+same-length-5 : tie.Need-shape_of-cones_out-then-route-eq-STANDARD
+same-length-5 c = c.decomp_augment_standard.auto.cones_out
 
-returns : tie.Need-returns
+returns : tie.Need-returns-then-route-eq-STANDARD
 returns c =
     let s = c.before.before.before.before.before.before.before.before.before.before.before.before.before.before.before.before.before.before.before.before.before.before.before.before.before.before.before.before.before in
-    let e = route_standard _ c.before.before.before.before.before.before.before.before.before.before.before.before.before.before.before.before.if1.true in
-    (constrained_on (given s) e c.before.before.before.before.before.before.before.before.before.before.decomp-augment-standard.ensures, map_on (given s) e s.args.map-out.now refl)
+    let e = route_standard _ c.if-route-eq-STANDARD.true in
+    (constrained_on (given s) e c.decomp_augment_standard.ensures, map_on (given s) e s.args.map_out.now refl)
 
-decomp-augment-compact-requires : tie.Need-decomp-augment-compact-requires
+decomp-augment-compact-requires : tie.Need-decomp_augment_compact-requires
 decomp-augment-compact-requires c κs =
     let s = c.before.before.before.before.before.before.before.before.before.before.before.before.before.before.before.before.before.before in
-    (fits_on (route_compact s.args.route c.before.before.before.before.before.if1.false) s.requires.0, s.requires.1)
+    (fits_on (route_compact s.args.route c.if-route-eq-STANDARD.false) s.requires.0, s.requires.1)
 
-write-table-requires : tie.Need-write-table-requires
+write-table-requires : tie.Need-write_table-requires
 write-table-requires c κs =
     let s = c.before.before.before.before.before.before.before.before.before.before.before.before.before.before.before.before.before.before.before.before.before.before.before.before.before.before.before.before.before.before in
-    let e = route_compact s.args.route c.before.before.before.before.before.before.before.before.before.before.before.before.before.before.before.before.before.if1.false in
+    let e = route_compact s.args.route c.if-route-eq-STANDARD.false in
     (sound s.requires.0.accepted, (few_on (given s) e refl s.requires.0, map-fits_on (given s) e _ s.requires.2))
 
-same-length-6 : tie.Need-same-length-6
-same-length-6 c = c.before.before.before.before.before.before.before.before.before.before.before.before.before.before.decomp-augment-compact.auto.1.1.1.1.1.1.1.1.1.1.1.0
+same-length-6 : tie.Need-shape_of-a_starts_out
+same-length-6 c = c.decomp_augment_compact.auto.a_starts_out
 
-same-length-7 : tie.Need-same-length-7
-same-length-7 c = c.before.before.before.before.before.before.before.before.before.before.before.before.before.before.decomp-augment-compact.auto.1.1.1.1.1.1.1.1.1.1.1.1.0
+same-length-7 : tie.Need-shape_of-a_rows_out
+same-length-7 c = c.decomp_augment_compact.auto.a_rows_out
 
-same-length-8 : tie.Need-same-length-8
-same-length-8 c = c.before.before.before.before.before.before.before.before.before.before.before.before.before.before.decomp-augment-compact.auto.1.1.1.1.1.1.1.1.1.1.1.1.1.0
+same-length-8 : tie.Need-shape_of-a_values_out
+same-length-8 c = c.decomp_augment_compact.auto.a_values_out
 
-same-length-9 : tie.Need-same-length-9
-same-length-9 c = c.before.before.before.before.before.before.before.before.before.before.before.before.before.before.decomp-augment-compact.auto.1.1.1.1.1.1.1.1.1.1.1.1.1.1.0
+same-length-9 : tie.Need-shape_of-b_out
+same-length-9 c = c.decomp_augment_compact.auto.b_out
 
-same-length-10 : tie.Need-same-length-10
-same-length-10 c = c.before.before.before.before.before.before.before.before.before.before.before.before.before.before.decomp-augment-compact.auto.1.1.1.1.1.1.1.1.1.1.1.1.1.1.1.0
+same-length-10 : tie.Need-shape_of-cones_out
+same-length-10 c = c.decomp_augment_compact.auto.cones_out
 
-same-length-11 : tie.Need-same-length-11
-same-length-11 c = c.before.before.write-table.auto.1.1.1.1.1.0
+same-length-11 : tie.Need-shape_of-map_out
+same-length-11 c = c.write_table.auto.out
 
-returns-2 : tie.Need-returns-2
+returns-2 : tie.Need-returns
 returns-2 c =
     let s = c.before.before.before.before.before.before.before.before.before.before.before.before.before.before.before.before.before.before.before.before.before.before.before.before.before.before.before.before.before.before.before.before.before in
-    let e = route_compact s.args.route c.before.before.before.before.before.before.before.before.before.before.before.before.before.before.before.before.before.before.before.before.if1.false in
-    (constrained_on (given s) e c.before.before.before.before.before.before.before.before.before.before.before.before.before.before.decomp-augment-compact.ensures, map_on (given s) e s.args.map-out.now c.before.before.write-table.ensures.1)
+    let e = route_compact s.args.route c.if-route-eq-STANDARD.false in
+    (constrained_on (given s) e c.decomp_augment_compact.ensures, map_on (given s) e s.args.map_out.now c.write_table.ensures.1)
 
 pub write_constraints_spec : {M : Type 1} → statement M
 write_constraints_spec =

@@ -21,36 +21,36 @@ front s = set (set (set s.args.out.now 0 0) 1 s.args.m) 2 0
 size : (s : tie.Start) → length (front s) ≡ length s.args.out.now
 size s = length_three s.args.out.now 0 s.args.m 0
 
-wrote : (o : tie.After-write-table)
+wrote : (o : tie.After-write_table)
     → let s = o.before.before.before.before.before in
     let k : ℕ = length (front s) - 3 in
-    take 3 (front s) ++ (o.write-table.new.1.1.1.1.1.0 ++ drop k (drop 3 (front s)))
+    take 3 (front s) ++ (o.write_table.new.out ++ drop k (drop 3 (front s)))
     ≡ written (zero_then_parts s.args.m (joined_parts s.args.cones.now s.args.count s.args.words.now)) s.args.out.now
 wrote o =
     let s = o.before.before.before.before.before in
     let ps = joined_parts s.args.cones.now s.args.count s.args.words.now in
     three_then 0 s.args.m 0 (join standard_part ps) s.args.out.now (omega (arith, s.requires.1))
-    o.write-table.ensures.1
+    o.write_table.ensures.1
 
-slice-write-out : tie.Need-slice-write-out
+slice-write-out : tie.Need-bounds-out-0
 slice-write-out c = search rules
 
-slice-write-out-2 : tie.Need-slice-write-out-2
-slice-write-out-2 c = omega (arith, length-set c.before.before.before.args.out.now 0 0)
+slice-write-out-2 : tie.Need-bounds-out-1
+slice-write-out-2 c = omega (arith, length-set c.args.out.now 0 0)
 
-slice-write-out-3 : tie.Need-slice-write-out-3
-slice-write-out-3 c = omega (arith, length-set c.before.before.before.args.out.now 0 0, length-set (set c.before.before.before.args.out.now 0 0) 1 c.before.before.before.args.m)
+slice-write-out-3 : tie.Need-bounds-out-2
+slice-write-out-3 c = omega (arith, length-set c.args.out.now 0 0, length-set (set c.args.out.now 0 0) 1 c.args.m)
 
-sub-write-table : tie.Need-overflow-sub-write-table
+sub-write-table : tie.Need-slice_bounds-write_table-count
 sub-write-table c = omega (arith, size c.before.before.before)
 
-part-write-table-start : tie.Need-slice-bounds-write-table-start
+part-write-table-start : tie.Need-slice_bounds-write_table-start
 part-write-table-start c = omega (arith, size c.before.before.before)
 
-part-write-table-end : tie.Need-slice-bounds-write-table-end
+part-write-table-end : tie.Need-slice_bounds-write_table-end
 part-write-table-end c = search rules
 
-write-table-requires : tie.Need-write-table-requires
+write-table-requires : tie.Need-write_table-requires
 write-table-requires c κs =
     let s = c.before.before.before.before in
     let ws = front s in (
@@ -67,7 +67,7 @@ write-table-requires c κs =
       ),
     )
 
-same_length : tie.Need-same-length
+same_length : tie.Need-shape_of-out
 same_length c =
     let s = c.before.before.before.before.before.before.before in
     ap length (wrote c.before.before) ∙ length-written (zero_then_parts s.args.m (joined_parts s.args.cones.now s.args.count s.args.words.now)) s.args.out.now s.requires.1

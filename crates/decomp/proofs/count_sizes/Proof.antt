@@ -25,41 +25,41 @@ given s =
     problem a.n a.m a.p_starts.now a.p_rows.now a.p_values.now a.q.now a.a_starts.now a.a_rows.now
     a.a_values.now a.b.now a.cones.now a.alphas.now a.count a.words.now
 
-abbrev start : tie.Else1 → tie.Start
+abbrev start : tie.Else-route-gt-COMPACT → tie.Start
 start c = c.before.before.before.before.before.before.before.before.before.before.before.before.before
 
-refused-as-requires : tie.Need-refused-as-requires
+refused-as-requires : tie.Need-refused_as-requires
 refused-as-requires c κs = tt
 
-returns : tie.Need-returns
-returns c = handed_on c.IsRefused-as.ensures (λ z. absurd (omega arith)) (record { number = sym (no-route _ _ c.before.if1.true); out = refl })
+returns : tie.Need-returns-then-route-gt-COMPACT
+returns c = handed_on c.IsRefused-as.ensures (λ z. absurd (omega arith)) (record { number = sym (no-route _ _ c.if-route-gt-COMPACT.true); out = refl })
 
-count-problem-requires : tie.Need-count-problem-requires
+count-problem-requires : tie.Need-count_problem-c-requires
 count-problem-requires c κs = tt
 
-refused-as-requires-2 : tie.Need-refused-as-requires-2
+refused-as-requires-2 : tie.Need-refused_as-requires-then-c-ne-DONE
 refused-as-requires-2 c κs = tt
 
-returns-2 : tie.Need-returns-2
+returns-2 : tie.Need-returns-then-c-ne-DONE
 returns-2 c =
     let k = c.before.before.before in
     let s = start k.before in
-    handed_on c.refused-as2.ensures c.before.if2.true (record {
-      number = stopped_early s.args.route (given s) (length s.args.out.now) k.before.if1.false k.count-problem.result.refusal k.count-problem.ensures.0 c.before.if2.true;
-      out = output-kept k.count-problem.result.refusal _ s.args.out.now c.before.if2.true;
+    handed_on c.refused_as-then-c-ne-DONE.ensures c.if-c-ne-DONE.true (record {
+      number = stopped_early s.args.route (given s) (length s.args.out.now) k.if-route-gt-COMPACT.false k.count_problem-c.result.refusal k.count_problem-c.ensures.0 c.if-c-ne-DONE.true;
+      out = output-kept k.count_problem-c.result.refusal _ s.args.out.now c.if-c-ne-DONE.true;
     })
 
 -- checks 1 to 7 pass
-seven : (c : tie.Else2) → problem_refusal (given (start c.before.before.before)) ≡ 0
-seven c = sym c.before.before.count-problem.ensures.0 ∙ c.if2.false
+seven : (c : tie.Else-c-ne-DONE) → problem_refusal (given (start c.before.before.before)) ≡ 0
+seven c = sym c.count_problem-c.ensures.0 ∙ c.if-c-ne-DONE.false
 
-checked : (c : tie.Else2) → Checked (given (start c.before.before.before))
+checked : (c : tie.Else-c-ne-DONE) → Checked (given (start c.before.before.before))
 checked c = problem_checked (given (start c.before.before.before)) (seven c)
 
-counts : (c : tie.Else2) → Counts (layout (given (start c.before.before.before))) c.before.before.count-problem.result
-counts c = c.before.before.count-problem.ensures.1 c.if2.false
+counts : (c : tie.Else-c-ne-DONE) → Counts (layout (given (start c.before.before.before))) c.count_problem-c.result
+counts c = c.count_problem-c.ensures.1 c.if-c-ne-DONE.false
 
-check-route-requires : tie.Need-check-route-requires
+check-route-requires : tie.Need-check_route-t-requires
 check-route-requires c κs =
     let p = given (start c.before.before.before) in
     let w = checked c in
@@ -71,41 +71,41 @@ check-route-requires c κs =
       ),
     )
 
-refused-as-requires-3 : tie.Need-refused-as-requires-3
+refused-as-requires-3 : tie.Need-refused_as-requires-then-t-ne-DONE
 refused-as-requires-3 c κs = tt
 
-returns-3 : tie.Need-returns-3
+returns-3 : tie.Need-returns-then-t-ne-DONE
 returns-3 c =
     let k = c.before.before in
     let e = k.before in
     let f = e.before.before.before in
     let s = start f in
-    handed_on c.refused-as3.ensures c.before.if3.true (record {
-      number = stopped_late s.args.route (given s) (length s.args.out.now) f.if1.false k.check-route.result (seven e) k.check-route.ensures c.before.if3.true;
-      out = output-kept k.check-route.result _ s.args.out.now c.before.if3.true;
+    handed_on c.refused_as-then-t-ne-DONE.ensures c.if-t-ne-DONE.true (record {
+      number = stopped_late s.args.route (given s) (length s.args.out.now) f.if-route-gt-COMPACT.false k.check_route-t.result (seven e) k.check_route-t.ensures c.if-t-ne-DONE.true;
+      out = output-kept k.check_route-t.result _ s.args.out.now c.if-t-ne-DONE.true;
     })
 
-ok : (c : tie.Else3) → let s = start c.before.before.before.before.before in refusal (route_of s.args.route) (given s) ≡ 0
+ok : (c : tie.Else-t-ne-DONE) → let s = start c.before.before.before.before.before in refusal (route_of s.args.route) (given s) ≡ 0
 ok c =
     let k = c.before in
     let s = start k.before.before.before.before in
-    accepted (route_of s.args.route) (given s) k.check-route.result (seven k.before) k.check-route.ensures c.if3.false
+    accepted (route_of s.args.route) (given s) k.check_route-t.result (seven k.before) k.check_route-t.ensures c.if-t-ne-DONE.false
 
-refused-as-requires-4 : tie.Need-refused-as-requires-4
+refused-as-requires-4 : tie.Need-refused_as-requires-then-out-lt-OUTPUTS
 refused-as-requires-4 c κs = tt
 
-returns-4 : tie.Need-returns-4
+returns-4 : tie.Need-returns-then-out-lt-OUTPUTS
 returns-4 c =
     let k = c.before.before in
     let e = k.before.before.before.before.before in
     let s = start e in
-    handed_on c.refused-as4.ensures (λ z. absurd (omega arith))
-    (record { number = sym (by-room s.args.route (given s) (length s.args.out.now) e.if1.false (ok k) ∙ rw (lt-leb 11 (length s.args.out.now) c.before.if4.true)); out = refl })
+    handed_on c.refused_as-then-out-lt-OUTPUTS.ensures (λ z. absurd (omega arith))
+    (record { number = sym (by-room s.args.route (given s) (length s.args.out.now) e.if-route-gt-COMPACT.false (ok k) ∙ rw (lt-leb 11 (length s.args.out.now) c.if-out-lt-OUTPUTS.true)); out = refl })
 
-cast-p-entries : tie.Need-overflow-cast-p-entries
+cast-p-entries : tie.Need-overflow_cast-p_entries
 cast-p-entries c = fits-u32 _ (checked c.before.before.before).few_entries_p
 
-count-entries-requires : tie.Need-count-entries-requires
+count-entries-requires : tie.Need-count_entries-a_entries-requires
 count-entries-requires c κs =
     let e = c.before.before.before in
     let w = checked e in
@@ -113,28 +113,28 @@ count-entries-requires c κs =
     let right = starts-right p.n p.A w.starts_a in
     ((le_of_eq (sym right.count), λ k l. (right.rise k l, right.inside (suc k) l)), omega (arith, right.even, w.few_entries_a))
 
-cast-alpha-count : tie.Need-overflow-cast-alpha-count
+cast-alpha-count : tie.Need-overflow_cast-alpha_count
 cast-alpha-count c =
     let e = c.before.before.before.before in
     let p = given (start e.before.before.before) in
     fits-u32 _ (le_trans (few-alphas p (checked e)) (lit≤ tt))
 
-write-sizes-requires : tie.Need-write-sizes-requires
+write-sizes-requires : tie.Need-write_sizes-requires
 write-sizes-requires c κs =
     let k = c.before.before.before in
     let e = k.before.before in
     let s = start e.before.before.before in
-    let r = e.before.before.count-problem.result in
+    let r = e.count_problem-c.result in
     let g = counts e in
-    (c.before.before.if4.false, rw c.before.count_entries.ensures (counts_fit (route_of s.args.route) (given s) (ok k) r.rows r.overlaps r.cones g.0 g.1 g.2))
+    (c.if-out-lt-OUTPUTS.false, rw c.count_entries-a_entries.ensures (counts_fit (route_of s.args.route) (given s) (ok k) r.rows r.overlaps r.cones g.0 g.1 g.2))
 
-with-columns-requires : tie.Need-with-columns-requires
+with-columns-requires : tie.Need-with_columns-requires
 with-columns-requires c κs = tt
 
-same_length : tie.Need-same-length
-same_length c = c.before.before.before.write-sizes.auto.1.1.1.1.1.1.1.1.1.0
+same_length : tie.Need-shape_of-out
+same_length c = c.write_sizes.auto.out
 
-returns-5 : tie.Need-returns-5
+returns-5 : tie.Need-returns
 returns-5 c =
     let w = c.before.before.before in
     let n = w.before.before in
@@ -142,19 +142,19 @@ returns-5 c =
     let e = k.before.before in
     let f = e.before.before.before in
     let s = start f in
-    let r = e.before.before.count-problem.result in
+    let r = e.count_problem-c.result in
     let g = counts e in
-    let d = c.with-columns.ensures in
-    let out = sizes-written (route_of s.args.route) (given s) (ok k) r.rows r.overlaps r.cones g.0 g.1 g.2 s.args.out.now (rw n.count_entries.ensures at w.write-sizes.ensures) in (
+    let d = c.with_columns.ensures in
+    let out = sizes-written (route_of s.args.route) (given s) (ok k) r.rows r.overlaps r.cones g.0 g.1 g.2 s.args.out.now (rw n.count_entries-a_entries.ensures at w.write_sizes.ensures) in (
       sizes_said d.0 (record {
-        number = sym (by-room s.args.route (given s) (length s.args.out.now) f.if1.false (ok k) ∙ rw (le-leb 11 (length s.args.out.now) n.before.if4.false));
+        number = sym (by-room s.args.route (given s) (length s.args.out.now) f.if-route-gt-COMPACT.false (ok k) ∙ rw (le-leb 11 (length s.args.out.now) n.if-out-lt-OUTPUTS.false));
         out = out;
       }),
       λ _. (d.1 ∙ g.0, d.2 ∙ columns_added_lem (route_of s.args.route) (layout (given s)) g.0 g.1),
     )
 
-pub count-sizes_spec : {M : Type 1} → statement M
-count-sizes_spec =
+pub count_sizes_spec : {M : Type 1} → statement M
+count_sizes_spec =
     tie.close
     (tie.spec
     refused-as-requires

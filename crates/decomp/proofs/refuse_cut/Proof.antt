@@ -11,37 +11,37 @@ given s =
     problem a.n a.m a.p_starts.now a.p_rows.now a.p_values.now a.q.now a.a_starts.now a.a_rows.now
     a.a_values.now a.b.now a.cones.now a.alphas.now a.count a.words.now
 
-abbrev start : tie.After-count-sizes → tie.Start
+abbrev start : tie.After-count_sizes-c → tie.Start
 start c = c.before.before.before.before.before.before.before.before.before.before.before.before.before.before
 
-slice-aggregate-count-sizes : tie.Need-slice-aggregate-count-sizes
+slice-aggregate-count-sizes : tie.Need-slice_bounds-count_sizes-end
 slice-aggregate-count-sizes c = search rules
 
-count-sizes-requires : tie.Need-count-sizes-requires
+count-sizes-requires : tie.Need-count_sizes-c-requires
 count-sizes-requires c κs = search rules
 
-returns : tie.Need-returns
+returns : tie.Need-returns-then-c-ne-DONE
 returns c =
     let k = c.before.before.before in
     let s = start k in (
-      sizes-first (given s) s.args.rooms.now s.args.route k.count-sizes.result.refusal k.count-sizes.ensures.0.number c.if1.true,
-      k.count-sizes.ensures.1,
+      sizes-first (given s) s.args.rooms.now s.args.route k.count_sizes-c.result.refusal k.count_sizes-c.ensures.0.number c.if-c-ne-DONE.true,
+      k.count_sizes-c.ensures.1,
     )
 
-slice-aggregate-check-rooms : tie.Need-slice-aggregate-check-rooms
+slice-aggregate-check-rooms : tie.Need-slice_bounds-check_rooms-end
 slice-aggregate-check-rooms c = search rules
 
-check-rooms-requires : tie.Need-check-rooms-requires
+check-rooms-requires : tie.Need-check_rooms-short-requires
 check-rooms-requires c κs = search rules
 
-returns-2 : tie.Need-returns-2
+returns-2 : tie.Need-returns
 returns-2 c =
     let e = c.before.before in
     let k = e.before.before.before in
     let s = start k in (
-      c.check-rooms.ensures
-          ∙ rooms-next (given s) s.args.rooms.now s.args.route k.count-sizes.result.refusal _ k.count-sizes.ensures.0.number e.if1.false k.count-sizes.ensures.0.out,
-      λ _. k.count-sizes.ensures.1 e.if1.false,
+      c.check_rooms-short.ensures
+          ∙ rooms-next (given s) s.args.rooms.now s.args.route k.count_sizes-c.result.refusal _ k.count_sizes-c.ensures.0.number e.if-c-ne-DONE.false k.count_sizes-c.ensures.0.out,
+      λ _. k.count_sizes-c.ensures.1 e.if-c-ne-DONE.false,
     )
 
 pub refuse_cut_spec : {M : Type 1} → statement M

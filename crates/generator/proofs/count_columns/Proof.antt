@@ -11,57 +11,57 @@ use Rattle.generator.proofs.Columns.{entries_more}
 use Rattle.generator.proofs.count_columns.Statement.{statement}
 use Rattle.generator.proofs.count_columns.Tie as tie
 
-abbrev invariant-loop : tie.invariant-loop
+abbrev invariant-loop : tie.invariant-loop-c
 invariant-loop s rows n state₀ entries₀ c₀ state entries c =
     (c ≤ n) × (state ≡ after_columns s rows c) × (entries ≡ sum (map length (drawn_columns s rows c))) × (entries ≤ 2080 * c)
 
-abbrev decreases-loop : tie.decreases-loop
+abbrev decreases-loop : tie.decreases-loop-c
 decreases-loop s rows n state₀ entries₀ c₀ state entries c = n - c
 
 -- a column has at most 2,080 entries, and the columns before c have at most 2,080 each
-few : (t : tie.After-count-column invariant-loop decreases-loop) → (t.count-column.result.count ≤ 2080) × (t.before.before.loop.entries ≤ 2080 * t.before.before.loop.c)
+few : (t : tie.After-count_column-d invariant-loop decreases-loop) → (t.count_column-d.result.count ≤ 2080) × (t.loop-c.entries ≤ 2080 * t.loop-c.c)
 few t =
     let l = t.before.before in
-    let a = l.before.before.args in
-    (omega (arith, t.count-column.ensures.0, column-length l.loop.state a.rows.now), l.loop.invariant.3)
+    let a = l.args in
+    (omega (arith, t.count_column-d.ensures.0, column-length l.loop-c.state a.rows.now), l.loop-c.invariant.3)
 
-loop-holds : tie.Need-loop-init invariant-loop decreases-loop
+loop-holds : tie.Need-loop-c-init invariant-loop decreases-loop
 loop-holds c = search rules
 
-count-column-requires : tie.Need-count-column-requires invariant-loop decreases-loop
+count-column-requires : tie.Need-count_column-d-requires invariant-loop decreases-loop
 count-column-requires c κs = search rules
 
-cast-entries : tie.Need-overflow-cast-entries invariant-loop decreases-loop
+cast-entries : tie.Need-overflow_cast-entries invariant-loop decreases-loop
 cast-entries c = omega (arith, few c.before)
 
-add-entries : tie.Need-overflow-add-entries invariant-loop decreases-loop
+add-entries : tie.Need-overflow_add-entries invariant-loop decreases-loop
 add-entries c = omega (arith, few c.before)
 
-add-c : tie.Need-overflow-add-c invariant-loop decreases-loop
+add-c : tie.Need-overflow_add-c invariant-loop decreases-loop
 add-c c = omega arith
 
-loop-less : tie.Need-loop-smaller invariant-loop decreases-loop
+loop-less : tie.Need-loop-c-smaller invariant-loop decreases-loop
 loop-less c = omega arith
 
-loop-again : tie.Need-loop-preserved invariant-loop decreases-loop
+loop-again : tie.Need-loop-c-preserved invariant-loop decreases-loop
 loop-again c =
     let t = c.before in
     let l = t.before.before in
-    let a = l.before.before.args in
-    let d = t.count-column.ensures in
-    let here : length (drawn_column l.loop.state a.rows.now) ≡ length (drawn_column (after_columns a.s a.rows.now l.loop.c) a.rows.now) =
-    ap (λ (u : ℕ). length (drawn_column u a.rows.now)) l.loop.invariant.1 in (
+    let a = l.args in
+    let d = t.count_column-d.ensures in
+    let here : length (drawn_column l.loop-c.state a.rows.now) ≡ length (drawn_column (after_columns a.s a.rows.now l.loop-c.c) a.rows.now) =
+    ap (λ (u : ℕ). length (drawn_column u a.rows.now)) l.loop-c.invariant.1 in (
       omega arith,
-      d.1 ∙ ap (λ (u : ℕ). after_column u a.rows.now) l.loop.invariant.1 ∙ sym (afters_more a.s a.rows.now l.loop.c),
-      omega (arith, d.0, here, entries_more a.s a.rows.now l.loop.c),
+      d.1 ∙ ap (λ (u : ℕ). after_column u a.rows.now) l.loop-c.invariant.1 ∙ sym (afters_more a.s a.rows.now l.loop-c.c),
+      omega (arith, d.0, here, entries_more a.s a.rows.now l.loop-c.c),
       omega (arith, few t),
     )
 
 returns : tie.Need-returns invariant-loop decreases-loop
 returns c =
     let l = c.before in
-    let e : l.loop.c ≡ l.before.before.args.n = omega arith in
-    rw e at l.loop.invariant.2
+    let e : l.loop-c.c ≡ l.args.n = omega arith in
+    rw e at l.loop-c.invariant.2
 
 pub count_columns_spec : {M : Type 1} → statement M
 count_columns_spec =

@@ -14,24 +14,24 @@ use Rattle.generator.proofs.draw_rows.Tie as tie
 size : (s : tie.Start) → length (take s.args.v (replicate {A = ℕ} 64 0)) ≡ s.args.v
 size s = length-take-le s.args.v (replicate {A = ℕ} 64 0) (omega (arith, s.requires.1, length-replicate {A = ℕ} 64 0))
 
-array-borrow-prefix-ordering : tie.Need-array-borrow-prefix-ordering
+array-borrow-prefix-ordering : tie.Need-slice_bounds-ordering-end
 array-borrow-prefix-ordering c = search rules
 
-slice-aggregate-draw-band : tie.Need-slice-aggregate-draw-band
+slice-aggregate-draw-band : tie.Need-slice_bounds-draw_band-end
 slice-aggregate-draw-band c = sym (size c.before.before)
 
-array-borrow-prefix-places : tie.Need-array-borrow-prefix-places
+array-borrow-prefix-places : tie.Need-slice_bounds-places-end
 array-borrow-prefix-places c = search rules
 
-slice-aggregate-draw-band-2 : tie.Need-slice-aggregate-draw-band-2
+slice-aggregate-draw-band-2 : tie.Need-slice_bounds-draw_band-end-2
 slice-aggregate-draw-band-2 c = sym (size c.before.before.before)
 
-draw-band-requires : tie.Need-draw-band-requires
+draw-band-requires : tie.Need-draw_band-requires
 draw-band-requires c κs =
     let s = c.before.before.before.before in
     (omega (arith, size s), omega (arith, size s), refl, omega (arith, s.requires.2))
 
-same_length : tie.Need-same-length
+same_length : tie.Need-shape_of-rows
 same_length c = search rules
 
 returns : tie.Need-returns
@@ -39,13 +39,13 @@ returns c =
     let d = c.before.before.before.before in
     let s = d.before.before.before.before.before in
     let e = size s in
-    let w = d.draw-band.ensures in (
+    let w = d.draw_band.ensures in (
       (w.0.0 ∙ ap (λ (k : ℕ). draws (k - 1) s.args.seed) e, w.0.1 ∙ ap (λ (k : ℕ). length (band_rows (drawn_ordering s.args.seed k) k s.args.w)) e),
       w.1 ∙ ap (λ (k : ℕ). written (band_rows (drawn_ordering s.args.seed k) k s.args.w) s.args.rows.now) e,
     )
 
-pub draw-rows_spec : {M : Type 1} → statement M
-draw-rows_spec =
+pub draw_rows_spec : {M : Type 1} → statement M
+draw_rows_spec =
     tie.close
     (tie.spec
     array-borrow-prefix-ordering

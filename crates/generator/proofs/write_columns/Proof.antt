@@ -17,7 +17,7 @@ use Rattle.generator.proofs.Columns.{entries_more, starts_more, rows_more, value
 use Rattle.generator.proofs.write_columns.Statement.{statement}
 use Rattle.generator.proofs.write_columns.Tie as tie
 
-abbrev invariant-loop : tie.invariant-loop
+abbrev invariant-loop : tie.invariant-loop-c
 invariant-loop s rows n starts-out₀ rows-out₀ values-out₀ state₀ at₀ c₀ starts-out rows_out values-out state at c =
     (c ≤ n) × (length starts-out ≡ length starts-out₀) × (length rows_out ≡ length rows-out₀) × (length values-out ≡ length values-out₀)
     × (at ≤ 2080 * c) × (at ≡ sum (map length (drawn_columns s rows c))) × (state ≡ after_columns s rows c)
@@ -25,142 +25,142 @@ invariant-loop s rows n starts-out₀ rows-out₀ values-out₀ state₀ at₀ c
     × (rows_out ≡ written (csc (drawn_columns s rows c)).rows rows-out₀)
     × (values-out ≡ written (csc (drawn_columns s rows c)).values values-out₀)
 
-abbrev decreases-loop : tie.decreases-loop
+abbrev decreases-loop : tie.decreases-loop-c
 decreases-loop s rows n starts-out₀ rows-out₀ values-out₀ state₀ at₀ c₀ starts-out rows_out values-out state at c = n - c
 
 -- the outputs have room for the next column
-room : (l : tie.At-loop invariant-loop decreases-loop) → let a = l.before.before.before.before.before.args in l.loop.c < a.n
-    → (l.loop.at + length (drawn_column l.loop.state a.rows.now) ≤ length l.loop.rows_out)
-    × (l.loop.at + length (drawn_column l.loop.state a.rows.now) ≤ length l.loop.values-out)
-    × (l.loop.at ≤ 133120)
+room : (l : tie.At-loop-c invariant-loop decreases-loop) → let a = l.args in l.loop-c.c < a.n
+    → (l.loop-c.at + length (drawn_column l.loop-c.state a.rows.now) ≤ length l.loop-c.rows_out)
+    × (l.loop-c.at + length (drawn_column l.loop-c.state a.rows.now) ≤ length l.loop-c.values_out)
+    × (l.loop-c.at ≤ 133120)
 room l h =
     let s = l.before.before.before.before.before in
     let a = s.args in
-    let fits = column_fits a.s a.rows.now a.n l.loop.c h in
-    let here : length (drawn_column l.loop.state a.rows.now) ≡ length (drawn_column (after_columns a.s a.rows.now l.loop.c) a.rows.now) =
-    ap (λ (u : ℕ). length (drawn_column u a.rows.now)) l.loop.invariant.6 in
+    let fits = column_fits a.s a.rows.now a.n l.loop-c.c h in
+    let here : length (drawn_column l.loop-c.state a.rows.now) ≡ length (drawn_column (after_columns a.s a.rows.now l.loop-c.c) a.rows.now) =
+    ap (λ (u : ℕ). length (drawn_column u a.rows.now)) l.loop-c.invariant.6 in
     (omega (arith, s.requires.1.0), omega (arith, s.requires.1.1), omega (arith, s.requires.0.1))
 
-starts_long : (l : tie.At-loop invariant-loop decreases-loop) → length l.loop.starts-out ≡ length l.before.before.before.before.before.args.starts-out.now
-starts_long l = let a = l.before.before.before.before.before.args in l.loop.invariant.1 ∙ length-set a.starts-out.now 0 0
+starts_long : (l : tie.At-loop-c invariant-loop decreases-loop) → length l.loop-c.starts_out ≡ length l.args.starts_out.now
+starts_long l = let a = l.args in l.loop-c.invariant.1 ∙ length-set a.starts_out.now 0 0
 
-few : (t : tie.After-write-column invariant-loop decreases-loop)
-    → let l = t.before.before.before.before in (t.write-column.result.count ≤ 2080) × (l.loop.at ≤ 2080 * l.loop.c) × (l.loop.c < 64)
+few : (t : tie.After-write_column-d invariant-loop decreases-loop)
+    → let l = t.before.before.before.before in (t.write_column-d.result.count ≤ 2080) × (l.loop-c.at ≤ 2080 * l.loop-c.c) × (l.loop-c.c < 64)
 few t =
     let l = t.before.before.before.before in
     let s = l.before.before.before.before.before in
-    (omega (arith, t.write-column.ensures.0.0, column-length l.loop.state s.args.rows.now, s.requires.0.0), l.loop.invariant.4, omega (arith, s.requires.0.1))
+    (omega (arith, t.write_column-d.ensures.0.0, column-length l.loop-c.state s.args.rows.now, s.requires.0.0), l.loop-c.invariant.4, omega (arith, s.requires.0.1))
 
-slice-write-starts-out : tie.Need-slice-write-starts-out invariant-loop decreases-loop
+slice-write-starts-out : tie.Need-bounds-starts_out-0 invariant-loop decreases-loop
 slice-write-starts-out c = omega arith
 
-loop-holds : tie.Need-loop-init invariant-loop decreases-loop
+loop-holds : tie.Need-loop-c-init invariant-loop decreases-loop
 loop-holds c =
-    let a = c.before.before.before.before.args in
-    (search rules, refl, refl, refl, search rules, refl, refl, first_stored a.starts-out.now (omega arith), refl, refl)
+    let a = c.args in
+    (search rules, refl, refl, refl, search rules, refl, refl, first_stored a.starts_out.now (omega arith), refl, refl)
 
-mul-write-column : tie.Need-overflow-mul-write-column invariant-loop decreases-loop
+mul-write-column : tie.Need-offset_bounds-rows_out-at invariant-loop decreases-loop
 mul-write-column c = omega (arith, room c.before (omega arith))
 
-sub-write-column : tie.Need-overflow-sub-write-column invariant-loop decreases-loop
+sub-write-column : tie.Need-slice_bounds-write_column-count invariant-loop decreases-loop
 sub-write-column c = omega (arith, room c.before (omega arith))
 
-part-write-column-start : tie.Need-slice-bounds-write-column-start invariant-loop decreases-loop
+part-write-column-start : tie.Need-slice_bounds-write_column-start invariant-loop decreases-loop
 part-write-column-start c = omega (arith, room c.before (omega arith))
 
-part-write-column-end : tie.Need-slice-bounds-write-column-end invariant-loop decreases-loop
+part-write-column-end : tie.Need-slice_bounds-write_column-end invariant-loop decreases-loop
 part-write-column-end c = omega (arith, room c.before (omega arith))
 
-mul-write-column-2 : tie.Need-overflow-mul-write-column-2 invariant-loop decreases-loop
+mul-write-column-2 : tie.Need-offset_bounds-values_out-at invariant-loop decreases-loop
 mul-write-column-2 c = omega (arith, room c.before.before (omega arith))
 
-sub-write-column-2 : tie.Need-overflow-sub-write-column-2 invariant-loop decreases-loop
+sub-write-column-2 : tie.Need-slice_bounds-write_column-count-in-loop-c invariant-loop decreases-loop
 sub-write-column-2 c = omega (arith, room c.before.before (omega arith))
 
-part-write-column-start-2 : tie.Need-slice-bounds-write-column-start-2 invariant-loop decreases-loop
+part-write-column-start-2 : tie.Need-slice_bounds-write_column-start-in-loop-c invariant-loop decreases-loop
 part-write-column-start-2 c = omega (arith, room c.before.before (omega arith))
 
-part-write-column-end-2 : tie.Need-slice-bounds-write-column-end-2 invariant-loop decreases-loop
+part-write-column-end-2 : tie.Need-slice_bounds-write_column-end-in-loop-c invariant-loop decreases-loop
 part-write-column-end-2 c = omega (arith, room c.before.before (omega arith))
 
-write-column-requires : tie.Need-write-column-requires invariant-loop decreases-loop
+write-column-requires : tie.Need-write_column-d-requires invariant-loop decreases-loop
 write-column-requires c κs =
     let l = c.before.before.before in
-    (omega (arith, room l (omega arith), length_tail l.loop.rows_out l.loop.at), omega (arith, room l (omega arith), length_tail l.loop.values-out l.loop.at))
+    (omega (arith, room l (omega arith), length_tail l.loop-c.rows_out l.loop-c.at), omega (arith, room l (omega arith), length_tail l.loop-c.values_out l.loop-c.at))
 
-add_at : tie.Need-overflow-add-at invariant-loop decreases-loop
+add_at : tie.Need-overflow_add-at invariant-loop decreases-loop
 add_at c = omega (arith, few c.before.before.before.before.before)
 
-add-c : tie.Need-overflow-add-c invariant-loop decreases-loop
+add-c : tie.Need-overflow_add-c invariant-loop decreases-loop
 add-c c = omega arith
 
-cast-starts-out : tie.Need-overflow-cast-starts-out invariant-loop decreases-loop
+cast-starts-out : tie.Need-overflow_cast-starts_out invariant-loop decreases-loop
 cast-starts-out c = omega (arith, few c.before.before.before.before.before)
 
-cast-starts-out-2 : tie.Need-overflow-cast-starts-out-2 invariant-loop decreases-loop
+cast-starts-out-2 : tie.Need-overflow_cast-starts_out-in-loop-c invariant-loop decreases-loop
 cast-starts-out-2 c = omega (arith, few c.before.before.before.before.before)
 
-mul-starts-out : tie.Need-overflow-mul-starts-out invariant-loop decreases-loop
+mul-starts-out : tie.Need-offset_bounds-starts_out-c invariant-loop decreases-loop
 mul-starts-out c = omega (arith, few c.before.before.before.before.before)
 
-slice-write-starts-out-2 : tie.Need-slice-write-starts-out-2 invariant-loop decreases-loop
-slice-write-starts-out-2 c = omega (arith, starts_long c.before.before.before.before.before.before.before.before.before, c.before.before.before.before.before.before.before.before.before.before.before.before.before.before.requires.0.2)
+slice-write-starts-out-2 : tie.Need-bounds-starts_out-c invariant-loop decreases-loop
+slice-write-starts-out-2 c = omega (arith, starts_long c.before.before.before.before.before.before.before.before.before, c.requires.0.2)
 
-loop-less : tie.Need-loop-smaller invariant-loop decreases-loop
+loop-less : tie.Need-loop-c-smaller invariant-loop decreases-loop
 loop-less c = omega arith
 
-loop-again : tie.Need-loop-preserved invariant-loop decreases-loop
+loop-again : tie.Need-loop-c-preserved invariant-loop decreases-loop
 loop-again c =
     let t = c.before.before.before.before.before in
     let l = t.before.before.before.before in
     let s = l.before.before.before.before.before in
     let a = s.args in
-    let k = l.loop.c in
+    let k = l.loop-c.c in
     let rs = a.rows.now in
     let cs = drawn_columns a.s rs k in
-    let new = drawn_column l.loop.state rs in
-    let after : new ≡ drawn_column (after_columns a.s rs k) rs = ap (λ (u : ℕ). drawn_column u rs) l.loop.invariant.6 in
-    let w = t.write-column.ensures in
+    let new = drawn_column l.loop-c.state rs in
+    let after : new ≡ drawn_column (after_columns a.s rs k) rs = ap (λ (u : ℕ). drawn_column u rs) l.loop-c.invariant.6 in
+    let w = t.write_column-d.ensures in
     let fit = room l (omega arith) in
-    let more : l.loop.at + t.write-column.result.count ≡ sum (map length (drawn_columns a.s rs (k + 1))) =
-    omega (arith, entries_more a.s rs k, w.0.0, ap length after, l.loop.invariant.5) in
-    let rows = written_after (csc cs).rows (rows_of new) a.rows_out.now l.loop.at (l.loop.invariant.5 ∙ sym (even cs ∙ entry_count cs))
-    (omega (arith, fit, even cs, entry_count cs, length-map new (λ (e : Entry). e.row))) l.loop.invariant.8 w.1.0 in
-    let values = written_after (csc cs).values (values_of new) a.values-out.now l.loop.at (l.loop.invariant.5 ∙ sym (entry_count cs))
-    (omega (arith, fit, entry_count cs, length-map new (λ (e : Entry). e.value))) l.loop.invariant.9 w.1.1 in (
+    let more : l.loop-c.at + t.write_column-d.result.count ≡ sum (map length (drawn_columns a.s rs (k + 1))) =
+    omega (arith, entries_more a.s rs k, w.0.0, ap length after, l.loop-c.invariant.5) in
+    let rows = written_after (csc cs).rows (rows_of new) a.rows_out.now l.loop-c.at (l.loop-c.invariant.5 ∙ sym (even cs ∙ entry_count cs))
+    (omega (arith, fit, even cs, entry_count cs, length-map new (λ (e : Entry). e.row))) l.loop-c.invariant.8 w.1.0 in
+    let values = written_after (csc cs).values (values_of new) a.values_out.now l.loop-c.at (l.loop-c.invariant.5 ∙ sym (entry_count cs))
+    (omega (arith, fit, entry_count cs, length-map new (λ (e : Entry). e.value))) l.loop-c.invariant.9 w.1.1 in (
       omega arith,
-      length-set l.loop.starts-out (k + 1) _ ∙ l.loop.invariant.1,
+      length-set l.loop-c.starts_out (k + 1) _ ∙ l.loop-c.invariant.1,
       ap length rows ∙ length-written ((csc cs).rows ++ rows_of new) a.rows_out.now
           (omega (arith, fit, length-append (csc cs).rows (rows_of new), even cs, entry_count cs, length-map new (λ (e : Entry). e.row))),
-      ap length values ∙ length-written ((csc cs).values ++ values_of new) a.values-out.now
+      ap length values ∙ length-written ((csc cs).values ++ values_of new) a.values_out.now
           (omega (arith, fit, length-append (csc cs).values (values_of new), entry_count cs, length-map new (λ (e : Entry). e.value))),
       omega (arith, few t),
       more,
-      w.0.1 ∙ ap (λ (u : ℕ). after_column u rs) l.loop.invariant.6 ∙ sym (afters_more a.s rs k),
-      rw (l.loop.invariant.7, starts_more a.s rs k, more)
-          (set-written (csc cs).starts (set a.starts-out.now 0 0) _ (k + 1) (sym (starts-many a.s rs k)) (omega (arith, starts_long l, l.loop.invariant.1, s.requires.0.2))),
+      w.0.1 ∙ ap (λ (u : ℕ). after_column u rs) l.loop-c.invariant.6 ∙ sym (afters_more a.s rs k),
+      rw (l.loop-c.invariant.7, starts_more a.s rs k, more)
+          (set-written (csc cs).starts (set a.starts_out.now 0 0) _ (k + 1) (sym (starts-many a.s rs k)) (omega (arith, starts_long l, l.loop-c.invariant.1, s.requires.0.2))),
       rows ∙ ap (λ (xs : List ℕ). written xs a.rows_out.now) (ap (λ (es : List Entry). (csc cs).rows ++ rows_of es) after ∙ sym (rows_more a.s rs k)),
-      values ∙ ap (λ (xs : List Float). written xs a.values-out.now) (ap (λ (es : List Entry). (csc cs).values ++ values_of es) after ∙ sym (values_more a.s rs k)),
+      values ∙ ap (λ (xs : List Float). written xs a.values_out.now) (ap (λ (es : List Entry). (csc cs).values ++ values_of es) after ∙ sym (values_more a.s rs k)),
     )
 
-same_length : tie.Need-same-length invariant-loop decreases-loop
+same_length : tie.Need-shape_of-starts_out invariant-loop decreases-loop
 same_length c = starts_long c.before
 
-same-length-2 : tie.Need-same-length-2 invariant-loop decreases-loop
-same-length-2 c = c.before.loop.invariant.2
+same-length-2 : tie.Need-shape_of-rows_out invariant-loop decreases-loop
+same-length-2 c = c.loop-c.invariant.2
 
-same-length-3 : tie.Need-same-length-3 invariant-loop decreases-loop
-same-length-3 c = c.before.loop.invariant.3
+same-length-3 : tie.Need-shape_of-values_out invariant-loop decreases-loop
+same-length-3 c = c.loop-c.invariant.3
 
 returns : tie.Need-returns invariant-loop decreases-loop
 returns c =
     let l = c.before in
-    let a = l.before.before.before.before.before.args in
-    let e : l.loop.c ≡ a.n = omega arith in (
-      rw e at l.loop.invariant.6,
+    let a = l.args in
+    let e : l.loop-c.c ≡ a.n = omega arith in (
+      rw e at l.loop-c.invariant.6,
       (
-        (rw e at l.loop.invariant.7) ∙ starts_cover a.s a.rows.now a.n a.starts-out.now,
-        (rw e at l.loop.invariant.8, rw e at l.loop.invariant.9),
+        (rw e at l.loop-c.invariant.7) ∙ starts_cover a.s a.rows.now a.n a.starts_out.now,
+        (rw e at l.loop-c.invariant.8, rw e at l.loop-c.invariant.9),
       ),
     )
 

@@ -12,45 +12,45 @@ use Rattle.generator.proofs.write_constraints.Statement.{statement}
 use Rattle.generator.proofs.write_constraints.Tie as tie
 
 -- past the first test the arguments are in range
-inside : (e : tie.Else1) → let a = e.before.before.before.before.before.before.before.args in in_ranges a.seed a.v a.w a.n ≡ true
-inside e = sym e.before.in-ranges.ensures ∙ not-false _ e.if1.false
+inside : (e : tie.Else-not-in_ranges) → let a = e.args in in_ranges a.seed a.v a.w a.n ≡ true
+inside e = sym e.in_ranges.ensures ∙ not-false _ e.if-not-in_ranges.false-raw
 
-in-ranges-requires : tie.Need-in-ranges-requires
+in-ranges-requires : tie.Need-in_ranges-requires
 in-ranges-requires c κs = search rules
 
-returns : tie.Need-returns
+returns : tie.Need-returns-then-not-in_ranges
 returns c =
-    let a = c.before.before.before.before.before.before.before.args in
-    (ranges_first a.seed a.v a.w a.n a.rooms.now (sym c.before.in-ranges.ensures ∙ not-true _ c.if1.true), (refl, (refl, (refl, refl))))
+    let a = c.args in
+    (ranges_first a.seed a.v a.w a.n a.rooms.now (sym c.in_ranges.ensures ∙ not-true _ c.if-not-in_ranges.true-raw), (refl, (refl, (refl, refl))))
 
-slice-aggregate-write-drawn : tie.Need-slice-aggregate-write-drawn
+slice-aggregate-write-drawn : tie.Need-slice_bounds-write_drawn-end
 slice-aggregate-write-drawn c = sym (length-replicate {A = ℕ} 2080 0)
 
-write-drawn-requires : tie.Need-write-drawn-requires
+write-drawn-requires : tie.Need-write_drawn-requires
 write-drawn-requires c κs =
     let e = c.before.before.before.before.before in
     let s = e.before.before.before.before.before.before.before in
     let a = s.args in
     ((passes (in_ranges a.seed a.v a.w a.n) (inside e), le_of_eq (sym (length-replicate {A = ℕ} 2080 0))), s.requires)
 
-same_length : tie.Need-same-length
+same_length : tie.Need-shape_of-a_starts_out
 same_length c = search rules
 
-same-length-2 : tie.Need-same-length-2
+same-length-2 : tie.Need-shape_of-a_rows_out
 same-length-2 c = search rules
 
-same-length-3 : tie.Need-same-length-3
+same-length-3 : tie.Need-shape_of-a_values_out
 same-length-3 c = search rules
 
-same-length-4 : tie.Need-same-length-4
+same-length-4 : tie.Need-shape_of-b_out
 same-length-4 c = search rules
 
-returns-2 : tie.Need-returns-2
+returns-2 : tie.Need-returns
 returns-2 c =
     let y = c.before.before.before.before.before.before.before.before.before in
     let e = y.before.before.before.before.before.before in
-    let a = e.before.before.before.before.before.before.before.args in
-    (y.write-drawn.ensures.0 ∙ rooms-next a.seed a.v a.w a.n a.rooms.now (inside e), y.write-drawn.ensures.1)
+    let a = e.args in
+    (y.write_drawn.ensures.0 ∙ rooms-next a.seed a.v a.w a.n a.rooms.now (inside e), y.write_drawn.ensures.1)
 
 pub write_constraints_spec : {M : Type 1} → statement M
 write_constraints_spec =

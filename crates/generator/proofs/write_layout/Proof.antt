@@ -14,24 +14,24 @@ use Rattle.generator.proofs.write_layout.Tie as tie
 size : (s : tie.Start) → length (take s.args.v (replicate {A = ℕ} 64 0)) ≡ s.args.v
 size s = length-take-le s.args.v (replicate {A = ℕ} 64 0) (omega (arith, s.requires.1, length-replicate {A = ℕ} 64 0))
 
-write-cone-requires : tie.Need-write-cone-requires
+write-cone-requires : tie.Need-write_cone-requires
 write-cone-requires c κs = search rules
 
-array-borrow-prefix-ordering : tie.Need-array-borrow-prefix-ordering
+array-borrow-prefix-ordering : tie.Need-slice_bounds-ordering-end
 array-borrow-prefix-ordering c = search rules
 
-slice-aggregate-write-pattern : tie.Need-slice-aggregate-write-pattern
+slice-aggregate-write-pattern : tie.Need-slice_bounds-write_pattern-end
 slice-aggregate-write-pattern c = sym (size c.before.before.before.before.before.before.before)
 
-write-pattern-requires : tie.Need-write-pattern-requires
+write-pattern-requires : tie.Need-write_pattern-requires
 write-pattern-requires c κs =
     let s = c.before.before.before.before.before.before.before.before in
-    subst (λ (k : ℕ). (s.args.w < k) × (k ≤ 64) × (3 + k + (k - s.args.w) * (s.args.w + 4) ≤ length s.args.words-out.now)) (sym (size s)) (s.requires.0, s.requires.1, s.requires.3)
+    subst (λ (k : ℕ). (s.args.w < k) × (k ≤ 64) × (3 + k + (k - s.args.w) * (s.args.w + 4) ≤ length s.args.words_out.now)) (sym (size s)) (s.requires.0, s.requires.1, s.requires.3)
 
-same_length : tie.Need-same-length
+same_length : tie.Need-shape_of-cones_out
 same_length c = search rules
 
-same-length-2 : tie.Need-same-length-2
+same-length-2 : tie.Need-shape_of-words_out
 same-length-2 c = search rules
 
 returns : tie.Need-returns
@@ -39,9 +39,9 @@ returns c =
     let p = c.before.before.before in
     let k = p.before.before.before.before.before in
     let s = k.before.before.before.before in (
-      k.write-cone.ensures,
-      p.write-pattern.ensures
-          ∙ ap (λ (i : ℕ). written (pattern_words_of (band (drawn_ordering s.args.seed i) i s.args.w)) s.args.words-out.now) (size s),
+      k.write_cone.ensures,
+      p.write_pattern.ensures
+          ∙ ap (λ (i : ℕ). written (pattern_words_of (band (drawn_ordering s.args.seed i) i s.args.w)) s.args.words_out.now) (size s),
     )
 
 pub write_layout_spec : {M : Type 1} → statement M

@@ -14,22 +14,22 @@ use borrow.Author.Rules.{rules}
 use Rattle.inverse_permutation.proofs.long_inverse.Statement.{statement}
 use Rattle.inverse_permutation.proofs.long_inverse.Tie as tie
 
-is-long-permutation-requires : tie.Need-is-long-permutation-requires
+is-long-permutation-requires : tie.Need-is_long_permutation-requires
 is-long-permutation-requires c κs = search rules
 
-returns : tie.Need-returns
+returns : tie.Need-returns-then-not-is_long_permutation
 returns c =
     let a = c.before in
     let s = a.before.before.before in
     let ps = s.args.p.now in
     let old = s.args.out.now in
-    record { number = sym (refused_order ps (length old) (sym a.is-long-permutation.ensures ∙ not-true _ c.if1.true)); out = refl }
+    record { number = sym (refused_order ps (length old) (sym a.is_long_permutation.ensures ∙ not-true _ c.if-not-is_long_permutation.true-raw)); out = refl }
 
 -- past the first test p is a permutation
-permutes : (c : tie.Else1) → is_permutation c.before.before.before.before.args.p.now ≡ true
-permutes c = sym c.before.is-long-permutation.ensures ∙ not-false _ c.if1.false
+permutes : (c : tie.Else-not-is_long_permutation) → is_permutation c.args.p.now ≡ true
+permutes c = sym c.is_long_permutation.ensures ∙ not-false _ c.if-not-is_long_permutation.false-raw
 
-returns-2 : tie.Need-returns-2
+returns-2 : tie.Need-returns-then-out-p
 returns-2 c =
     let s = c.before.before.before.before.before in
     let ps = s.args.p.now in
@@ -40,15 +40,15 @@ scatter-requires : tie.Need-scatter-requires
 scatter-requires c κs =
     let f = c.before.before in
     let k = f.before.before.before in
-    let ps = k.before.args.p.now in
+    let ps = k.args.p.now in
     let h : T (is_permutation ps) = passes (is_permutation ps) (permutes f) in
-    let few : length ps ≤ 4294967296 = distinct-below 4294967296 ps (permutation-distinct ps h) (λ i l. omega (arith, k.shared-slice-known.given i)) in
+    let few : length ps ≤ 4294967296 = distinct-below 4294967296 ps (permutation-distinct ps h) (λ i l. omega (arith, k.shared_slice_known-1.given i)) in
     (permutation-below ps _ h (omega arith), omega arith)
 
-same_length : tie.Need-same-length
+same_length : tie.Need-shape_of-out
 same_length c = search rules
 
-returns-3 : tie.Need-returns-3
+returns-3 : tie.Need-returns
 returns-3 c =
     let w = c.before.before in
     let e = w.before.before in

@@ -10,37 +10,37 @@ use borrow.Author.Rules.{rules}
 use Rattle.join_blocks.proofs.count_column.Statement.{statement}
 use Rattle.join_blocks.proofs.count_column.Tie as tie
 
-room : (t : tie.Then1) → Countable true (suc t.before.args.o) 1 t.before.args.counts.now
-room t = subst (λ (b : Bool). Countable b (suc t.before.args.o) 1 t.before.args.counts.now) t.if1.true t.before.requires
+room : (t : tie.Then-standard) → Countable true (suc t.args.o) 1 t.args.counts.now
+room t = subst (λ (b : Bool). Countable b (suc t.args.o) 1 t.args.counts.now) t.if-standard.true t.requires
 
-mul-counts : tie.Need-overflow-mul-counts
+mul-counts : tie.Need-offset_bounds-counts-o
 mul-counts c = omega (arith, (room c).0)
 
-slice-read-counts : tie.Need-slice-read-counts
+slice-read-counts : tie.Need-bounds-counts-o
 slice-read-counts c = omega (arith, (room c.before).0)
 
-add-counts : tie.Need-overflow-add-counts
-add-counts c = omega (arith, (room c.before).1 c.before.before.args.o (omega arith))
+add-counts : tie.Need-overflow_add-counts
+add-counts c = omega (arith, (room c.before).1 c.args.o (omega arith))
 
-slice-write-counts : tie.Need-slice-write-counts
+slice-write-counts : tie.Need-bounds-counts-o-then-standard
 slice-write-counts c = omega (arith, (room c.before).0)
 
-same_length : tie.Need-same-length
+same_length : tie.Need-shape_of-counts
 same_length c = search rules
 
-returns : tie.Need-returns
+returns : tie.Need-returns-then-standard
 returns c =
-    let a = c.before.before.args in
-    subst (λ (b : Bool). Counts b (a.o ∷ []) a.counts.now (set a.counts.now a.o (get_or a.counts.now a.o 0 + 1))) (sym c.before.if1.true)
+    let a = c.args in
+    subst (λ (b : Bool). Counts b (a.o ∷ []) a.counts.now (set a.counts.now a.o (get_or a.counts.now a.o 0 + 1))) (sym c.if-standard.true)
     (counts_one a.counts.now a.o (room c.before).0)
 
-returns-2 : tie.Need-returns-2
+returns-2 : tie.Need-returns-else-standard
 returns-2 c =
-    let a = c.before.args in
-    subst (λ (b : Bool). Counts b (a.o ∷ []) a.counts.now a.counts.now) (sym c.if1.false) tt
+    let a = c.args in
+    subst (λ (b : Bool). Counts b (a.o ∷ []) a.counts.now a.counts.now) (sym c.if-standard.false) tt
 
-pub count-column_spec : {M : Type 1} → statement M
-count-column_spec =
+pub count_column_spec : {M : Type 1} → statement M
+count_column_spec =
     tie.close
     (tie.spec
     mul-counts

@@ -16,14 +16,14 @@ use native.Mathlib.Omega.{arith}
 use Rattle.join_blocks.proofs.join_block.Statement.{statement}
 use Rattle.join_blocks.proofs.join_block.Tie as tie
 
-abbrev invariant-loop : tie.invariant-loop
+abbrev invariant-loop : tie.invariant-loop-j
 invariant-loop standard vertices first s z s-out₀ z-out₀ counts₀ t₀ j₀ s-out z-out counts t j =
     let B = columns_below (pair_row 0) vertices j in
     (j ≤ length vertices) × (t ≡ first + triangle j) × (t ≡ first + length B)
     × (length s-out ≡ length s-out₀) × (length z-out ≡ length z-out₀) × (length counts ≡ length counts₀)
     × (s-out ≡ add_columns B (drop first s) s-out₀) × (z-out ≡ join_z standard B (drop first z) z-out₀) × Counts standard B counts₀ counts
 
-abbrev decreases-loop : tie.decreases-loop
+abbrev decreases-loop : tie.decreases-loop-j
 decreases-loop standard vertices first s z s-out₀ z-out₀ counts₀ t₀ j₀ s-out z-out counts t j = length vertices - j
 
 -- ---- numbers
@@ -48,123 +48,123 @@ column_in k n m h e = omega arith
 
 -- ---- one turn of the loop
 
-abbrev start : (l : tie.At-loop invariant-loop decreases-loop) → tie.Start invariant-loop decreases-loop
+abbrev start : (l : tie.At-loop-j invariant-loop decreases-loop) → tie.Start invariant-loop decreases-loop
 start l = l.before.before.before.before.before.before.before
 
 -- the rows joined so far, and those of column j
-abbrev done : (l : tie.At-loop invariant-loop decreases-loop) → List ℕ
-done l = columns_below (pair_row 0) (start l).args.vertices.now l.loop.j
+abbrev done : (l : tie.At-loop-j invariant-loop decreases-loop) → List ℕ
+done l = columns_below (pair_row 0) (start l).args.vertices.now l.loop-j.j
 
-abbrev column : (l : tie.At-loop invariant-loop decreases-loop) → List ℕ
-column l = block_column_rows (start l).args.vertices.now l.loop.j
+abbrev column : (l : tie.At-loop-j invariant-loop decreases-loop) → List ℕ
+column l = block_column_rows (start l).args.vertices.now l.loop-j.j
 
 -- there are values for column j
-fits : (i : tie.In-loop invariant-loop decreases-loop) → i.before.loop.t + (i.before.loop.j + 1) ≤ (start i.before).args.first + triangle (length (start i.before).args.vertices.now)
-fits i = let l = i.before in column_fits (start l).args.first l.loop.t l.loop.j (length (start l).args.vertices.now) l.loop.invariant.1 i.loop-test.true
+fits : (i : tie.In-loop-j invariant-loop decreases-loop) → i.loop-j.t + (i.loop-j.j + 1) ≤ (start i.before).args.first + triangle (length (start i.before).args.vertices.now)
+fits i = let l = i.before in column_fits (start l).args.first l.loop-j.t l.loop-j.j (length (start l).args.vertices.now) l.loop-j.invariant.1 i.loop-j-test.true
 
-s_fits : (i : tie.In-loop invariant-loop decreases-loop) → i.before.loop.t + (i.before.loop.j + 1) ≤ length (start i.before).args.s.now
+s_fits : (i : tie.In-loop-j invariant-loop decreases-loop) → i.loop-j.t + (i.loop-j.j + 1) ≤ length (start i.before).args.s.now
 s_fits i = le_trans (fits i) (start i.before).pre.1.0.0
 
-z_fits : (i : tie.In-loop invariant-loop decreases-loop) → i.before.loop.t + (i.before.loop.j + 1) ≤ length (start i.before).args.z.now
+z_fits : (i : tie.In-loop-j invariant-loop decreases-loop) → i.loop-j.t + (i.loop-j.j + 1) ≤ length (start i.before).args.z.now
 z_fits i = le_trans (fits i) (start i.before).pre.1.0.1
 
 -- the state after column j was joined
-abbrev turn : tie.After-slice-known6 invariant-loop decreases-loop → tie.After-join-column invariant-loop decreases-loop
+abbrev turn : tie.After-slice_known-in-loop-j-3-1 invariant-loop decreases-loop → tie.After-join_column invariant-loop decreases-loop
 turn c = c.before.before.before.before.before.before
 
-abbrev inside : tie.After-join-column invariant-loop decreases-loop → tie.In-loop invariant-loop decreases-loop
+abbrev inside : tie.After-join_column invariant-loop decreases-loop → tie.In-loop-j invariant-loop decreases-loop
 inside k = k.before.before.before.before
 
-loop-holds : tie.Need-loop-init invariant-loop decreases-loop
+loop-holds : tie.Need-loop-j-init invariant-loop decreases-loop
 loop-holds c =
-    let a = c.before.before.before.before.before.before.args in
+    let a = c.args in
     (zero-le, sym (add-zero a.first), sym (add-zero a.first), refl, refl, refl, refl, refl, counts-none a.standard a.counts.now)
 
-join-column-requires : tie.Need-join-column-requires invariant-loop decreases-loop
+join-column-requires : tie.Need-join_column-requires invariant-loop decreases-loop
 join-column-requires c κs =
     let i = c.before.before.before in
     let l = i.before in
     let s = start l in
     let a = s.args in
-    let j = l.loop.j in
-    let k = l.loop.invariant.3 in (
+    let j = l.loop-j.j in
+    let k = l.loop-j.invariant.3 in (
       (
         s.pre.0.0,
-        i.loop-test.true,
-        value_in l.loop.t j (length a.s.now) (s_fits i),
-        value_in l.loop.t j (length a.z.now) (z_fits i),
+        i.loop-j-test.true,
+        value_in l.loop-j.t j (length a.s.now) (s_fits i),
+        value_in l.loop-j.t j (length a.z.now) (z_fits i),
       ),
       (
-        (column_in (triangle (suc (get_or a.vertices.now j 0))) (length a.s-out.now) (length l.loop.s-out) (s.pre.0.1 j i.loop-test.true) k, both_kept l.loop.invariant.4 s.pre.1.1.0.0 k, same_le k s.pre.1.1.0.1),
-        subst (λ (n : ℕ). Countable a.standard n (suc j) l.loop.counts) (sym k)
-            (countable_left a.standard (length a.s-out.now) (triangle (length a.vertices.now)) (suc j) (done l) a.counts.now l.loop.counts l.loop.invariant.5
-            (left_of a.first l.loop.t j (triangle (length a.vertices.now)) (length (done l)) l.loop.invariant.2 (fits i)) l.loop.invariant.8 s.pre.1.1.1),
+        (column_in (triangle (suc (get_or a.vertices.now j 0))) (length a.s_out.now) (length l.loop-j.s_out) (s.pre.0.1 j i.loop-j-test.true) k, both_kept l.loop-j.invariant.4 s.pre.1.1.0.0 k, same_le k s.pre.1.1.0.1),
+        subst (λ (n : ℕ). Countable a.standard n (suc j) l.loop-j.counts) (sym k)
+            (countable_left a.standard (length a.s_out.now) (triangle (length a.vertices.now)) (suc j) (done l) a.counts.now l.loop-j.counts l.loop-j.invariant.5
+            (left_of a.first l.loop-j.t j (triangle (length a.vertices.now)) (length (done l)) l.loop-j.invariant.2 (fits i)) l.loop-j.invariant.8 s.pre.1.1.1),
       ),
     )
 
-add-t : tie.Need-overflow-add-t invariant-loop decreases-loop
-add-t c = let i = inside (turn c) in fits_next 4 i.loop-test.taken (start i.before).good.1.0
+add-t : tie.Need-overflow_add-t invariant-loop decreases-loop
+add-t c = let i = inside (turn c) in fits_next 4 i.loop-j-test.taken (start i.before).good.1.0
 
-add-t-2 : tie.Need-overflow-add-t-2 invariant-loop decreases-loop
+add-t-2 : tie.Need-overflow_add-t-in-loop-j invariant-loop decreases-loop
 add-t-2 c = let i = inside (turn c) in fits_count 8 (s_fits i) (start i.before).good.1.1.1.0
 
-add-j : tie.Need-overflow-add-j invariant-loop decreases-loop
-add-j c = let i = inside (turn c) in fits_next 4 i.loop-test.taken (start i.before).good.1.0
+add-j : tie.Need-overflow_add-j invariant-loop decreases-loop
+add-j c = let i = inside (turn c) in fits_next 4 i.loop-j-test.taken (start i.before).good.1.0
 
-loop-less : tie.Need-loop-smaller invariant-loop decreases-loop
-loop-less c = one_less (inside (turn c)).loop-test.taken
+loop-less : tie.Need-loop-j-smaller invariant-loop decreases-loop
+loop-less c = one_less (inside (turn c)).loop-j-test.taken
 
-loop-again : tie.Need-loop-preserved invariant-loop decreases-loop
+loop-again : tie.Need-loop-j-preserved invariant-loop decreases-loop
 loop-again c =
     let k = turn c in
     let i = inside k in
     let l = i.before in
     let a = (start l).args in
     let vs = a.vertices.now in
-    let j = l.loop.j in
-    let t = l.loop.t in
-    let w = k.join-column in
+    let j = l.loop-j.j in
+    let t = l.loop-j.t in
+    let w = k.join_column in
     let next : List ℕ = columns_below (pair_row 0) vs (j + 1) in
     let more : done l ++ column l ≡ next = sym (columns_more (pair_row 0) vs j) in (
-      one_more i.loop-test.taken,
-      column-next a.first t j l.loop.inv.1,
-      sum_as a.first t (j + 1) (length (done l)) (length next) l.loop.inv.2 (length_more (pair_row 0) vs j),
-      w.kept.1.1.1.1.1.1.0 ∙ l.loop.inv.3,
-      w.kept.1.1.1.1.1.1.1.0 ∙ l.loop.inv.4,
-      w.kept.1.1.1.1.1.1.1.1.0 ∙ l.loop.inv.5,
-      walk-joined add_at (done l) (column l) next a.s.now a.s-out.now a.first t w.ensures.0 l.loop.inv.6 l.loop.inv.2 more,
-      walk-joined (z_at a.standard) (done l) (column l) next a.z.now a.z-out.now a.first t w.ensures.1.0 l.loop.inv.7 l.loop.inv.2 more,
-      counts-joined a.standard (done l) (column l) next a.counts.now l.loop.counts w.last.1.1.1.1.1.1.1.1.0 w.kept.1.1.1.1.1.1.1.1.0 l.loop.inv.8
+      one_more i.loop-j-test.taken,
+      column-next a.first t j l.loop-j.inv.1,
+      sum_as a.first t (j + 1) (length (done l)) (length next) l.loop-j.inv.2 (length_more (pair_row 0) vs j),
+      w.kept.s_out ∙ l.loop-j.inv.3,
+      w.kept.z_out ∙ l.loop-j.inv.4,
+      w.kept.counts ∙ l.loop-j.inv.5,
+      walk-joined add_at (done l) (column l) next a.s.now a.s_out.now a.first t w.ensures.0 l.loop-j.inv.6 l.loop-j.inv.2 more,
+      walk-joined (z_at a.standard) (done l) (column l) next a.z.now a.z_out.now a.first t w.ensures.1.0 l.loop-j.inv.7 l.loop-j.inv.2 more,
+      counts-joined a.standard (done l) (column l) next a.counts.now l.loop-j.counts w.last.1.1.1.1.1.1.1.1.0 w.kept.counts l.loop-j.inv.8
           w.ensures.1.1 more,
     )
 
-same_length : tie.Need-same-length invariant-loop decreases-loop
-same_length c = c.before.loop.invariant.3
+same_length : tie.Need-shape_of-s_out invariant-loop decreases-loop
+same_length c = c.loop-j.invariant.3
 
-same-length-2 : tie.Need-same-length-2 invariant-loop decreases-loop
-same-length-2 c = c.before.loop.invariant.4
+same-length-2 : tie.Need-shape_of-z_out invariant-loop decreases-loop
+same-length-2 c = c.loop-j.invariant.4
 
-same-length-3 : tie.Need-same-length-3 invariant-loop decreases-loop
-same-length-3 c = c.before.loop.invariant.5
+same-length-3 : tie.Need-shape_of-counts invariant-loop decreases-loop
+same-length-3 c = c.loop-j.invariant.5
 
 returns : tie.Need-returns invariant-loop decreases-loop
 returns c =
     let l = c.before in
     let a = (start l).args in
-    let e : l.loop.j ≡ length a.vertices.now = count-ends l.loop.invariant.0 c.loop-test.false in
+    let e : l.loop-j.j ≡ length a.vertices.now = count-ends l.loop-j.invariant.0 c.loop-j-test.false in
     let all : done l ≡ columns_below (pair_row 0) a.vertices.now (length a.vertices.now) = ap (columns_below (pair_row 0) a.vertices.now) e in (
-      l.loop.invariant.1 ∙ ap (λ (n : ℕ). a.first + triangle n) e,
+      l.loop-j.invariant.1 ∙ ap (λ (n : ℕ). a.first + triangle n) e,
       (
-        by_same (λ (os : List ℕ). add_columns os (drop a.first a.s.now) a.s-out.now) l.loop.invariant.6 all,
+        by_same (λ (os : List ℕ). add_columns os (drop a.first a.s.now) a.s_out.now) l.loop-j.invariant.6 all,
         (
-          by_same (λ (os : List ℕ). join_z a.standard os (drop a.first a.z.now) a.z-out.now) l.loop.invariant.7 all,
-          subst (λ (os : List ℕ). Counts a.standard os a.counts.now l.loop.counts) all l.loop.invariant.8,
+          by_same (λ (os : List ℕ). join_z a.standard os (drop a.first a.z.now) a.z_out.now) l.loop-j.invariant.7 all,
+          subst (λ (os : List ℕ). Counts a.standard os a.counts.now l.loop-j.counts) all l.loop-j.invariant.8,
         ),
       ),
     )
 
-pub join-block_spec : {M : Type 1} → statement M
-join-block_spec =
+pub join_block_spec : {M : Type 1} → statement M
+join_block_spec =
     tie.close
     (tie.spec
     invariant-loop

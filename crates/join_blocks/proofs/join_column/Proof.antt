@@ -19,13 +19,13 @@ use native.Mathlib.Omega.{arith}
 use Rattle.join_blocks.proofs.join_column.Statement.{statement}
 use Rattle.join_blocks.proofs.join_column.Tie as tie
 
-abbrev invariant-loop : tie.invariant-loop
+abbrev invariant-loop : tie.invariant-loop-i
 invariant-loop standard vertices j t s z s-out₀ z-out₀ counts₀ c row i₀ s-out z-out counts i =
     let L = take i (block_column_rows vertices j) in
     (i ≤ j + 1) × (length s-out ≡ length s-out₀) × (length z-out ≡ length z-out₀) × (length counts ≡ length counts₀)
     × (s-out ≡ add_columns L (drop t s) s-out₀) × (z-out ≡ join_z standard L (drop t z) z-out₀) × Counts standard L counts₀ counts
 
-abbrev decreases-loop : tie.decreases-loop
+abbrev decreases-loop : tie.decreases-loop-i
 decreases-loop standard vertices j t s z s-out₀ z-out₀ counts₀ c row i₀ s-out z-out counts i = j + 1 - i
 
 -- ---- numbers: c is the column's vertex, a the column's first row, d this turn's vertex, o the row
@@ -59,212 +59,212 @@ turn_counts i j n e h = omega arith
 
 -- ---- one turn of the loop
 
-abbrev start : (l : tie.At-loop invariant-loop decreases-loop) → tie.Start invariant-loop decreases-loop
+abbrev start : (l : tie.At-loop-i invariant-loop decreases-loop) → tie.Start invariant-loop decreases-loop
 start l = l.before.before.before.before.before.before.before.before.before
 
 -- the rows of the column
-abbrev rows : (l : tie.At-loop invariant-loop decreases-loop) → List ℕ
+abbrev rows : (l : tie.At-loop-i invariant-loop decreases-loop) → List ℕ
 rows l = block_column_rows (start l).args.vertices.now (start l).args.j
 
 -- the row of this turn, as the code computes it
-abbrev coded : (l : tie.At-loop invariant-loop decreases-loop) → ℕ
-coded l = l.before.triangular-number.result + get_or (start l).args.vertices.now l.loop.i 0
+abbrev coded : (l : tie.At-loop-i invariant-loop decreases-loop) → ℕ
+coded l = l.triangular_number-row.result + get_or (start l).args.vertices.now l.loop-i.i 0
 
-row_is : (i : tie.In-loop invariant-loop decreases-loop) → coded i.before ≡ get_or (rows i.before) i.before.loop.i 0
+row_is : (i : tie.In-loop-i invariant-loop decreases-loop) → coded i.before ≡ get_or (rows i.before) i.loop-i.i 0
 row_is i =
     let l = i.before in
     let s = start l in
     let vs = s.args.vertices.now in
     let j = s.args.j in
-    let n = l.loop.i in
-    let first = l.before.triangular-number in
-    row_as first.result (triangle (get_or vs j 0)) (get_or vs n 0) (get_or (rows l) n 0) (row-at 0 vs j n s.pre.0.0 i.loop-test.true s.pre.0.1) first.ensures
+    let n = l.loop-i.i in
+    let first = l.triangular_number-row in
+    row_as first.result (triangle (get_or vs j 0)) (get_or vs n 0) (get_or (rows l) n 0) (row-at 0 vs j n s.pre.0.0 i.loop-i-test.true s.pre.0.1) first.ensures
 
-inside : (i : tie.In-loop invariant-loop decreases-loop) → coded i.before < length (start i.before).args.s-out.now
+inside : (i : tie.In-loop-i invariant-loop decreases-loop) → coded i.before < length (start i.before).args.s_out.now
 inside i =
     let l = i.before in
     let s = start l in
     let vs = s.args.vertices.now in
     let j = s.args.j in
-    let n = l.loop.i in
-    let first = l.before.triangular-number in
-    row_inside (get_or vs j 0) (get_or vs n 0) (length s.args.s-out.now) first.result (rises-le vs n j s.pre.0.0 i.loop-test.true s.pre.0.1) s.pre.1.0.0 first.ensures
+    let n = l.loop-i.i in
+    let first = l.triangular_number-row in
+    row_inside (get_or vs j 0) (get_or vs n 0) (length s.args.s_out.now) first.result (rises-le vs n j s.pre.0.0 i.loop-i-test.true s.pre.0.1) s.pre.1.0.0 first.ensures
 
-s_inside : (i : tie.In-loop invariant-loop decreases-loop) → coded i.before < length i.before.loop.s-out
-s_inside i = lt_same (inside i) i.before.loop.invariant.1
+s_inside : (i : tie.In-loop-i invariant-loop decreases-loop) → coded i.before < length i.loop-i.s_out
+s_inside i = lt_same (inside i) i.loop-i.invariant.1
 
-z_inside : (i : tie.In-loop invariant-loop decreases-loop) → coded i.before < length i.before.loop.z-out
-z_inside i = lt_same (inside i) (i.before.loop.invariant.2 ∙ (start i.before).pre.1.0.1)
+z_inside : (i : tie.In-loop-i invariant-loop decreases-loop) → coded i.before < length i.loop-i.z_out
+z_inside i = lt_same (inside i) (i.loop-i.invariant.2 ∙ (start i.before).pre.1.0.1)
 
-o_fits : (i : tie.In-loop invariant-loop decreases-loop) → Fits w64 (coded i.before * 8)
+o_fits : (i : tie.In-loop-i invariant-loop decreases-loop) → Fits w64 (coded i.before * 8)
 o_fits i = fits-value (le_of_lt (inside i)) (start i.before).good.1.1.1.1.1.1.0
 
 -- this turn's vertex and values exist
-here : (i : tie.In-loop invariant-loop decreases-loop) → i.before.loop.i < length (start i.before).args.vertices.now
-here i = lt_of_le_of_lt i.loop-test.true (start i.before).pre.0.1
+here : (i : tie.In-loop-i invariant-loop decreases-loop) → i.loop-i.i < length (start i.before).args.vertices.now
+here i = lt_of_le_of_lt i.loop-i-test.true (start i.before).pre.0.1
 
-s_here : (i : tie.In-loop invariant-loop decreases-loop) → (start i.before).args.t + i.before.loop.i < length (start i.before).args.s.now
-s_here i = let s = start i.before in value_in s.args.t i.before.loop.i s.args.j (length s.args.s.now) i.loop-test.true s.pre.0.2
+s_here : (i : tie.In-loop-i invariant-loop decreases-loop) → (start i.before).args.t + i.loop-i.i < length (start i.before).args.s.now
+s_here i = let s = start i.before in value_in s.args.t i.loop-i.i s.args.j (length s.args.s.now) i.loop-i-test.true s.pre.0.2
 
-z_here : (i : tie.In-loop invariant-loop decreases-loop) → (start i.before).args.t + i.before.loop.i < length (start i.before).args.z.now
-z_here i = let s = start i.before in value_in s.args.t i.before.loop.i s.args.j (length s.args.z.now) i.loop-test.true s.pre.0.3
+z_here : (i : tie.In-loop-i invariant-loop decreases-loop) → (start i.before).args.t + i.loop-i.i < length (start i.before).args.z.now
+z_here i = let s = start i.before in value_in s.args.t i.loop-i.i s.args.j (length s.args.z.now) i.loop-i-test.true s.pre.0.3
 
-size : (l : tie.At-loop invariant-loop decreases-loop) → length (rows l) ≡ (start l).args.j + 1
+size : (l : tie.At-loop-i invariant-loop decreases-loop) → length (rows l) ≡ (start l).args.j + 1
 size l = length-column (pair_row 0) (start l).args.vertices.now (start l).args.j
 
-in_rows : (i : tie.In-loop invariant-loop decreases-loop) → i.before.loop.i < length (rows i.before)
-in_rows i = let l = i.before in turn_in l.loop.i (start l).args.j (length (rows l)) (size l) i.loop-test.true
+in_rows : (i : tie.In-loop-i invariant-loop decreases-loop) → i.loop-i.i < length (rows i.before)
+in_rows i = let l = i.before in turn_in l.loop-i.i (start l).args.j (length (rows l)) (size l) i.loop-i-test.true
 
-mul-c : tie.Need-overflow-mul-c invariant-loop decreases-loop
-mul-c c = let s = c.before.before.before.before.before.before in fits-number (le_of_lt s.requires.0.1) s.well-formed.1.0
+mul-c : tie.Need-offset_bounds-vertices-j invariant-loop decreases-loop
+mul-c c = let s = c.before.before.before.before.before.before in fits-number (le_of_lt s.requires.0.1) s.well_formed.1.0
 
-shared-slice-read-c : tie.Need-shared-slice-read-c invariant-loop decreases-loop
-shared-slice-read-c c = c.before.before.before.before.before.before.before.requires.0.1
+shared-slice-read-c : tie.Need-bounds-vertices-j invariant-loop decreases-loop
+shared-slice-read-c c = c.requires.0.1
 
-triangular-number-requires : tie.Need-triangular-number-requires invariant-loop decreases-loop
+triangular-number-requires : tie.Need-triangular_number-row-requires invariant-loop decreases-loop
 triangular-number-requires c κs =
     let s = c.before.before.before.before.before.before.before in
-    vertex_small (get_or s.args.vertices.now s.args.j 0) (length s.args.s-out.now) s.requires.1.0.0 s.requires.1.0.2
+    vertex_small (get_or s.args.vertices.now s.args.j 0) (length s.args.s_out.now) s.requires.1.0.0 s.requires.1.0.2
 
-loop-holds : tie.Need-loop-init invariant-loop decreases-loop
+loop-holds : tie.Need-loop-i-init invariant-loop decreases-loop
 loop-holds c =
-    let a = c.before.before.before.before.before.before.before.before.args in
+    let a = c.args in
     let L = block_column_rows a.vertices.now a.j in
     let none = sym (take_none L) in (
       zero-le,
       refl,
       refl,
       refl,
-      ap (λ (os : List ℕ). add_columns os (drop a.t a.s.now) a.s-out.now) none,
-      ap (λ (os : List ℕ). join_z a.standard os (drop a.t a.z.now) a.z-out.now) none,
+      ap (λ (os : List ℕ). add_columns os (drop a.t a.s.now) a.s_out.now) none,
+      ap (λ (os : List ℕ). join_z a.standard os (drop a.t a.z.now) a.z_out.now) none,
       subst (λ (os : List ℕ). Counts a.standard os a.counts.now a.counts.now) none (counts-none a.standard a.counts.now),
     )
 
-mul-o : tie.Need-overflow-mul-o invariant-loop decreases-loop
+mul-o : tie.Need-offset_bounds-vertices-i invariant-loop decreases-loop
 mul-o c = fits-number (le_of_lt (here c)) (start c.before).good.1.0
 
-shared-slice-read-o : tie.Need-shared-slice-read-o invariant-loop decreases-loop
+shared-slice-read-o : tie.Need-bounds-vertices-i invariant-loop decreases-loop
 shared-slice-read-o c = here c.before
 
-add-o : tie.Need-overflow-add-o invariant-loop decreases-loop
+add-o : tie.Need-overflow_add-o invariant-loop decreases-loop
 add-o c = let i = c.before in fits-row (inside i) (start i.before).pre.1.0.2
 
-cast-o : tie.Need-overflow-cast-o invariant-loop decreases-loop
+cast-o : tie.Need-overflow_cast-o invariant-loop decreases-loop
 cast-o c = let i = c.before in fits_index (inside i) (start i.before).pre.1.0.2
 
-add-k : tie.Need-overflow-add-k invariant-loop decreases-loop
+add-k : tie.Need-overflow_add-k invariant-loop decreases-loop
 add-k c = let i = c.before in fits_count 8 (le_of_lt (s_here i)) (start i.before).good.1.1.1.1.0
 
-mul-s-out : tie.Need-overflow-mul-s-out invariant-loop decreases-loop
+mul-s-out : tie.Need-offset_bounds-s_out-o invariant-loop decreases-loop
 mul-s-out c = o_fits c.before
 
-slice-read-s-out : tie.Need-slice-read-s-out invariant-loop decreases-loop
+slice-read-s-out : tie.Need-bounds-s_out-o invariant-loop decreases-loop
 slice-read-s-out c = s_inside c.before.before
 
-mul-s-out-2 : tie.Need-overflow-mul-s-out-2 invariant-loop decreases-loop
+mul-s-out-2 : tie.Need-offset_bounds-s-k invariant-loop decreases-loop
 mul-s-out-2 c = let i = c.before.before in fits-value (le_of_lt (s_here i)) (start i.before).good.1.1.1.1.0
 
-shared-slice-read-s-out : tie.Need-shared-slice-read-s-out invariant-loop decreases-loop
+shared-slice-read-s-out : tie.Need-bounds-s-k invariant-loop decreases-loop
 shared-slice-read-s-out c = s_here c.before.before.before
 
-mul-s-out-3 : tie.Need-overflow-mul-s-out-3 invariant-loop decreases-loop
+mul-s-out-3 : tie.Need-offset_bounds-s_out-o-in-loop-i invariant-loop decreases-loop
 mul-s-out-3 c = o_fits c.before.before.before
 
-slice-write-s-out : tie.Need-slice-write-s-out invariant-loop decreases-loop
+slice-write-s-out : tie.Need-bounds-s_out-o-in-loop-i invariant-loop decreases-loop
 slice-write-s-out c = s_inside c.before.before.before
 
-mul-z-value : tie.Need-overflow-mul-z-value invariant-loop decreases-loop
+mul-z-value : tie.Need-offset_bounds-z_out-o invariant-loop decreases-loop
 mul-z-value c = o_fits c.before.before.before
 
-slice-read-z-value : tie.Need-slice-read-z-value invariant-loop decreases-loop
+slice-read-z-value : tie.Need-bounds-z_out-o invariant-loop decreases-loop
 slice-read-z-value c = z_inside c.before.before.before.before
 
-mul-z-value-2 : tie.Need-overflow-mul-z-value-2 invariant-loop decreases-loop
+mul-z-value-2 : tie.Need-offset_bounds-z-k invariant-loop decreases-loop
 mul-z-value-2 c = let i = c.before.before.before.before in fits-value (le_of_lt (z_here i)) (start i.before).good.1.1.1.1.1.0
 
-shared-slice-read-z-value : tie.Need-shared-slice-read-z-value invariant-loop decreases-loop
+shared-slice-read-z-value : tie.Need-bounds-z-k invariant-loop decreases-loop
 shared-slice-read-z-value c = z_here c.before.before.before.before.before
 
-z-value-requires : tie.Need-z-value-requires invariant-loop decreases-loop
+z-value-requires : tie.Need-z_value-requires invariant-loop decreases-loop
 z-value-requires c κs = tt
 
-mul-z-out : tie.Need-overflow-mul-z-out invariant-loop decreases-loop
+mul-z-out : tie.Need-offset_bounds-z_out-o-in-loop-i invariant-loop decreases-loop
 mul-z-out c = o_fits c.before.before.before.before.before.before
 
-slice-write-z-out : tie.Need-slice-write-z-out invariant-loop decreases-loop
+slice-write-z-out : tie.Need-bounds-z_out-o-in-loop-i invariant-loop decreases-loop
 slice-write-z-out c = z_inside c.before.before.before.before.before.before
 
-count-column-requires : tie.Need-count-column-requires invariant-loop decreases-loop
+count-column-requires : tie.Need-count_column-requires invariant-loop decreases-loop
 count-column-requires c κs =
     let i = c.before.before.before.before.before.before.before in
     let l = i.before in
     let s = start l in
     let a = s.args in
-    let n = l.loop.i in
+    let n = l.loop-i.i in
     let done : length (take n (rows l)) ≡ n = length-take-le n (rows l) (le_of_lt (in_rows i)) in
-    countable_less a.standard (length a.s-out.now) (suc (coded l)) 1 1 l.loop.counts (inside i) (le_refl 1)
-    (countable_left a.standard (length a.s-out.now) (suc a.j) 1 (take n (rows l)) a.counts.now l.loop.counts l.loop.invariant.3
-    (turn_counts n a.j (length (take n (rows l))) done i.loop-test.true) l.loop.invariant.6 s.pre.1.1)
+    countable_less a.standard (length a.s_out.now) (suc (coded l)) 1 1 l.loop-i.counts (inside i) (le_refl 1)
+    (countable_left a.standard (length a.s_out.now) (suc a.j) 1 (take n (rows l)) a.counts.now l.loop-i.counts l.loop-i.invariant.3
+    (turn_counts n a.j (length (take n (rows l))) done i.loop-i-test.true) l.loop-i.invariant.6 s.pre.1.1)
 
 -- the state after this turn's column was counted
-abbrev counted : tie.After-slice-known6 invariant-loop decreases-loop → tie.After-count-column invariant-loop decreases-loop
+abbrev counted : tie.After-slice_known-in-loop-i-3-1 invariant-loop decreases-loop → tie.After-count_column invariant-loop decreases-loop
 counted c = c.before.before
 
-abbrev turn : tie.After-count-column invariant-loop decreases-loop → tie.In-loop invariant-loop decreases-loop
+abbrev turn : tie.After-count_column invariant-loop decreases-loop → tie.In-loop-i invariant-loop decreases-loop
 turn k = k.before.before.before.before.before.before.before.before
 
-add-i : tie.Need-overflow-add-i invariant-loop decreases-loop
+add-i : tie.Need-overflow_add-i invariant-loop decreases-loop
 add-i c = let i = turn (counted c) in fits_next 4 (here i) (start i.before).good.1.0
 
-loop-less : tie.Need-loop-smaller invariant-loop decreases-loop
-loop-less c = let i = turn (counted c) in turn_less i.before.loop.i (start i.before).args.j i.loop-test.taken
+loop-less : tie.Need-loop-i-smaller invariant-loop decreases-loop
+loop-less c = let i = turn (counted c) in turn_less i.loop-i.i (start i.before).args.j i.loop-i-test.taken
 
-loop-again : tie.Need-loop-preserved invariant-loop decreases-loop
+loop-again : tie.Need-loop-i-preserved invariant-loop decreases-loop
 loop-again c =
     let k = counted c in
     let v = k.before.before in
     let i = turn k in
     let l = i.before in
     let a = (start l).args in
-    let n = l.loop.i in
-    let so = l.loop.s-out in
-    let zo = l.loop.z-out in
+    let n = l.loop-i.i in
+    let so = l.loop-i.s_out in
+    let zo = l.loop-i.z_out in
     let o = coded l in (
-      turn_next n a.j i.loop-test.taken,
-      length-set so o (add binary64 (get_or so o nan) (get_or a.s.now (a.t + n) nan)) ∙ l.loop.inv.1,
-      length-set zo o v.z-value.result ∙ l.loop.inv.2,
-      k.count-column.kept.1.0 ∙ l.loop.inv.3,
-      walk_stored add_at (rows l) a.s.now a.s-out.now a.t n o 0 nan refl l.loop.inv.4 (row_is i) (in_rows i) (s_here i),
-      walk_stored (z_at a.standard) (rows l) a.z.now a.z-out.now a.t n o 0 nan
-          (ap (set zo o) v.z-value.ensures ∙ z_stored a.standard o (get_or a.z.now (a.t + n) nan) zo)
-          l.loop.inv.5 (row_is i) (in_rows i) (z_here i),
-      counts-next a.standard (rows l) n o a.counts.now l.loop.counts k.count-column.last.1.0 (in_rows i) (row_is i) k.count-column.kept.1.0 l.loop.inv.6
-          k.count-column.ensures,
+      turn_next n a.j i.loop-i-test.taken,
+      length-set so o (add binary64 (get_or so o nan) (get_or a.s.now (a.t + n) nan)) ∙ l.loop-i.inv.1,
+      length-set zo o v.z_value.result ∙ l.loop-i.inv.2,
+      k.count_column.kept.counts ∙ l.loop-i.inv.3,
+      walk_stored add_at (rows l) a.s.now a.s_out.now a.t n o 0 nan refl l.loop-i.inv.4 (row_is i) (in_rows i) (s_here i),
+      walk_stored (z_at a.standard) (rows l) a.z.now a.z_out.now a.t n o 0 nan
+          (ap (set zo o) v.z_value.ensures ∙ z_stored a.standard o (get_or a.z.now (a.t + n) nan) zo)
+          l.loop-i.inv.5 (row_is i) (in_rows i) (z_here i),
+      counts-next a.standard (rows l) n o a.counts.now l.loop-i.counts k.count_column.last.1.0 (in_rows i) (row_is i) k.count_column.kept.counts l.loop-i.inv.6
+          k.count_column.ensures,
     )
 
-same_length : tie.Need-same-length invariant-loop decreases-loop
-same_length c = c.before.loop.invariant.1
+same_length : tie.Need-shape_of-s_out invariant-loop decreases-loop
+same_length c = c.loop-i.invariant.1
 
-same-length-2 : tie.Need-same-length-2 invariant-loop decreases-loop
-same-length-2 c = c.before.loop.invariant.2
+same-length-2 : tie.Need-shape_of-z_out invariant-loop decreases-loop
+same-length-2 c = c.loop-i.invariant.2
 
-same-length-3 : tie.Need-same-length-3 invariant-loop decreases-loop
-same-length-3 c = c.before.loop.invariant.3
+same-length-3 : tie.Need-shape_of-counts invariant-loop decreases-loop
+same-length-3 c = c.loop-i.invariant.3
 
 returns : tie.Need-returns invariant-loop decreases-loop
 returns c =
     let l = c.before in
     let a = (start l).args in
-    let all : take l.loop.i (rows l) ≡ rows l = take_all l.loop.i (rows l) (turns_all l.loop.i a.j (length (rows l)) (size l) c.loop-test.false) in (
-      by_same (λ (os : List ℕ). add_columns os (drop a.t a.s.now) a.s-out.now) l.loop.invariant.4 all,
+    let all : take l.loop-i.i (rows l) ≡ rows l = take_all l.loop-i.i (rows l) (turns_all l.loop-i.i a.j (length (rows l)) (size l) c.loop-i-test.false) in (
+      by_same (λ (os : List ℕ). add_columns os (drop a.t a.s.now) a.s_out.now) l.loop-i.invariant.4 all,
       (
-        by_same (λ (os : List ℕ). join_z a.standard os (drop a.t a.z.now) a.z-out.now) l.loop.invariant.5 all,
-        subst (λ (os : List ℕ). Counts a.standard os a.counts.now l.loop.counts) all l.loop.invariant.6,
+        by_same (λ (os : List ℕ). join_z a.standard os (drop a.t a.z.now) a.z_out.now) l.loop-i.invariant.5 all,
+        subst (λ (os : List ℕ). Counts a.standard os a.counts.now l.loop-i.counts) all l.loop-i.invariant.6,
       ),
     )
 
-pub join-column_spec : {M : Type 1} → statement M
-join-column_spec =
+pub join_column_spec : {M : Type 1} → statement M
+join_column_spec =
     tie.close
     (tie.spec
     invariant-loop

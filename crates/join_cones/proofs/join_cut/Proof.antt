@@ -16,53 +16,53 @@ abbrev here : tie.Start → Pattern
 here s = pattern_at s.args.words.now s.args.at
 
 -- the first row is within each output
-s_rows : (s : tie.Start) → s.args.row ≤ length s.args.s-out.now
-s_rows s = begins s.args.row s.args.n (length s.args.s-out.now) s.requires.1.0.0
+s_rows : (s : tie.Start) → s.args.row ≤ length s.args.s_out.now
+s_rows s = begins s.args.row s.args.n (length s.args.s_out.now) s.requires.1.0.0
 
-z_rows : (s : tie.Start) → s.args.row ≤ length s.args.z-out.now
-z_rows s = begins s.args.row s.args.n (length s.args.z-out.now) s.requires.1.0.1
+z_rows : (s : tie.Start) → s.args.row ≤ length s.args.z_out.now
+z_rows s = begins s.args.row s.args.n (length s.args.z_out.now) s.requires.1.0.1
 
 -- earlier states, from which the slices passed are taken
-abbrev start : tie.After-slice-known5 → tie.Start
+abbrev start : tie.After-slice_known-5-1 → tie.Start
 start c = c.before.before.before.before.before.before.before.before.before
 
-abbrev lent : tie.After-join-rows-arg → tie.After-slice-known5
+abbrev lent : tie.After-join_rows-arg-1 → tie.After-slice_known-5-1
 lent c = c.before
 
-add-e : tie.Need-overflow-add-e
-add-e c = fits_count 8 (start c).requires.1.0.0 (start c).well-formed.1.1.1.1.1.1.1.1.1.1.0
+add-e : tie.Need-overflow_add-e
+add-e c = fits_count 8 (start c).requires.1.0.0 (start c).well_formed.1.1.1.1.1.1.1.1.1.1.0
 
-mul-join-rows : tie.Need-overflow-mul-join-rows
+mul-join-rows : tie.Need-offset_bounds-s_out-row
 mul-join-rows c = let s = start c in fits-value (s_rows s) s.good.1.1.1.1.1.1.1.1.1.1.0
 
-sub-join-rows : tie.Need-overflow-sub-join-rows
+sub-join-rows : tie.Need-slice_bounds-join_rows-count
 sub-join-rows c = let a = (start c).args in le-add_right a.row a.n
 
-part-join-rows-start : tie.Need-slice-bounds-join-rows-start
+part-join-rows-start : tie.Need-slice_bounds-join_rows-start
 part-join-rows-start c = let a = (start c).args in le-add_right a.row a.n
 
-part-join-rows-end : tie.Need-slice-bounds-join-rows-end
+part-join-rows-end : tie.Need-slice_bounds-join_rows-end
 part-join-rows-end c = (start c).requires.1.0.0
 
-mul-join-rows-2 : tie.Need-overflow-mul-join-rows-2
+mul-join-rows-2 : tie.Need-offset_bounds-z_out-row
 mul-join-rows-2 c = let s = start (lent c) in fits-value (z_rows s) s.good.1.1.1.1.1.1.1.1.1.1.1.0
 
-sub-join-rows-2 : tie.Need-overflow-sub-join-rows-2
+sub-join-rows-2 : tie.Need-slice_bounds-join_rows-count-2
 sub-join-rows-2 c = let a = (start (lent c)).args in le-add_right a.row a.n
 
-part-join-rows-start-2 : tie.Need-slice-bounds-join-rows-start-2
+part-join-rows-start-2 : tie.Need-slice_bounds-join_rows-start-2
 part-join-rows-start-2 c = let a = (start (lent c)).args in le-add_right a.row a.n
 
-part-join-rows-end-2 : tie.Need-slice-bounds-join-rows-end-2
+part-join-rows-end-2 : tie.Need-slice_bounds-join_rows-end-2
 part-join-rows-end-2 c = (start (lent c)).requires.1.0.1
 
-join-rows-requires : tie.Need-join-rows-requires
+join-rows-requires : tie.Need-join_rows-requires
 join-rows-requires c κs =
     let s = start (lent c.before.before.before.before) in
     let a = s.args in
-    let s-part : List Float = take (a.row + a.n - a.row) (drop a.row a.s-out.now) in
-    let s-lent : length s-part ≡ a.n = length_part a.row a.n a.s-out.now s.pre.1.0.0 in
-    let z-lent = length_part a.row a.n a.z-out.now s.pre.1.0.1 in (
+    let s-part : List Float = take (a.row + a.n - a.row) (drop a.row a.s_out.now) in
+    let s-lent : length s-part ≡ a.n = length_part a.row a.n a.s_out.now s.pre.1.0.0 in
+    let z-lent = length_part a.row a.n a.z_out.now s.pre.1.0.1 in (
       (s.pre.0.0, s.pre.0.1),
       (
         (s-lent ∙ s.pre.0.2, z-lent ∙ s.pre.0.2),
@@ -77,51 +77,51 @@ join-rows-requires c κs =
     )
 
 -- earlier states, once the rows are joined
-abbrev end : tie.After-slice-known10 → tie.After-join-rows
+abbrev end : tie.After-slice_known-10-1 → tie.After-join_rows
 end c = c.before.before.before.before.before.before.before.before.before.before
 
-abbrev first : tie.After-join-rows → tie.Start
+abbrev first : tie.After-join_rows → tie.Start
 first j = start (lent j.before.before.before.before.before)
 
-same_length : tie.Need-same-length
+same_length : tie.Need-shape_of-s_out
 same_length c =
     let j = end c in
     let a = (first j).args in
-    length-put a.row (a.row + a.n - a.row) a.s-out.now j.join-rows.last.1.1.1.1.1.1.1.1.0 (s_rows (first j)) j.join-rows.kept.1.1.1.1.1.1.1.1.0
+    length-put a.row (a.row + a.n - a.row) a.s_out.now j.join_rows.last.1.1.1.1.1.1.1.1.0 (s_rows (first j)) j.join_rows.kept.s_out
 
-same-length-2 : tie.Need-same-length-2
+same-length-2 : tie.Need-shape_of-z_out
 same-length-2 c =
     let j = end c in
     let a = (first j).args in
-    length-put a.row (a.row + a.n - a.row) a.z-out.now j.join-rows.last.1.1.1.1.1.1.1.1.1.0 (z_rows (first j)) j.join-rows.kept.1.1.1.1.1.1.1.1.1.0
+    length-put a.row (a.row + a.n - a.row) a.z_out.now j.join_rows.last.1.1.1.1.1.1.1.1.1.0 (z_rows (first j)) j.join_rows.kept.z_out
 
-same-length-3 : tie.Need-same-length-3
-same-length-3 c = (end c).join-rows.auto.1.1.1.1.1.1.1.1.1.1.0
+same-length-3 : tie.Need-shape_of-counts
+same-length-3 c = (end c).join_rows.auto.counts
 
-same-length-4 : tie.Need-same-length-4
-same-length-4 c = (end c).join-rows.auto.1.1.1.1.1.1.1.1.1.1.1.0
+same-length-4 : tie.Need-shape_of-offsets
+same-length-4 c = (end c).join_rows.auto.offsets
 
-same-length-5 : tie.Need-same-length-5
-same-length-5 c = (end c).join-rows.auto.1.1.1.1.1.1.1.1.1.1.1.1.0
+same-length-5 : tie.Need-shape_of-vertices
+same-length-5 c = (end c).join_rows.auto.vertices
 
 returns : tie.Need-returns
 returns c =
     let j = end c in
     let s = first j in
     let a = s.args in
-    let w = j.join-rows in (
+    let w = j.join_rows in (
       w.ensures.0,
       (
-        put_same (s_cut a.standard (here s) (drop a.t a.s.now)) w.last.1.1.1.1.1.1.1.1.0 a.s-out.now a.row a.n s.pre.1.0.0 w.ensures.1.0 w.kept.1.1.1.1.1.1.1.1.0,
+        put_same (s_cut a.standard (here s) (drop a.t a.s.now)) w.last.1.1.1.1.1.1.1.1.0 a.s_out.now a.row a.n s.pre.1.0.0 w.ensures.1.0 w.kept.s_out,
         (
-          put_same (z_cut a.standard (here s) (drop a.t a.z.now)) w.last.1.1.1.1.1.1.1.1.1.0 a.z-out.now a.row a.n s.pre.1.0.1 w.ensures.1.1.0 w.kept.1.1.1.1.1.1.1.1.1.0,
+          put_same (z_cut a.standard (here s) (drop a.t a.z.now)) w.last.1.1.1.1.1.1.1.1.1.0 a.z_out.now a.row a.n s.pre.1.0.1 w.ensures.1.1.0 w.kept.z_out,
           w.ensures.1.1.1,
         ),
       ),
     )
 
-pub join-cut_spec : {M : Type 1} → statement M
-join-cut_spec =
+pub join_cut_spec : {M : Type 1} → statement M
+join_cut_spec =
     tie.close
     (tie.spec
     add-e

@@ -17,54 +17,54 @@ rows_begin s = begins s.args.row s.args.n (length s.args.out.now) s.requires.1
 values_begin : (s : tie.Start) → s.args.t ≤ length s.args.values.now
 values_begin s = begins s.args.t s.args.n (length s.args.values.now) s.requires.0
 
-abbrev start : tie.After-slice-known → tie.Start
+abbrev start : tie.After-slice_known-1 → tie.Start
 start c = c.before.before
 
-add-e : tie.Need-overflow-add-e
-add-e c = fits_count 8 (start c).requires.1 (start c).well-formed.1.1.1.1.1.0
+add-e : tie.Need-overflow_add-e
+add-e c = fits_count 8 (start c).requires.1 (start c).well_formed.1.1.1.1.1.0
 
-add-b : tie.Need-overflow-add-b
-add-b c = fits_count 8 (start c).requires.0 (start c).well-formed.1.1.1.1.0
+add-b : tie.Need-overflow_add-b
+add-b c = fits_count 8 (start c).requires.0 (start c).well_formed.1.1.1.1.0
 
-mul-whole-values : tie.Need-overflow-mul-whole-values
-mul-whole-values c = fits-value (rows_begin (start c)) (start c).well-formed.1.1.1.1.1.0
+mul-whole-values : tie.Need-offset_bounds-out-row
+mul-whole-values c = fits-value (rows_begin (start c)) (start c).well_formed.1.1.1.1.1.0
 
-sub-whole-values : tie.Need-overflow-sub-whole-values
+sub-whole-values : tie.Need-slice_bounds-whole_values-count
 sub-whole-values c = let a = (start c).args in le-add_right a.row a.n
 
-part-whole-values-start : tie.Need-slice-bounds-whole-values-start
+part-whole-values-start : tie.Need-slice_bounds-whole_values-start
 part-whole-values-start c = let a = (start c).args in le-add_right a.row a.n
 
-part-whole-values-end : tie.Need-slice-bounds-whole-values-end
+part-whole-values-end : tie.Need-slice_bounds-whole_values-end
 part-whole-values-end c = (start c).requires.1
 
-mul-whole-values-2 : tie.Need-overflow-mul-whole-values-2
+mul-whole-values-2 : tie.Need-offset_bounds-values-t
 mul-whole-values-2 c = let s = start c.before in fits-value (values_begin s) s.good.1.1.1.1.0
 
-sub-whole-values-2 : tie.Need-overflow-sub-whole-values-2
+sub-whole-values-2 : tie.Need-slice_bounds-whole_values-count-2
 sub-whole-values-2 c = let a = (start c.before).args in le-add_right a.t a.n
 
-part-whole-values-start-2 : tie.Need-slice-bounds-whole-values-start-2
+part-whole-values-start-2 : tie.Need-slice_bounds-whole_values-start-2
 part-whole-values-start-2 c = let a = (start c.before).args in le-add_right a.t a.n
 
-part-whole-values-end-2 : tie.Need-slice-bounds-whole-values-end-2
+part-whole-values-end-2 : tie.Need-slice_bounds-whole_values-end-2
 part-whole-values-end-2 c = (start c.before).requires.0
 
-whole-values-requires : tie.Need-whole-values-requires
+whole-values-requires : tie.Need-whole_values-requires
 whole-values-requires c κs =
     let s = start c.before.before in
     let a = s.args in
     length_part a.t a.n a.values.now s.pre.0 ∙ sym (length_part a.row a.n a.out.now s.pre.1)
 
-abbrev end : tie.After-slice-known2 → tie.After-whole-values
+abbrev end : tie.After-slice_known-2-1 → tie.After-whole_values
 end c = c.before.before
 
-same_length : tie.Need-same-length
+same_length : tie.Need-shape_of-out
 same_length c =
     let w = end c in
     let s = start w.before.before.before in
     let a = s.args in
-    length-put a.row (a.row + a.n - a.row) a.out.now w.whole-values.last.1.0 (rows_begin s) w.whole-values.kept.1.0
+    length-put a.row (a.row + a.n - a.row) a.out.now w.whole_values.last.1.0 (rows_begin s) w.whole_values.kept.out
 
 returns : tie.Need-returns
 returns c =
@@ -72,10 +72,10 @@ returns c =
     let s = start w.before.before.before in
     let a = s.args in
     let vs : List Float = part a.t (a.t + a.n) a.values.now in
-    put_same (whole_values a.standard vs) w.whole-values.last.1.0 a.out.now a.row a.n s.pre.1 w.whole-values.ensures w.whole-values.kept.1.0
+    put_same (whole_values a.standard vs) w.whole_values.last.1.0 a.out.now a.row a.n s.pre.1 w.whole_values.ensures w.whole_values.kept.out
 
-pub join-whole_spec : {M : Type 1} → statement M
-join-whole_spec =
+pub join_whole_spec : {M : Type 1} → statement M
+join_whole_spec =
     tie.close
     (tie.spec
     add-e

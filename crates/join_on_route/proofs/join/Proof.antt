@@ -17,22 +17,23 @@ use Rattle.join_on_route.proofs.join.Statement.{statement}
 use Rattle.join_on_route.proofs.join.Tie as tie
 
 -- the start of the call, from the state where the slices are known
-abbrev begun : tie.After-slice-known4 → tie.Start
+abbrev begun : tie.After-slice_known-4-1 → tie.Start
 begun k = k.before.before.before.before.before.before.before.before.before.before
 
 -- each value of s is a double
-s_doubles : (k : tie.After-slice-known4) → Doubles (begun k).args.s.now
+s_doubles : (k : tie.After-slice_known-4-1) → Doubles (begun k).args.s.now
 s_doubles k =
-    (all-at nan (fits binary64) (begun k).args.s.now).1 (λ i l. k.before.before.before.before.before.before.shared-slice-known4.given i)
+    (all-at nan (fits binary64) (begun k).args.s.now).1 (λ i l. k.shared_slice_known-4-1.given i)
 
-returns : tie.Need-returns
+returns : tie.Need-returns-then-route-gt-COMPACT
 returns c = record {
-  number = sym (no-route _ _ c.if1.true);
+  number = sym (no-route _ _ c.if-route-gt-COMPACT.true);
   tables = record { x = refl; s = refl; z = refl; scalars = refl };
   doubles = s_doubles c.before;
+
 }
 
-abbrev start : tie.Else1 → tie.Start
+abbrev start : tie.Else-route-gt-COMPACT → tie.Start
 start c = begun c.before
 
 -- the refusal number on a route
@@ -40,59 +41,59 @@ abbrev refused : tie.Start → Route → ℕ
 refused s rt =
     let a = s.args in
     join_refusal rt a.n a.m a.cones.now a.count a.words.now (solution a.x.now a.s.now a.z.now a.tau a.kappa) a.map.now
-    (length a.x-out.now ∷ length a.s-out.now ∷ length a.z-out.now ∷ length a.scalars-out.now ∷ [])
+    (length a.x_out.now ∷ length a.s_out.now ∷ length a.z_out.now ∷ length a.scalars_out.now ∷ [])
 
 -- the number returned is that of the route
-answered : (k : tie.After-refuse-join) → let s = start k.before in k.refuse-join.result ≡ refused s (route_of s.args.route)
+answered : (k : tie.After-refuse_join-r) → let s = start k.before in k.refuse_join-r.result ≡ refused s (route_of s.args.route)
 answered k =
     let s = start k.before in
     let a = s.args in
-    k.refuse-join.ensures
+    k.refuse_join-r.ensures
     ∙ as_layout (route_of a.route) a.n a.m a.cones.now a.count a.words.now (solution a.x.now a.s.now a.z.now a.tau a.kappa) a.map.now
-    (length a.x-out.now ∷ length a.s-out.now ∷ length a.z-out.now ∷ length a.scalars-out.now ∷ [])
+    (length a.x_out.now ∷ length a.s_out.now ∷ length a.z_out.now ∷ length a.scalars_out.now ∷ [])
 
-numbered : (c : tie.Else1) → let s = start c in on_route s.args.route (refused s) ≡ refused s (route_of s.args.route)
-numbered c = on_route_lem (start c).args.route (refused (start c)) c.if1.false
+numbered : (c : tie.Else-route-gt-COMPACT) → let s = start c in on_route s.args.route (refused s) ≡ refused s (route_of s.args.route)
+numbered c = on_route_lem (start c).args.route (refused (start c)) c.if-route-gt-COMPACT.false
 
-refuse-join-requires : tie.Need-refuse-join-requires
+refuse-join-requires : tie.Need-refuse_join-r-requires
 refuse-join-requires c κs = tt
 
-returns-2 : tie.Need-returns-2
+returns-2 : tie.Need-returns-then-r-ne-DONE
 returns-2 c =
     let k = c.before in
     record {
       number = answered k ∙ sym (numbered k.before);
-      tables = rejoined-kept k.refuse-join.result c.if2.true _ _;
+      tables = rejoined-kept k.refuse_join-r.result c.if-r-ne-DONE.true _ _;
       doubles = s_doubles k.before.before;
     }
 
 -- nothing was refused
-none : (c : tie.Else2) → let s = start c.before.before in refused s (route_of s.args.route) ≡ 0
-none c = sym (answered c.before) ∙ c.if2.false
+none : (c : tie.Else-r-ne-DONE) → let s = start c.before.before in refused s (route_of s.args.route) ≡ 0
+none c = sym (answered c.before) ∙ c.if-r-ne-DONE.false
 
-accepted : (c : tie.Else2)
+accepted : (c : tie.Else-r-ne-DONE)
     → let a = (start c.before.before).args in
     Accepted (route_of a.route) a.n a.m a.cones.now a.count a.words.now (solution a.x.now a.s.now a.z.now a.tau a.kappa)
-    a.map.now (length a.x-out.now) (length a.s-out.now) (length a.z-out.now) (length a.scalars-out.now)
+    a.map.now (length a.x_out.now) (length a.s_out.now) (length a.z_out.now) (length a.scalars_out.now)
 accepted c =
     let a = (start c.before.before).args in
     join-accepted (route_of a.route) a.n a.m a.cones.now a.count a.words.now (solution a.x.now a.s.now a.z.now a.tau a.kappa) a.map.now
-    (length a.x-out.now) (length a.s-out.now) (length a.z-out.now) (length a.scalars-out.now) (none c)
+    (length a.x_out.now) (length a.s_out.now) (length a.z_out.now) (length a.scalars_out.now) (none c)
 
-copy-x-requires : tie.Need-copy-x-requires
+copy-x-requires : tie.Need-copy_x-requires
 copy-x-requires c κs = let g = accepted c.before in (g.columns, g.room_x)
 
 -- the states after x was copied, and after s and z were joined
-abbrev chosen : tie.After-copy-x → tie.Else2
+abbrev chosen : tie.After-copy_x → tie.Else-r-ne-DONE
 chosen x = x.before.before
 
-abbrev copied : tie.After-decomp-reverse → tie.After-copy-x
+abbrev copied : tie.After-decomp_reverse → tie.After-copy_x
 copied d = d.before.before.before.before.before
 
-abbrev reversed : tie.After-write-scalars → tie.After-decomp-reverse
+abbrev reversed : tie.After-write_scalars → tie.After-decomp_reverse
 reversed w = w.before.before.before.before.before.before.before
 
-decomp-reverse-requires : tie.Need-decomp-reverse-requires
+decomp-reverse-requires : tie.Need-decomp_reverse-requires
 decomp-reverse-requires c κs =
     let l = chosen c.before.before.before.before in
     let g = accepted l in
@@ -104,42 +105,42 @@ decomp-reverse-requires c κs =
 joined-requires : tie.Need-joined-requires
 joined-requires c κs = tt
 
-write-scalars-requires : tie.Need-write-scalars-requires
+write-scalars-requires : tie.Need-write_scalars-requires
 write-scalars-requires c κs = (accepted (chosen (copied c.before.before.before.before.before.before))).room_scalars
 
-same_length : tie.Need-same-length
-same_length c = (copied (reversed c.before.before)).copy-x.auto.1.1.0
+same_length : tie.Need-shape_of-x_out
+same_length c = (copied (reversed c.before.before)).copy_x.auto.out
 
-same-length-2 : tie.Need-same-length-2
-same-length-2 c = (reversed c.before.before).decomp-reverse.auto.1.1.1.1.1.1.1.1.0
+same-length-2 : tie.Need-shape_of-s_out
+same-length-2 c = (reversed c.before.before).decomp_reverse.auto.s_out
 
-same-length-3 : tie.Need-same-length-3
-same-length-3 c = (reversed c.before.before).decomp-reverse.auto.1.1.1.1.1.1.1.1.1.0
+same-length-3 : tie.Need-shape_of-z_out
+same-length-3 c = (reversed c.before.before).decomp_reverse.auto.z_out
 
-same-length-4 : tie.Need-same-length-4
-same-length-4 c = c.before.before.write-scalars.auto.1.0
+same-length-4 : tie.Need-shape_of-scalars_out
+same-length-4 c = c.write_scalars.auto.out
 
-returns-3 : tie.Need-returns-3
+returns-3 : tie.Need-returns
 returns-3 c =
     let w = c.before.before in
-    let j = w.before.before.joined in
+    let j = w.joined in
     let d = reversed w in
     let l = chosen (copied d) in
     let a = (start l.before.before).args in
     let rt = route_of a.route in
     let on : Route → Solution = λ r. joined_of r a.m a.cones.now a.count a.words.now a.s.now a.z.now in
     let put : (old xs ys : List Float) → xs ≡ ys → written xs old ≡ written ys old = λ old xs ys e. ap (λ (l : List Float). written l old) e in
-    let e = d.decomp-reverse.ensures in
+    let e = d.decomp_reverse.ensures in
     let parts = joined-parts a.n a.m a.cones.now a.count a.words.now a.x.now a.s.now a.z.now a.tau a.kappa rt in
     let scalars =
     joined-scalars a.n a.m a.cones.now a.count a.words.now a.x.now a.s.now a.z.now a.tau a.kappa rt
     j.result.tau j.result.kappa j.ensures.0 j.ensures.1 in record {
       number = sym (numbered l.before.before ∙ none l);
       tables = record {
-        x = (copied d).copy-x.ensures ∙ put a.x-out.now _ _ parts.0;
-        s = e.0 ∙ put a.s-out.now _ _ (ap (λ (r : Route). (on r).s) (by_number a.route) ∙ parts.1);
-        z = e.1 ∙ put a.z-out.now _ _ (ap (λ (r : Route). (on r).z) (by_number a.route) ∙ parts.2);
-        scalars = w.write-scalars.ensures ∙ put a.scalars-out.now _ _ scalars;
+        x = (copied d).copy_x.ensures ∙ put a.x_out.now _ _ parts.0;
+        s = e.0 ∙ put a.s_out.now _ _ (ap (λ (r : Route). (on r).s) (by_number a.route) ∙ parts.1);
+        z = e.1 ∙ put a.z_out.now _ _ (ap (λ (r : Route). (on r).z) (by_number a.route) ∙ parts.2);
+        scalars = w.write_scalars.ensures ∙ put a.scalars_out.now _ _ scalars;
       };
       doubles = s_doubles l.before.before.before;
     }

@@ -13,30 +13,30 @@ on s route =
     let a = s.args in
     lengths_fit route a.n a.m a.rows a.overlaps a.x a.s a.z
 
-add-lengths-are : tie.Need-overflow-add-lengths-are
+add-lengths-are : tie.Need-overflow_add-n
 add-lengths-are c = search rules
 
-add-lengths-are-2 : tie.Need-overflow-add-lengths-are-2
+add-lengths-are-2 : tie.Need-overflow_add-m
 add-lengths-are-2 c = search rules
 
-lengths-are-requires : tie.Need-lengths-are-requires
+lengths-are-requires : tie.Need-lengths_are-requires
 lengths-are-requires c κs = search rules
 
-returns : tie.Need-returns
+returns : tie.Need-returns-then-route-eq-STANDARD
 returns c =
     let s = c.before.before in
-    c.lengths-are.ensures ∙ sym (ap (on s) (route_standard s.args.route c.before.if1.true))
+    c.lengths_are.ensures ∙ sym (ap (on s) (route_standard s.args.route c.if-route-eq-STANDARD.true))
 
-add-lengths-are-3 : tie.Need-overflow-add-lengths-are-3
+add-lengths-are-3 : tie.Need-overflow_add-n-2
 add-lengths-are-3 c = search rules
 
-lengths-are-requires-2 : tie.Need-lengths-are-requires-2
+lengths-are-requires-2 : tie.Need-lengths_are-requires-2
 lengths-are-requires-2 c κs = search rules
 
-returns-2 : tie.Need-returns-2
+returns-2 : tie.Need-returns
 returns-2 c =
     let s = c.before.before in
-    c.lengths-are2.ensures ∙ sym (ap (on s) (route_compact s.args.route c.before.if1.false))
+    c.lengths_are-2.ensures ∙ sym (ap (on s) (route_compact s.args.route c.if-route-eq-STANDARD.false))
 
 pub lengths_fit_spec : {M : Type 1} → statement M
 lengths_fit_spec =

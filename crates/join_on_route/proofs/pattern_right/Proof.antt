@@ -19,7 +19,7 @@ use Rattle.join_on_route.proofs.pattern_right.Statement.{statement}
 use Rattle.join_on_route.proofs.pattern_right.Tie as tie
 
 -- the cliques of the pattern are those read after its head
-module _ (k : tie.After-here) where
+module _ (k : tie.After-here-p) where
   abbrev start : tie.Start
   start = k.before.before.before
 
@@ -27,13 +27,13 @@ module _ (k : tie.After-here) where
   given = pattern_at start.args.words.now start.args.at
 
   abbrev here : List Clique
-  here = let q = k.here.result in cliques_from start.args.words.now q.cliques q.clique_count
+  here = let q = k.here-p.result in cliques_from start.args.words.now q.cliques q.clique_count
 
   pattern : given.cliques ≡ here
-  pattern = ap (λ (p : Pattern). p.cliques) (pattern_here start.args.words.now start.args.at _ start.pre.0 k.here.ensures.0 k.here.result refl)
+  pattern = ap (λ (p : Pattern). p.cliques) (pattern_here start.args.words.now start.args.at _ start.pre.0 k.here-p.ensures.0 k.here-p.result refl)
 
-  whole : let q = k.here.result in Whole start.args.words.now q.cliques q.clique_count
-  whole = cliques_here start.args.words.now start.args.at _ start.pre.0 k.here.ensures.0 k.here.result refl
+  whole : let q = k.here-p.result in Whole start.args.words.now q.cliques q.clique_count
+  whole = cliques_here start.args.words.now start.args.at _ start.pre.0 k.here-p.ensures.0 k.here-p.result refl
 
   small : all (block_at_most 256) here ≡ true
   small = sym (ap (all (block_at_most 256)) pattern) ∙ blocks-small given 256 start.pre.0 start.pre.1
@@ -42,20 +42,25 @@ module _ (k : tie.After-here) where
   rows : sum (map dim_of here) ≡ block_rows given
   rows = ap (λ (cs : List Clique). sum (map dim_of cs)) (sym pattern)
 
-here-requires : tie.Need-here-requires
+here-requires : tie.Need-here-p-requires
 here-requires c κs = let s = c.before.before in right-head s.args.words.now s.args.at s.requires.0.tree
 
-blocks-right-requires : tie.Need-blocks-right-requires
+blocks-right-requires : tie.Need-blocks_right-requires
 blocks-right-requires c κs = ((whole c, (start c).requires.2), small c)
 
 returns : tie.Need-returns
 returns c =
     let k = c.before in
     let a = (start k).args in
-    c.blocks-right.ensures
+    c.blocks_right.ensures
     ∙ ap₂ (λ (l : List ℕ) (n : ℕ). begins (drop a.t a.entries.now) l && eqb a.end (a.start + n))
     (ap (down_words a.cone a.pattern 0 a.start) (sym (pattern k)) ∙ ap map_words (sym (entries-down (given k) a.cone 0 a.pattern a.start)))
     (rows k)
 
 pub pattern_right_spec : {M : Type 1} → statement M
-pattern_right_spec = tie.close (tie.spec here-requires blocks-right-requires returns)
+pattern_right_spec =
+    tie.close
+    (tie.spec
+    here-requires
+    blocks-right-requires
+    returns)

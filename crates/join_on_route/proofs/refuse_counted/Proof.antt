@@ -18,38 +18,38 @@ abbrev ten : tie.Start → ℕ
 ten s = let a = s.args in cond (rows_fit (route_of a.route) a.m a.rows a.overlaps) 0 10
 
 abbrev room : tie.Start → Bool
-room s = let a = s.args in roomy (a.n ∷ a.m ∷ a.m ∷ 2 ∷ []) (a.x-room ∷ a.s-room ∷ a.z-room ∷ a.scalars-room ∷ [])
+room s = let a = s.args in roomy (a.n ∷ a.m ∷ a.m ∷ 2 ∷ []) (a.x_room ∷ a.s_room ∷ a.z_room ∷ a.scalars_room ∷ [])
 
 abbrev fit : tie.Start → Bool
 fit s = let a = s.args in lengths_fit (route_of a.route) a.n a.m a.rows a.overlaps a.x a.s a.z
 
-fine : (c : tie.Else1) → ten c.before.before ≡ 0
-fine c = sym c.before.rows-refusal.ensures ∙ c.if1.false
+fine : (c : tie.Else-r-ne-DONE) → ten c.before.before ≡ 0
+fine c = sym c.rows_refusal-r.ensures ∙ c.if-r-ne-DONE.false
 
-roomed : (c : tie.Else2) → room c.before.before.before.before ≡ true
-roomed c = sym c.before.room-enough.ensures ∙ not-false _ c.if2.false
+roomed : (c : tie.Else-not-room_enough) → room c.before.before.before.before ≡ true
+roomed c = sym c.room_enough.ensures ∙ not-false _ c.if-not-room_enough.false-raw
 
-rows-refusal-requires : tie.Need-rows-refusal-requires
+rows-refusal-requires : tie.Need-rows_refusal-r-requires
 rows-refusal-requires c κs = tt
 
-returns : tie.Need-returns
+returns : tie.Need-returns-then-r-ne-DONE
 unfolding counted_refusal
 returns c =
     let s = c.before.before in
-    let e = c.before.rows-refusal.ensures in
-    e ∙ sym ((join_order (ten s) (room s) (fit s)).0 (λ z. c.if1.true (e ∙ z)))
+    let e = c.rows_refusal-r.ensures in
+    e ∙ sym ((join_order (ten s) (room s) (fit s)).0 (λ z. c.if-r-ne-DONE.true (e ∙ z)))
 
-room-enough-requires : tie.Need-room-enough-requires
+room-enough-requires : tie.Need-room_enough-requires
 room-enough-requires c κs = tt
 
-returns-2 : tie.Need-returns-2
+returns-2 : tie.Need-returns-then-not-room_enough
 unfolding counted_refusal
 returns-2 c =
     let e = c.before.before in
     let s = e.before.before in
-    sym ((join_order (ten s) (room s) (fit s)).1 (fine e) (sym c.before.room-enough.ensures ∙ not-true _ c.if2.true))
+    sym ((join_order (ten s) (room s) (fit s)).1 (fine e) (sym c.room_enough.ensures ∙ not-true _ c.if-not-room_enough.true-raw))
 
-lengths-fit-requires : tie.Need-lengths-fit-requires
+lengths-fit-requires : tie.Need-lengths_fit-requires
 lengths-fit-requires c κs =
     let e = c.before.before in
     let s = e.before.before in
@@ -57,21 +57,21 @@ lengths-fit-requires c κs =
     let tenth = check 10 (rows_fit (route_of a.route) a.m a.rows a.overlaps) in
     (rows_few (route_of a.route) a.m a.rows a.overlaps (passed 10 (tenth ∷ []) tt (fine e)), s.requires)
 
-returns-3 : tie.Need-returns-3
+returns-3 : tie.Need-returns-then-not-lengths_fit
 unfolding counted_refusal
 returns-3 c =
     let l = c.before.before in
     let e = l.before.before in
     let s = e.before.before in
-    sym ((join_order (ten s) (room s) (fit s)).2 (fine e) (roomed l) (sym c.before.lengths-fit.ensures ∙ not-true _ c.if3.true))
+    sym ((join_order (ten s) (room s) (fit s)).2 (fine e) (roomed l) (sym c.lengths_fit.ensures ∙ not-true _ c.if-not-lengths_fit.true-raw))
 
-returns-4 : tie.Need-returns-4
+returns-4 : tie.Need-returns
 unfolding counted_refusal
 returns-4 c =
     let l = c.before.before in
     let e = l.before.before in
     let s = e.before.before in
-    sym ((join_order (ten s) (room s) (fit s)).3 (fine e) (roomed l) (sym c.before.lengths-fit.ensures ∙ not-false _ c.if3.false))
+    sym ((join_order (ten s) (room s) (fit s)).3 (fine e) (roomed l) (sym c.lengths_fit.ensures ∙ not-false _ c.if-not-lengths_fit.false-raw))
 
 pub refuse_counted_spec : {M : Type 1} → statement M
 refuse_counted_spec =

@@ -14,40 +14,40 @@ use Rattle.join_on_route.proofs.Order.{counted_few, refused_early, counted_rows-
 use Rattle.join_on_route.proofs.refuse_join.Statement.{statement}
 use Rattle.join_on_route.proofs.refuse_join.Tie as tie
 
-abbrev start : tie.After-check-joined → tie.Start
+abbrev start : tie.After-check_joined-c → tie.Start
 start k = k.before.before.before.before
 
 abbrev rooms : tie.Start → List ℕ
-rooms s = let a = s.args in a.x-room ∷ a.s-room ∷ a.z-room ∷ a.scalars-room ∷ []
+rooms s = let a = s.args in a.x_room ∷ a.s_room ∷ a.z_room ∷ a.scalars_room ∷ []
 
-check-joined-requires : tie.Need-check-joined-requires
+check-joined-requires : tie.Need-check_joined-c-requires
 check-joined-requires c κs = tt
 
-returns : tie.Need-returns
+returns : tie.Need-returns-then-c-ne-DONE
 returns c =
     let k = c.before.before in
     let s = start k in
     let a = s.args in
     refused_early (route_of a.route) a.n a.m a.cones.now a.count a.words.now a.x a.s a.z a.entries.now (rooms s)
-    k.check-joined.result.refusal k.check-joined.ensures.0 c.if1.true
+    k.check_joined-c.result.refusal k.check_joined-c.ensures.0 c.if-c-ne-DONE.true
 
 -- checks 1 to 7 passed
-seven : (c : tie.Else1) → let a = (start c.before.before).args in joined_refusal a.n a.m a.cones.now a.count a.words.now ≡ 0
-seven c = sym c.before.before.check-joined.ensures.0 ∙ c.if1.false
+seven : (c : tie.Else-c-ne-DONE) → let a = (start c.before.before).args in joined_refusal a.n a.m a.cones.now a.count a.words.now ≡ 0
+seven c = sym c.check_joined-c.ensures.0 ∙ c.if-c-ne-DONE.false
 
-counted : (c : tie.Else1)
+counted : (c : tie.Else-c-ne-DONE)
     → let k = c.before.before in
     let a = (start k).args in
-    Counted (joined_parts a.cones.now a.count a.words.now) k.check-joined.result.rows k.check-joined.result.overlaps
-counted c = let g = c.before.before.check-joined.ensures.1 c.if1.false in (g.0, g.1)
+    Counted (joined_parts a.cones.now a.count a.words.now) k.check_joined-c.result.rows k.check_joined-c.result.overlaps
+counted c = let g = c.check_joined-c.ensures.1 c.if-c-ne-DONE.false in (g.0, g.1)
 
-refuse-counted-requires : tie.Need-refuse-counted-requires
+refuse-counted-requires : tie.Need-refuse_counted-r-requires
 refuse-counted-requires c κs =
     let k = c.before.before in
     let a = (start k).args in
-    counted_few (route_of a.route) a.n a.m k.check-joined.result.rows k.check-joined.result.overlaps (joined_parts a.cones.now a.count a.words.now) (counted c)
+    counted_few (route_of a.route) a.n a.m k.check_joined-c.result.rows k.check_joined-c.result.overlaps (joined_parts a.cones.now a.count a.words.now) (counted c)
 
-returns-2 : tie.Need-returns-2
+returns-2 : tie.Need-returns-then-r-ne-DONE
 returns-2 c =
     let r = c.before in
     let e = r.before in
@@ -55,10 +55,10 @@ returns-2 c =
     let s = start k in
     let a = s.args in
     refused_counted (route_of a.route) a.n a.m a.cones.now a.count a.words.now a.x a.s a.z a.entries.now (rooms s)
-    k.check-joined.result.rows k.check-joined.result.overlaps (counted e) (seven e) r.refuse-counted.result r.refuse-counted.ensures c.if2.true
+    k.check_joined-c.result.rows k.check_joined-c.result.overlaps (counted e) (seven e) r.refuse_counted-r.result r.refuse_counted-r.ensures c.if-r-ne-DONE.true
 
 -- if checks 10 to 12 pass apart from the map, the map decides the number
-decided : (c : tie.Else2)
+decided : (c : tie.Else-r-ne-DONE)
     → let a = (start c.before.before.before.before).args in
     (route : Route) → route_of a.route ≡ route
     → refusal_by (route_of a.route) a.n a.m a.cones.now a.count a.words.now a.x a.s a.z a.entries.now (rooms (start c.before.before.before.before))
@@ -70,13 +70,13 @@ decided c route f =
     let s = start k in
     let a = s.args in
     by_map_lem (route_of a.route) a.n a.m a.cones.now a.count a.words.now a.x a.s a.z a.entries.now (rooms s)
-    k.check-joined.result.rows k.check-joined.result.overlaps (counted e) (seven e) r.refuse-counted.result r.refuse-counted.ensures c.if2.false
+    k.check_joined-c.result.rows k.check_joined-c.result.overlaps (counted e) (seven e) r.refuse_counted-r.result r.refuse_counted-r.ensures c.if-r-ne-DONE.false
     ∙ ap (λ (rt : Route). cond (map_right rt (joined_parts a.cones.now a.count a.words.now) a.entries.now) 0 12) f
 
-returns-3 : tie.Need-returns-3
-returns-3 c = sym (decided c.before _ (route_standard _ c.if3.true))
+returns-3 : tie.Need-returns-then-route-eq-STANDARD
+returns-3 c = sym (decided c.before _ (route_standard _ c.if-route-eq-STANDARD.true))
 
-map-right-requires : tie.Need-map-right-requires
+map-right-requires : tie.Need-map_right-requires
 map-right-requires c κs =
     let two = c.before in
     let r = two.before in
@@ -86,21 +86,21 @@ map-right-requires c κs =
     let a = s.args in (
       joined-sound a.n a.m a.cones.now a.count a.words.now (seven e),
       counted_rows-few (route_of a.route) a.n a.m a.cones.now a.count a.words.now a.x a.s a.z a.entries.now (rooms s)
-          k.check-joined.result.rows k.check-joined.result.overlaps (counted e) (seven e) r.refuse-counted.result r.refuse-counted.ensures two.if2.false,
+          k.check_joined-c.result.rows k.check_joined-c.result.overlaps (counted e) (seven e) r.refuse_counted-r.result r.refuse_counted-r.ensures two.if-r-ne-DONE.false,
     )
 
 -- the number on the compact route
-answered : (c : tie.After-map-right)
+answered : (c : tie.After-map_right)
     → let a = (start c.before.before.before.before.before.before).args in
     refusal_by (route_of a.route) a.n a.m a.cones.now a.count a.words.now a.x a.s a.z a.entries.now (rooms (start c.before.before.before.before.before.before))
-    ≡ cond c.map-right.result 0 12
-answered c = decided c.before.before _ (route_compact _ c.before.if3.false) ∙ ap (λ (t : Bool). cond t 0 12) (sym c.map-right.ensures)
+    ≡ cond c.map_right.result 0 12
+answered c = decided c.before.before _ (route_compact _ c.if-route-eq-STANDARD.false) ∙ ap (λ (t : Bool). cond t 0 12) (sym c.map_right.ensures)
 
-returns-4 : tie.Need-returns-4
-returns-4 c = sym (answered c.before ∙ ap (λ (t : Bool). cond t 0 12) c.if4.true)
+returns-4 : tie.Need-returns-then-map_right
+returns-4 c = sym (answered c.before ∙ ap (λ (t : Bool). cond t 0 12) c.if-map_right.true)
 
-returns-5 : tie.Need-returns-5
-returns-5 c = sym (answered c.before ∙ ap (λ (t : Bool). cond t 0 12) c.if4.false)
+returns-5 : tie.Need-returns
+returns-5 c = sym (answered c.before ∙ ap (λ (t : Bool). cond t 0 12) c.if-map_right.false)
 
 pub refuse_join_spec : {M : Type 1} → statement M
 refuse_join_spec =

@@ -36,7 +36,7 @@ use Rattle.layout.proofs.Lists.Walks.{same_le}
 use Rattle.join_rows.proofs.join_parts.Statement.{statement}
 use Rattle.join_rows.proofs.join_parts.Tie as tie
 
-abbrev invariant-loop : tie.invariant-loop
+abbrev invariant-loop : tie.invariant-loop-rows
 invariant-loop standard m cones count words entries s z s-out₀ z-out₀ counts₀ offsets₀ vertices₀ place₀ row₀ t₀ entry₀ s-out z-out counts offsets vertices place row t entry =
     let ps = joined_parts cones count words in
     let left = ahead cones words place in
@@ -46,7 +46,7 @@ invariant-loop standard m cones count words entries s z s-out₀ z-out₀ counts
     × Reached m cones words place × (length offsets ≡ 256) × (length vertices ≡ 256)
     × Starts standard entries entry t (block_sizes left) × (entry ≤ place.cone * 256)
 
-abbrev decreases-loop : tie.decreases-loop
+abbrev decreases-loop : tie.decreases-loop-rows
 decreases-loop standard m cones count words entries s z s-out₀ z-out₀ counts₀ offsets₀ vertices₀ place₀ row₀ t₀ entry₀ s-out z-out counts offsets vertices place row t entry = length (ahead cones words place)
 
 -- ---- numbers: n of those left belong to the next part
@@ -93,135 +93,135 @@ cleared_first false m cones counts room = tt
 
 -- ---- one turn of the loop
 
-abbrev start : (l : tie.At-loop invariant-loop decreases-loop) → tie.Start invariant-loop decreases-loop
+abbrev start : (l : tie.At-loop-rows invariant-loop decreases-loop) → tie.start-place invariant-loop decreases-loop
 start l = l.before.before.before.before.before.before.before.before.before.before.before
 
 -- the parts left
-abbrev left : (l : tie.At-loop invariant-loop decreases-loop) → List Part
-left l = let a = (start l).args in ahead a.cones.now a.words.now l.loop.place
+abbrev left : (l : tie.At-loop-rows invariant-loop decreases-loop) → List Part
+left l = let a = (start l).args in ahead a.cones.now a.words.now l.loop-rows.place
 
 abbrev rows_of : List Part → ℕ
 rows_of ps = sum (map cone_rows ps)
 
 -- ---- the next cone is not decomposed
 
-abbrev loop_of : (c : tie.After-known-told invariant-loop decreases-loop) → tie.At-loop invariant-loop decreases-loop
+abbrev loop_of : (c : tie.In-Whole invariant-loop decreases-loop) → tie.At-loop-rows invariant-loop decreases-loop
 loop_of c = c.before.before.before.before
 
-abbrev cone_of : (c : tie.After-known-told invariant-loop decreases-loop) → Cone
-cone_of c = let l = loop_of c in get_or (records (start l).args.cones.now) l.loop.place.cone no_cone
+abbrev cone_of : (c : tie.In-Whole invariant-loop decreases-loop) → Cone
+cone_of c = let l = loop_of c in get_or (records (start l).args.cones.now) l.loop-rows.place.cone no_cone
 
-abbrev whole_of : (c : tie.After-known-told invariant-loop decreases-loop) → Part
-whole_of c = let q = (loop_of c).loop.place in whole q.cone (cone_of c) q.row
+abbrev whole_of : (c : tie.In-Whole invariant-loop decreases-loop) → Part
+whole_of c = let q = (loop_of c).loop-rows.place in whole q.cone (cone_of c) q.row
 
-abbrev after-whole : (c : tie.After-known-told invariant-loop decreases-loop) → List Part
-after-whole c = let a = (start (loop_of c)).args in ahead a.cones.now a.words.now c.before.met.given.0.1.0
+abbrev after-whole : (c : tie.In-Whole invariant-loop decreases-loop) → List Part
+after-whole c = let a = (start (loop_of c)).args in ahead a.cones.now a.words.now c.met-1.given.0.1.0
 
-met_whole : (c : tie.After-known-told invariant-loop decreases-loop) → left (loop_of c) ≡ whole_of c ∷ after-whole c
+met_whole : (c : tie.In-Whole invariant-loop decreases-loop) → left (loop_of c) ≡ whole_of c ∷ after-whole c
 met_whole c =
     let l = loop_of c in
     let a = (start l).args in
-    by_same (meets a.cones.now a.words.now l.loop.place) {r = left l} c.before.before.before.next.ensures.0 c.before.met.given.1
+    by_same (meets a.cones.now a.words.now l.loop-rows.place) {r = left l} c.next-met.ensures.0 c.met-1.given.1
 
-knows_whole : (c : tie.After-known-told invariant-loop decreases-loop)
+knows_whole : (c : tie.In-Whole invariant-loop decreases-loop)
     → let l = loop_of c in
     let a = (start l).args in
-    let g = c.before.met.given.0 in
-    Knows a.m a.cones.now a.words.now l.loop.place (Whole g.0 g.1.0)
+    let g = c.met-1.given.0 in
+    Knows a.m a.cones.now a.words.now l.loop-rows.place (Whole g.0 g.1.0)
 knows_whole c =
     let l = loop_of c in
     let a = (start l).args in
-    subst (Knows a.m a.cones.now a.words.now l.loop.place) c.before.met.given.1 c.before.before.before.next.ensures.1
+    subst (Knows a.m a.cones.now a.words.now l.loop-rows.place) c.met-1.given.1 c.next-met.ensures.1
 
 -- the cone's rows and values
-rows_whole : (c : tie.After-known-told invariant-loop decreases-loop) → (loop_of c).loop.row + c.before.met.given.0.0 ≤ (start (loop_of c)).args.m
+rows_whole : (c : tie.In-Whole invariant-loop decreases-loop) → (loop_of c).loop-rows.row + c.met-1.given.0.0 ≤ (start (loop_of c)).args.m
 rows_whole c =
     let l = loop_of c in
-    sum_fits l.loop.row c.before.met.given.0.0 (cone_rows (whole_of c)) (rows_of (after-whole c)) (rows_of (left l)) (start l).args.m l.loop.inv.3 (ap rows_of (met_whole c)) (knows_whole c).0
+    sum_fits l.loop-rows.row c.met-1.given.0.0 (cone_rows (whole_of c)) (rows_of (after-whole c)) (rows_of (left l)) (start l).args.m l.loop-rows.inv.3 (ap rows_of (met_whole c)) (knows_whole c).0
 
-s_whole : (c : tie.After-known-told invariant-loop decreases-loop) → (loop_of c).loop.t + c.before.met.given.0.0 ≤ length (start (loop_of c)).args.s.now
+s_whole : (c : tie.In-Whole invariant-loop decreases-loop) → (loop_of c).loop-rows.t + c.met-1.given.0.0 ≤ length (start (loop_of c)).args.s.now
 s_whole c =
     let l = loop_of c in
-    sum_fits l.loop.t c.before.met.given.0.0 (cone_rows (whole_of c)) (block_row_count (after-whole c)) (block_row_count (left l)) (length (start l).args.s.now) l.loop.inv.4
+    sum_fits l.loop-rows.t c.met-1.given.0.0 (cone_rows (whole_of c)) (block_row_count (after-whole c)) (block_row_count (left l)) (length (start l).args.s.now) l.loop-rows.inv.4
     (ap block_row_count (met_whole c)) (knows_whole c).0
 
-z_same : (s : tie.Start invariant-loop decreases-loop) → length s.args.z.now ≡ length s.args.s.now
+z_same : (s : tie.start-place invariant-loop decreases-loop) → length s.args.z.now ≡ length s.args.s.now
 z_same s = same_count s.args.standard s.requires.0
 
-z_whole : (c : tie.After-known-told invariant-loop decreases-loop) → (loop_of c).loop.t + c.before.met.given.0.0 ≤ length (start (loop_of c)).args.z.now
+z_whole : (c : tie.In-Whole invariant-loop decreases-loop) → (loop_of c).loop-rows.t + c.met-1.given.0.0 ≤ length (start (loop_of c)).args.z.now
 z_whole c = le_same (s_whole c) (z_same (start (loop_of c)))
 
 -- the index of the cone's first value, which its map entry holds on the compact route
-starts-whole : (c : tie.After-known-told invariant-loop decreases-loop)
+starts-whole : (c : tie.In-Whole invariant-loop decreases-loop)
     → let l = loop_of c in
     let a = (start l).args in
-    Starts a.standard a.map.now l.loop.entry l.loop.t (row_count (cone_of c) ∷ block_sizes (after-whole c))
+    Starts a.standard a.map.now l.loop-rows.entry l.loop-rows.t (row_count (cone_of c) ∷ block_sizes (after-whole c))
 starts-whole c =
     let l = loop_of c in
     let a = (start l).args in
-    subst (λ (ps : List Part). Starts a.standard a.map.now l.loop.entry l.loop.t (block_sizes ps)) (met_whole c) l.loop.inv.9
+    subst (λ (ps : List Part). Starts a.standard a.map.now l.loop-rows.entry l.loop-rows.t (block_sizes ps)) (met_whole c) l.loop-rows.inv.9
 
-began : (b : tie.After-block-start invariant-loop decreases-loop) → b.block_start.result ≡ (loop_of b.before).loop.t
+began : (b : tie.After-block_start-start invariant-loop decreases-loop) → b.block_start-start.result ≡ (loop_of b.before).loop-rows.t
 began b =
     let c = b.before in
     let l = loop_of c in
     let a = (start l).args in
-    b.block_start.ensures ∙ (start_here a.standard a.map.now l.loop.entry l.loop.t (row_count (cone_of c)) (block_sizes (after-whole c)) (starts-whole c)).1
+    b.block_start-start.ensures ∙ (start_here a.standard a.map.now l.loop-rows.entry l.loop-rows.t (row_count (cone_of c)) (block_sizes (after-whole c)) (starts-whole c)).1
 
 -- ---- the next cone is decomposed
 
-abbrev loop_of2 : (c : tie.After-known-told2 invariant-loop decreases-loop) → tie.At-loop invariant-loop decreases-loop
+abbrev loop_of2 : (c : tie.In-Cut invariant-loop decreases-loop) → tie.At-loop-rows invariant-loop decreases-loop
 loop_of2 c = c.before.before.before.before
 
-abbrev pattern_of : (c : tie.After-known-told2 invariant-loop decreases-loop) → Pattern
-pattern_of c = pattern_at (start (loop_of2 c)).args.words.now c.before.met2.given.0.0
+abbrev pattern_of : (c : tie.In-Cut invariant-loop decreases-loop) → Pattern
+pattern_of c = pattern_at (start (loop_of2 c)).args.words.now c.met-in-Cut-1.given.0.0
 
-abbrev cut_of : (c : tie.After-known-told2 invariant-loop decreases-loop) → Part
-cut_of c = let q = (loop_of2 c).loop.place in cut q.cone q.row q.pattern (pattern_of c)
+abbrev cut_of : (c : tie.In-Cut invariant-loop decreases-loop) → Part
+cut_of c = let q = (loop_of2 c).loop-rows.place in cut q.cone q.row q.pattern (pattern_of c)
 
-abbrev after-cut : (c : tie.After-known-told2 invariant-loop decreases-loop) → List Part
-after-cut c = let a = (start (loop_of2 c)).args in ahead a.cones.now a.words.now c.before.met2.given.0.1.0
+abbrev after-cut : (c : tie.In-Cut invariant-loop decreases-loop) → List Part
+after-cut c = let a = (start (loop_of2 c)).args in ahead a.cones.now a.words.now c.met-in-Cut-1.given.0.1.0
 
-met_cut : (c : tie.After-known-told2 invariant-loop decreases-loop) → left (loop_of2 c) ≡ cut_of c ∷ after-cut c
+met_cut : (c : tie.In-Cut invariant-loop decreases-loop) → left (loop_of2 c) ≡ cut_of c ∷ after-cut c
 met_cut c =
     let l = loop_of2 c in
     let a = (start l).args in
-    by_same (meets a.cones.now a.words.now l.loop.place) {r = left l} c.before.before.before.next.ensures.0 c.before.met2.given.1
+    by_same (meets a.cones.now a.words.now l.loop-rows.place) {r = left l} c.next-met.ensures.0 c.met-in-Cut-1.given.1
 
-knows_cut : (c : tie.After-known-told2 invariant-loop decreases-loop)
+knows_cut : (c : tie.In-Cut invariant-loop decreases-loop)
     → let l = loop_of2 c in
     let a = (start l).args in
-    let g = c.before.met2.given.0 in
-    Knows a.m a.cones.now a.words.now l.loop.place (Cut g.0 g.1.0)
+    let g = c.met-in-Cut-1.given.0 in
+    Knows a.m a.cones.now a.words.now l.loop-rows.place (Cut g.0 g.1.0)
 knows_cut c =
     let l = loop_of2 c in
     let a = (start l).args in
-    subst (Knows a.m a.cones.now a.words.now l.loop.place) c.before.met2.given.1 c.before.before.before.next.ensures.1
+    subst (Knows a.m a.cones.now a.words.now l.loop-rows.place) c.met-in-Cut-1.given.1 c.next-met.ensures.1
 
 -- the pattern names its cone
-named-cut : (c : tie.After-known-told2 invariant-loop decreases-loop) → T (names_its_cone (records (start (loop_of2 c)).args.cones.now) (pattern_of c))
+named-cut : (c : tie.In-Cut invariant-loop decreases-loop) → T (names_its_cone (records (start (loop_of2 c)).args.cones.now) (pattern_of c))
 named-cut c =
     let l = loop_of2 c in
     let a = (start l).args in
-    let q = l.loop.place in
+    let q = l.loop-rows.place in
     cut-passes (names_its_cone (records a.cones.now)) q.cone q.row q.pattern (drop q.cone (records a.cones.now)) (patterns_ahead a.words.now q)
-    q.cone q.row q.pattern (pattern_of c) (after-cut c) (met_cut c) l.loop.inv.6.named
+    q.cone q.row q.pattern (pattern_of c) (after-cut c) (met_cut c) l.loop-rows.inv.6.named
 
 -- the indices where the values of its blocks start, and those of the parts after it
-starts-cut : (c : tie.After-known-told2 invariant-loop decreases-loop)
+starts-cut : (c : tie.In-Cut invariant-loop decreases-loop)
     → let l = loop_of2 c in
     let a = (start l).args in
     let ns = down_sizes (pattern_of c) in
-    Starts a.standard a.map.now l.loop.entry l.loop.t ns
-    × Starts a.standard a.map.now (l.loop.entry + length ns) (l.loop.t + sum ns) (block_sizes (after-cut c))
+    Starts a.standard a.map.now l.loop-rows.entry l.loop-rows.t ns
+    × Starts a.standard a.map.now (l.loop-rows.entry + length ns) (l.loop-rows.t + sum ns) (block_sizes (after-cut c))
 starts-cut c =
     let l = loop_of2 c in
     let a = (start l).args in
-    starts-append a.standard a.map.now l.loop.entry l.loop.t (down_sizes (pattern_of c)) (block_sizes (after-cut c))
-    (subst (λ (ps : List Part). Starts a.standard a.map.now l.loop.entry l.loop.t (block_sizes ps)) (met_cut c) l.loop.inv.9)
+    starts-append a.standard a.map.now l.loop-rows.entry l.loop-rows.t (down_sizes (pattern_of c)) (block_sizes (after-cut c))
+    (subst (λ (ps : List Part). Starts a.standard a.map.now l.loop-rows.entry l.loop-rows.t (block_sizes ps)) (met_cut c) l.loop-rows.inv.9)
 
 -- there are at most 256 cliques
-cliques-cut : (c : tie.After-known-told2 invariant-loop decreases-loop) → clique_count (pattern_of c) ≤ 256
+cliques-cut : (c : tie.In-Cut invariant-loop decreases-loop) → clique_count (pattern_of c) ≤ 256
 cliques-cut c = let h = knows_cut c in le_trans (cliques-few (pattern_of c) h.1) h.2
 
 few-entries : (entry cone : ℕ) → entry ≤ cone * 256 → cone < 1024 → entry ≤ 262144
@@ -230,48 +230,48 @@ few-entries entry cone h l = omega arith
 more_entries : (entry k cone next : ℕ) → entry ≤ cone * 256 → k ≤ 256 → next ≡ cone + 1 → entry + k ≤ next * 256
 more_entries entry k cone next h l e = omega arith
 
-few-cut : (c : tie.After-known-told2 invariant-loop decreases-loop) → block_rows (pattern_of c) ≤ 262144
-few-cut c = let l = loop_of2 c in first-few (block_rows (pattern_of c)) (block_row_count (after-cut c)) (block_row_count (left l)) 262144 (ap block_row_count (met_cut c)) l.loop.inv.5
+few-cut : (c : tie.In-Cut invariant-loop decreases-loop) → block_rows (pattern_of c) ≤ 262144
+few-cut c = let l = loop_of2 c in first-few (block_rows (pattern_of c)) (block_row_count (after-cut c)) (block_row_count (left l)) 262144 (ap block_row_count (met_cut c)) l.loop-rows.inv.5
 
 -- the cone's rows and values
-abbrev met_of : (r : tie.After-cone-rows invariant-loop decreases-loop) → tie.After-known-told2 invariant-loop decreases-loop
+abbrev met_of : (r : tie.After-cone_rows-n invariant-loop decreases-loop) → tie.In-Cut invariant-loop decreases-loop
 met_of r = r.before
 
-rows_cut : (r : tie.After-cone-rows invariant-loop decreases-loop) → (loop_of2 (met_of r)).loop.row + r.cone-rows.result ≤ (start (loop_of2 (met_of r))).args.m
+rows_cut : (r : tie.After-cone_rows-n invariant-loop decreases-loop) → (loop_of2 (met_of r)).loop-rows.row + r.cone_rows-n.result ≤ (start (loop_of2 (met_of r))).args.m
 rows_cut r =
     let c = met_of r in
     let l = loop_of2 c in
-    sum_fits l.loop.row r.cone-rows.result (triangle (pattern_of c).vertex_count) (rows_of (after-cut c)) (rows_of (left l)) (start l).args.m l.loop.inv.3 (ap rows_of (met_cut c))
-    r.cone-rows.ensures
+    sum_fits l.loop-rows.row r.cone_rows-n.result (triangle (pattern_of c).vertex_count) (rows_of (after-cut c)) (rows_of (left l)) (start l).args.m l.loop-rows.inv.3 (ap rows_of (met_cut c))
+    r.cone_rows-n.ensures
 
-s_cut : (c : tie.After-known-told2 invariant-loop decreases-loop) → (loop_of2 c).loop.t + block_rows (pattern_of c) ≤ length (start (loop_of2 c)).args.s.now
+s_cut : (c : tie.In-Cut invariant-loop decreases-loop) → (loop_of2 c).loop-rows.t + block_rows (pattern_of c) ≤ length (start (loop_of2 c)).args.s.now
 s_cut c =
     let l = loop_of2 c in
     let k = block_rows (pattern_of c) in
-    sum_fits l.loop.t k k (block_row_count (after-cut c)) (block_row_count (left l)) (length (start l).args.s.now) l.loop.inv.4 (ap block_row_count (met_cut c)) refl
+    sum_fits l.loop-rows.t k k (block_row_count (after-cut c)) (block_row_count (left l)) (length (start l).args.s.now) l.loop-rows.inv.4 (ap block_row_count (met_cut c)) refl
 
 -- ---- the proof obligations
 
-start-requires : tie.Need-start-requires invariant-loop decreases-loop
-start-requires c κs = c.before.before.before.before.before.before.before.before.requires.0.sound
+start-requires : tie.Need-start-place-requires invariant-loop decreases-loop
+start-requires c κs = c.requires.0.sound
 
-first-value-requires : tie.Need-first-value-requires invariant-loop decreases-loop
+first-value-requires : tie.Need-first_value-t-requires invariant-loop decreases-loop
 first-value-requires c κs = tt
 
-loop-holds : tie.Need-loop-init invariant-loop decreases-loop
+loop-holds : tie.Need-loop-rows-init invariant-loop decreases-loop
 loop-holds c =
     let s = c.before.before.before.before.before.before.before.before.before.before in
     let a = s.args in
     let ps = joined_parts a.cones.now a.count a.words.now in
-    let w = c.before.start in
+    let w = c.start-place in
     let qs = ahead a.cones.now a.words.now w.result in
     let e = w.ensures.0 in
-    let t = c.first-value.result in
-    let f = c.first-value.ensures in (
-      subst (λ (k : ℕ). Joins (s_part a.standard) a.m (values_from (s_part a.standard) ps (drop k a.s.now)) a.s.now a.s-out.now qs 0 t a.s-out.now) f
-          (joins_none (s_part a.standard) a.m a.s.now a.s-out.now s.requires.1.0.0 ps qs t e),
-      subst (λ (k : ℕ). Joins (z_part a.standard) a.m (values_from (z_part a.standard) ps (drop k a.z.now)) a.z.now a.z-out.now qs 0 t a.z-out.now) f
-          (joins_none (z_part a.standard) a.m a.z.now a.z-out.now s.requires.1.0.1 ps qs t e),
+    let t = c.first_value-t.result in
+    let f = c.first_value-t.ensures in (
+      subst (λ (k : ℕ). Joins (s_part a.standard) a.m (values_from (s_part a.standard) ps (drop k a.s.now)) a.s.now a.s_out.now qs 0 t a.s_out.now) f
+          (joins_none (s_part a.standard) a.m a.s.now a.s_out.now s.requires.1.0.0 ps qs t e),
+      subst (λ (k : ℕ). Joins (z_part a.standard) a.m (values_from (z_part a.standard) ps (drop k a.z.now)) a.z.now a.z_out.now qs 0 t a.z_out.now) f
+          (joins_none (z_part a.standard) a.m a.z.now a.z_out.now s.requires.1.0.1 ps qs t e),
       (refl, cleared_first a.standard a.m a.cones.now a.counts.now s.requires.1.0.2),
       sum-begins (rows_of qs) (rows_of ps) a.m (ap rows_of e) (sound-total s.requires.0.sound),
       values_begin t (first_of a.standard a.m) (block_row_count qs) (block_row_count ps) (length a.s.now) f (ap block_row_count e) (values_last a.standard s.requires.0),
@@ -283,62 +283,62 @@ loop-holds c =
       zero-le,
     )
 
-next-requires : tie.Need-next-requires invariant-loop decreases-loop
-next-requires c κs = c.loop.invariant.6
+next-requires : tie.Need-next-met-requires invariant-loop decreases-loop
+next-requires c κs = c.loop-rows.invariant.6
 
-enum-known-met : tie.Need-enum-known-met invariant-loop decreases-loop
-enum-known-met c = c.match.keys1
+enum-known-met : tie.Need-enum_known-met invariant-loop decreases-loop
+enum-known-met c = c.in-Whole.keys1
 
-cast-n : tie.Need-overflow-cast-n invariant-loop decreases-loop
+cast-n : tie.Need-overflow_cast-n invariant-loop decreases-loop
 cast-n c =
     let s = start (loop_of c) in
-    fits_count 8 (part-le (loop_of c).loop.t c.before.met.given.0.0 (length s.args.s.now) (s_whole c)) s.good.1.1.1.1.1.1.0
+    fits_count 8 (part-le (loop_of c).loop-rows.t c.met-1.given.0.0 (length s.args.s.now) (s_whole c)) s.good.1.1.1.1.1.1.0
 
-block-start-requires : tie.Need-block-start-requires invariant-loop decreases-loop
+block-start-requires : tie.Need-block_start-start-requires invariant-loop decreases-loop
 block-start-requires c κs =
     let l = loop_of c in
     let a = (start l).args in
-    (start_here a.standard a.map.now l.loop.entry l.loop.t (row_count (cone_of c)) (block_sizes (after-whole c)) (starts-whole c)).0
+    (start_here a.standard a.map.now l.loop-rows.entry l.loop-rows.t (row_count (cone_of c)) (block_sizes (after-whole c)) (starts-whole c)).0
 
-join-whole-requires : tie.Need-join-whole-requires invariant-loop decreases-loop
+join-whole-requires : tie.Need-join_whole-requires invariant-loop decreases-loop
 join-whole-requires c κs =
     let b = c.before in
     let k = b.before in
     let l = loop_of k in
-    (subst (λ (n : ℕ). n + k.before.met.given.0.0 ≤ length (start l).args.s.now) (sym (began b)) (s_whole k), le_same (le_trans (rows_whole k) (start l).pre.1.0.0) l.loop.inv.0.size)
+    (subst (λ (n : ℕ). n + k.met-1.given.0.0 ≤ length (start l).args.s.now) (sym (began b)) (s_whole k), le_same (le_trans (rows_whole k) (start l).pre.1.0.0) l.loop-rows.inv.0.size)
 
-join-whole-requires-2 : tie.Need-join-whole-requires-2 invariant-loop decreases-loop
+join-whole-requires-2 : tie.Need-join_whole-requires-in-Whole invariant-loop decreases-loop
 join-whole-requires-2 c κs =
     let b = c.before.before.before.before.before in
     let k = b.before in
     let l = loop_of k in
-    (subst (λ (n : ℕ). n + k.before.met.given.0.0 ≤ length (start l).args.z.now) (sym (began b)) (z_whole k), le_same (le_trans (rows_whole k) (start l).pre.1.0.1) l.loop.inv.1.size)
+    (subst (λ (n : ℕ). n + k.met-1.given.0.0 ≤ length (start l).args.z.now) (sym (began b)) (z_whole k), le_same (le_trans (rows_whole k) (start l).pre.1.0.1) l.loop-rows.inv.1.size)
 
-abbrev begun : tie.After-slice-known5 invariant-loop decreases-loop → tie.After-block-start invariant-loop decreases-loop
+abbrev begun : tie.After-slice_known-in-Whole-2-1 invariant-loop decreases-loop → tie.After-block_start-start invariant-loop decreases-loop
 begun c = c.before.before.before.before.before.before.before.before
 
-abbrev joined-whole : tie.After-slice-known5 invariant-loop decreases-loop → tie.After-known-told invariant-loop decreases-loop
+abbrev joined-whole : tie.After-slice_known-in-Whole-2-1 invariant-loop decreases-loop → tie.In-Whole invariant-loop decreases-loop
 joined-whole c = (begun c).before
 
-add_row : tie.Need-overflow-add-row invariant-loop decreases-loop
+add_row : tie.Need-overflow_add-row invariant-loop decreases-loop
 add_row c =
     let k = joined-whole c in
     let s = start (loop_of k) in
     fits_count 8 (le_trans (rows_whole k) s.pre.1.0.0) s.good.1.1.1.1.1.1.1.1.0
 
-add-t : tie.Need-overflow-add-t invariant-loop decreases-loop
+add-t : tie.Need-overflow_add-t invariant-loop decreases-loop
 add-t c =
     let b = begun c in
     let k = b.before in
-    fits_count 8 (subst (λ (n : ℕ). n + k.before.met.given.0.0 ≤ length (start (loop_of k)).args.s.now) (sym (began b)) (s_whole k)) (start (loop_of k)).good.1.1.1.1.1.1.0
+    fits_count 8 (subst (λ (n : ℕ). n + k.met-1.given.0.0 ≤ length (start (loop_of k)).args.s.now) (sym (began b)) (s_whole k)) (start (loop_of k)).good.1.1.1.1.1.1.0
 
-add-entry : tie.Need-overflow-add-entry invariant-loop decreases-loop
-add-entry c = let k = joined-whole c in omega (arith, (loop_of k).loop.inv.10, (knows_whole k).2)
+add-entry : tie.Need-overflow_add-entry invariant-loop decreases-loop
+add-entry c = let k = joined-whole c in omega (arith, (loop_of k).loop-rows.inv.10, (knows_whole k).2)
 
-loop-less : tie.Need-loop-smaller invariant-loop decreases-loop
+loop-less : tie.Need-loop-rows-smaller-in-Whole invariant-loop decreases-loop
 loop-less c = let k = joined-whole c in shorter (whole_of k) (after-whole k) (left (loop_of k)) (met_whole k)
 
-loop-again : tie.Need-loop-preserved invariant-loop decreases-loop
+loop-again : tie.Need-loop-rows-preserved-in-Whole invariant-loop decreases-loop
 loop-again c =
     let w = c.before.before in
     let v = w.before.before.before.before in
@@ -347,47 +347,47 @@ loop-again c =
     let l = loop_of k in
     let s = start l in
     let a = s.args in
-    let q = l.loop.place in
+    let q = l.loop-rows.place in
     let e = met_whole k in
-    let n = k.before.met.given.0.0 in
+    let n = k.met-1.given.0.0 in
     let h = knows_whole k in
-    let row = l.loop.row in
-    let t = l.loop.t in
+    let row = l.loop-rows.row in
+    let t = l.loop-rows.t in
     let ps = joined_parts a.cones.now a.count a.words.now in
-    let from : (P : ℕ → Type 0) → P t → P b.block_start.result = λ P. subst P (sym (began b)) in (
-      from (λ (j : ℕ). Joins (s_part a.standard) a.m (values_from (s_part a.standard) ps (drop (first_of a.standard a.m) a.s.now)) a.s.now a.s-out.now (after-whole k) (row + n) (j + n) v.join-whole.new.1.1.1.1.1.0) (joins_whole (s_part a.standard) a.m a.s.now a.s-out.now s.pre.1.0.0 (values_from (s_part a.standard) ps (drop (first_of a.standard a.m) a.s.now)) a.standard q.cone (cone_of k) q.row
-          (after-whole k) (left l) row t n l.loop.s-out v.join-whole.new.1.1.1.1.1.0 (λ vs. refl) l.loop.inv.0 e (rows_whole k) h.0 (s_whole k)
-          (by_same (λ (j : ℕ). written_at row (whole_values a.standard (part j (j + n) a.s.now)) l.loop.s-out) v.join-whole.ensures (began b))),
-      from (λ (j : ℕ). Joins (z_part a.standard) a.m (values_from (z_part a.standard) ps (drop (first_of a.standard a.m) a.z.now)) a.z.now a.z-out.now (after-whole k) (row + n) (j + n) w.join-whole2.new.1.1.1.1.1.0) (joins_whole (z_part a.standard) a.m a.z.now a.z-out.now s.pre.1.0.1 (values_from (z_part a.standard) ps (drop (first_of a.standard a.m) a.z.now)) a.standard q.cone (cone_of k) q.row
-          (after-whole k) (left l) row t n l.loop.z-out w.join-whole2.new.1.1.1.1.1.0 (λ vs. refl) l.loop.inv.1 e (rows_whole k) h.0 (z_whole k)
-          (by_same (λ (j : ℕ). written_at row (whole_values a.standard (part j (j + n) a.z.now)) l.loop.z-out) w.join-whole2.ensures (began b))),
-      l.loop.inv.2,
-      sum-next row n (cone_rows (whole_of k)) (rows_of (after-whole k)) (rows_of (left l)) a.m l.loop.inv.3 (ap rows_of e) h.0,
+    let from : (P : ℕ → Type 0) → P t → P b.block_start-start.result = λ P. subst P (sym (began b)) in (
+      from (λ (j : ℕ). Joins (s_part a.standard) a.m (values_from (s_part a.standard) ps (drop (first_of a.standard a.m) a.s.now)) a.s.now a.s_out.now (after-whole k) (row + n) (j + n) v.join_whole.new.out) (joins_whole (s_part a.standard) a.m a.s.now a.s_out.now s.pre.1.0.0 (values_from (s_part a.standard) ps (drop (first_of a.standard a.m) a.s.now)) a.standard q.cone (cone_of k) q.row
+          (after-whole k) (left l) row t n l.loop-rows.s_out v.join_whole.new.out (λ vs. refl) l.loop-rows.inv.0 e (rows_whole k) h.0 (s_whole k)
+          (by_same (λ (j : ℕ). written_at row (whole_values a.standard (part j (j + n) a.s.now)) l.loop-rows.s_out) v.join_whole.ensures (began b))),
+      from (λ (j : ℕ). Joins (z_part a.standard) a.m (values_from (z_part a.standard) ps (drop (first_of a.standard a.m) a.z.now)) a.z.now a.z_out.now (after-whole k) (row + n) (j + n) w.join_whole-in-Whole.new.out) (joins_whole (z_part a.standard) a.m a.z.now a.z_out.now s.pre.1.0.1 (values_from (z_part a.standard) ps (drop (first_of a.standard a.m) a.z.now)) a.standard q.cone (cone_of k) q.row
+          (after-whole k) (left l) row t n l.loop-rows.z_out w.join_whole-in-Whole.new.out (λ vs. refl) l.loop-rows.inv.1 e (rows_whole k) h.0 (z_whole k)
+          (by_same (λ (j : ℕ). written_at row (whole_values a.standard (part j (j + n) a.z.now)) l.loop-rows.z_out) w.join_whole-in-Whole.ensures (began b))),
+      l.loop-rows.inv.2,
+      sum-next row n (cone_rows (whole_of k)) (rows_of (after-whole k)) (rows_of (left l)) a.m l.loop-rows.inv.3 (ap rows_of e) h.0,
       from (λ (j : ℕ). j + n + block_row_count (after-whole k) ≡ length a.s.now)
-          (sum-next t n (cone_rows (whole_of k)) (block_row_count (after-whole k)) (block_row_count (left l)) (length a.s.now) l.loop.inv.4 (ap block_row_count e) h.0),
-      rest-few (cone_rows (whole_of k)) (block_row_count (after-whole k)) (block_row_count (left l)) 262144 (ap block_row_count e) l.loop.inv.5,
+          (sum-next t n (cone_rows (whole_of k)) (block_row_count (after-whole k)) (block_row_count (left l)) (length a.s.now) l.loop-rows.inv.4 (ap block_row_count e) h.0),
+      rest-few (cone_rows (whole_of k)) (block_row_count (after-whole k)) (block_row_count (left l)) 262144 (ap block_row_count e) l.loop-rows.inv.5,
       h.5,
-      l.loop.inv.7,
-      l.loop.inv.8,
-      from (λ (j : ℕ). Starts a.standard a.map.now (l.loop.entry + 1) (j + n) (block_sizes (after-whole k)))
-          (subst (λ (r : ℕ). Starts a.standard a.map.now (l.loop.entry + 1) (t + r) (block_sizes (after-whole k))) (sym h.0)
-          (starts-next a.standard a.map.now l.loop.entry t (row_count (cone_of k)) (block_sizes (after-whole k)) (starts-whole k))),
-      more_entries l.loop.entry 1 q.cone k.before.met.given.0.1.0.cone l.loop.inv.10 (lit≤ tt) h.4,
+      l.loop-rows.inv.7,
+      l.loop-rows.inv.8,
+      from (λ (j : ℕ). Starts a.standard a.map.now (l.loop-rows.entry + 1) (j + n) (block_sizes (after-whole k)))
+          (subst (λ (r : ℕ). Starts a.standard a.map.now (l.loop-rows.entry + 1) (t + r) (block_sizes (after-whole k))) (sym h.0)
+          (starts-next a.standard a.map.now l.loop-rows.entry t (row_count (cone_of k)) (block_sizes (after-whole k)) (starts-whole k))),
+      more_entries l.loop-rows.entry 1 q.cone k.met-1.given.0.1.0.cone l.loop-rows.inv.10 (lit≤ tt) h.4,
     )
 
-enum-known-met-2 : tie.Need-enum-known-met-2 invariant-loop decreases-loop
-enum-known-met-2 c = c.match.keys2
+enum-known-met-2 : tie.Need-enum_known-met-in-Cut-1 invariant-loop decreases-loop
+enum-known-met-2 c = c.in-Whole.keys2
 
-cone-rows-requires : tie.Need-cone-rows-requires invariant-loop decreases-loop
+cone-rows-requires : tie.Need-cone_rows-n-requires invariant-loop decreases-loop
 cone-rows-requires c κs = let h = knows_cut c in (h.1, h.2)
 
-slice-aggregate-join-cut : tie.Need-slice-aggregate-join-cut invariant-loop decreases-loop
-slice-aggregate-join-cut c = sym (loop_of2 c.before.before.before.before.before).loop.inv.7
+slice-aggregate-join-cut : tie.Need-slice_bounds-join_cut-end invariant-loop decreases-loop
+slice-aggregate-join-cut c = sym (loop_of2 c.before.before.before.before.before).loop-rows.inv.7
 
-slice-aggregate-join-cut-2 : tie.Need-slice-aggregate-join-cut-2 invariant-loop decreases-loop
-slice-aggregate-join-cut-2 c = sym (loop_of2 c.before.before.before.before.before.before).loop.inv.8
+slice-aggregate-join-cut-2 : tie.Need-slice_bounds-join_cut-end-in-Cut invariant-loop decreases-loop
+slice-aggregate-join-cut-2 c = sym (loop_of2 c.before.before.before.before.before.before).loop-rows.inv.8
 
-join-cut-requires : tie.Need-join-cut-requires invariant-loop decreases-loop
+join-cut-requires : tie.Need-join_cut-t-requires invariant-loop decreases-loop
 join-cut-requires c κs =
     let r = c.before.before.before.before.before in
     let k = met_of r in
@@ -395,53 +395,53 @@ join-cut-requires c κs =
     let s = start l in
     let a = s.args in
     let h = knows_cut k in
-    let n = r.cone-rows.result in (
-      (h.1, h.2, r.cone-rows.ensures),
+    let n = r.cone_rows-n.result in (
+      (h.1, h.2, r.cone_rows-n.ensures),
       (
-        (le_same (le_trans (rows_cut r) s.pre.1.0.0) l.loop.inv.0.size, le_same (le_trans (rows_cut r) s.pre.1.0.1) l.loop.inv.1.size),
+        (le_same (le_trans (rows_cut r) s.pre.1.0.0) l.loop-rows.inv.0.size, le_same (le_trans (rows_cut r) s.pre.1.0.1) l.loop-rows.inv.1.size),
         (
           (few-cut k, s_cut k, z_same s),
           (
             (
-              counts-rows a.standard a.m n a.cones.now a.counts.now l.loop.counts (pattern_of k) r.cone-rows.ensures (part-le l.loop.row n a.m (rows_cut r)) h.2
-                  l.loop.inv.2.0 (named-cut k) s.pre.1.0.2,
-              l.loop.inv.2.1,
+              counts-rows a.standard a.m n a.cones.now a.counts.now l.loop-rows.counts (pattern_of k) r.cone_rows-n.ensures (part-le l.loop-rows.row n a.m (rows_cut r)) h.2
+                  l.loop-rows.inv.2.0 (named-cut k) s.pre.1.0.2,
+              l.loop-rows.inv.2.1,
             ),
-            ((le_of_eq (sym l.loop.inv.7), le_of_eq (sym l.loop.inv.8)), ((starts-cut k).0, few-entries l.loop.entry l.loop.place.cone l.loop.inv.10 h.4)),
+            ((le_of_eq (sym l.loop-rows.inv.7), le_of_eq (sym l.loop-rows.inv.8)), ((starts-cut k).0, few-entries l.loop-rows.entry l.loop-rows.place.cone l.loop-rows.inv.10 h.4)),
           ),
         ),
       ),
     )
 
-abbrev joined-cut : tie.After-vertices2 invariant-loop decreases-loop → tie.After-join-cut invariant-loop decreases-loop
+abbrev joined-cut : tie.After-vertices-in-Cut-1 invariant-loop decreases-loop → tie.After-join_cut-t invariant-loop decreases-loop
 joined-cut c = c.before.before.before.before.before.before.before.before
 
-abbrev sized : tie.After-join-cut invariant-loop decreases-loop → tie.After-cone-rows invariant-loop decreases-loop
+abbrev sized : tie.After-join_cut-t invariant-loop decreases-loop → tie.After-cone_rows-n invariant-loop decreases-loop
 sized j = j.before.before.before.before.before.before
 
-add-row-2 : tie.Need-overflow-add-row-2 invariant-loop decreases-loop
+add-row-2 : tie.Need-overflow_add-row-in-Cut invariant-loop decreases-loop
 add-row-2 c =
     let r = sized (joined-cut c) in
     let s = start (loop_of2 (met_of r)) in
     fits_count 8 (le_trans (rows_cut r) s.pre.1.0.0) s.good.1.1.1.1.1.1.1.1.0
 
-clique-count-requires : tie.Need-clique-count-requires invariant-loop decreases-loop
+clique-count-requires : tie.Need-clique_count-requires invariant-loop decreases-loop
 clique-count-requires c κs = (knows_cut (met_of (sized (joined-cut c)))).1
 
-cast-entry : tie.Need-overflow-cast-entry invariant-loop decreases-loop
+cast-entry : tie.Need-overflow_cast-entry invariant-loop decreases-loop
 cast-entry c = search rules
 
-add-entry-2 : tie.Need-overflow-add-entry-2 invariant-loop decreases-loop
+add-entry-2 : tie.Need-overflow_add-entry-in-Cut invariant-loop decreases-loop
 add-entry-2 c =
     let k = met_of (sized (joined-cut c.before)) in
-    omega (arith, (loop_of2 k).loop.inv.10, (knows_cut k).4, cliques-cut k, c.clique-count.ensures)
+    omega (arith, (loop_of2 k).loop-rows.inv.10, (knows_cut k).4, cliques-cut k, c.clique_count.ensures)
 
-loop-less-2 : tie.Need-loop-smaller-2 invariant-loop decreases-loop
+loop-less-2 : tie.Need-loop-rows-smaller invariant-loop decreases-loop
 loop-less-2 c = let k = met_of (sized (joined-cut c.before)) in shorter (cut_of k) (after-cut k) (left (loop_of2 k)) (met_cut k)
 
-loop-again-2 : tie.Need-loop-preserved-2 invariant-loop decreases-loop
+loop-again-2 : tie.Need-loop-rows-preserved invariant-loop decreases-loop
 loop-again-2 c =
-    let count = c.clique-count in
+    let count = c.clique_count in
     let j = joined-cut c.before in
     let r = sized j in
     let k = met_of r in
@@ -450,41 +450,41 @@ loop-again-2 c =
     let a = s.args in
     let p = pattern_of k in
     let e = met_cut k in
-    let n = r.cone-rows.ensures in
-    let w = j.join-cut in
-    let row = l.loop.row in
-    let t = l.loop.t in
+    let n = r.cone_rows-n.ensures in
+    let w = j.join_cut-t in
+    let row = l.loop-rows.row in
+    let t = l.loop-rows.t in
     let ps = joined_parts a.cones.now a.count a.words.now in (
-      joins_more (s_part a.standard) a.m a.s.now a.s-out.now s.pre.1.0.0 (values_from (s_part a.standard) ps (drop (first_of a.standard a.m) a.s.now)) (cut_of k) (after-cut k) (left l) row t
-          r.cone-rows.result w.result l.loop.s-out w.last.1.1.1.1.1.1.1.1.1.1.0 l.loop.inv.0 e (rows_cut r) w.ensures.0
+      joins_more (s_part a.standard) a.m a.s.now a.s_out.now s.pre.1.0.0 (values_from (s_part a.standard) ps (drop (first_of a.standard a.m) a.s.now)) (cut_of k) (after-cut k) (left l) row t
+          r.cone_rows-n.result w.result l.loop-rows.s_out w.last.1.1.1.1.1.1.1.1.1.1.0 l.loop-rows.inv.0 e (rows_cut r) w.ensures.0
           (length_s_cut a.standard p (drop t a.s.now) ∙ sym n) w.ensures.1.0,
-      joins_more (z_part a.standard) a.m a.z.now a.z-out.now s.pre.1.0.1 (values_from (z_part a.standard) ps (drop (first_of a.standard a.m) a.z.now)) (cut_of k) (after-cut k) (left l) row t
-          r.cone-rows.result w.result l.loop.z-out w.last.1.1.1.1.1.1.1.1.1.1.1.0 l.loop.inv.1 e (rows_cut r) w.ensures.0
+      joins_more (z_part a.standard) a.m a.z.now a.z_out.now s.pre.1.0.1 (values_from (z_part a.standard) ps (drop (first_of a.standard a.m) a.z.now)) (cut_of k) (after-cut k) (left l) row t
+          r.cone_rows-n.result w.result l.loop-rows.z_out w.last.1.1.1.1.1.1.1.1.1.1.1.0 l.loop-rows.inv.1 e (rows_cut r) w.ensures.0
           (length_z_cut a.standard p (drop t a.z.now) ∙ sym n) w.ensures.1.1.0,
-      (◌∙◌ {b = length l.loop.counts} w.kept.1.1.1.1.1.1.1.1.1.1.1.1.0 l.loop.inv.2.0, w.ensures.1.1.1),
-      sum-next row r.cone-rows.result (triangle p.vertex_count) (rows_of (after-cut k)) (rows_of (left l)) a.m l.loop.inv.3 (ap rows_of e) n,
-      values-next t w.result (block_rows p) (block_row_count (after-cut k)) (block_row_count (left l)) (length a.s.now) l.loop.inv.4 (ap block_row_count e) w.ensures.0,
-      rest-few (block_rows p) (block_row_count (after-cut k)) (block_row_count (left l)) 262144 (ap block_row_count e) l.loop.inv.5,
+      (◌∙◌ {b = length l.loop-rows.counts} w.kept.counts l.loop-rows.inv.2.0, w.ensures.1.1.1),
+      sum-next row r.cone_rows-n.result (triangle p.vertex_count) (rows_of (after-cut k)) (rows_of (left l)) a.m l.loop-rows.inv.3 (ap rows_of e) n,
+      values-next t w.result (block_rows p) (block_row_count (after-cut k)) (block_row_count (left l)) (length a.s.now) l.loop-rows.inv.4 (ap block_row_count e) w.ensures.0,
+      rest-few (block_rows p) (block_row_count (after-cut k)) (block_row_count (left l)) 262144 (ap block_row_count e) l.loop-rows.inv.5,
       (knows_cut k).6,
-      ◌∙◌ {b = length l.loop.offsets} w.kept.1.1.1.1.1.1.1.1.1.1.1.1.1.0 l.loop.inv.7,
-      ◌∙◌ {b = length l.loop.vertices} w.kept.1.1.1.1.1.1.1.1.1.1.1.1.1.1.0 l.loop.inv.8,
-      subst (λ (n : ℕ). Starts a.standard a.map.now (l.loop.entry + n) w.result (block_sizes (after-cut k))) (sizes-count p ∙ sym count.ensures)
-          (subst (λ (n : ℕ). Starts a.standard a.map.now (l.loop.entry + length (down_sizes p)) n (block_sizes (after-cut k)))
+      ◌∙◌ {b = length l.loop-rows.offsets} w.kept.offsets l.loop-rows.inv.7,
+      ◌∙◌ {b = length l.loop-rows.vertices} w.kept.vertices l.loop-rows.inv.8,
+      subst (λ (n : ℕ). Starts a.standard a.map.now (l.loop-rows.entry + n) w.result (block_sizes (after-cut k))) (sizes-count p ∙ sym count.ensures)
+          (subst (λ (n : ℕ). Starts a.standard a.map.now (l.loop-rows.entry + length (down_sizes p)) n (block_sizes (after-cut k)))
           (ap (λ (n : ℕ). t + n) (sizes-sum p) ∙ sym w.ensures.0) (starts-cut k).1),
-      more_entries l.loop.entry count.result l.loop.place.cone k.before.met2.given.0.1.0.cone l.loop.inv.10 (same_le count.ensures (cliques-cut k)) (knows_cut k).5,
+      more_entries l.loop-rows.entry count.result l.loop-rows.place.cone k.met-in-Cut-1.given.0.1.0.cone l.loop-rows.inv.10 (same_le count.ensures (cliques-cut k)) (knows_cut k).5,
     )
 
-enum_told : tie.Need-enum-told invariant-loop decreases-loop
-enum_told c = c.match.keys3
+enum_told : tie.Need-enum_told-1 invariant-loop decreases-loop
+enum_told c = c.in-Whole.keys3
 
-same_length : tie.Need-same-length invariant-loop decreases-loop
-same_length c = c.before.before.before.loop.invariant.0.size
+same_length : tie.Need-shape_of-s_out invariant-loop decreases-loop
+same_length c = c.loop-rows.invariant.0.size
 
-same-length-2 : tie.Need-same-length-2 invariant-loop decreases-loop
-same-length-2 c = c.before.before.before.loop.invariant.1.size
+same-length-2 : tie.Need-shape_of-z_out invariant-loop decreases-loop
+same-length-2 c = c.loop-rows.invariant.1.size
 
-same-length-3 : tie.Need-same-length-3 invariant-loop decreases-loop
-same-length-3 c = c.before.before.before.loop.invariant.2.0
+same-length-3 : tie.Need-shape_of-counts invariant-loop decreases-loop
+same-length-3 c = c.loop-rows.invariant.2.0
 
 returns : tie.Need-returns invariant-loop decreases-loop
 returns c =
@@ -493,21 +493,21 @@ returns c =
     let s = start l in
     let a = s.args in
     let ps = joined_parts a.cones.now a.count a.words.now in
-    let none : left l ≡ [] = by_same (meets a.cones.now a.words.now l.loop.place) {r = left l} r.next.ensures.0 c.enum_told.given.1 in
-    let all : l.loop.row ≡ a.m = sum_done l.loop.row (rows_of (left l)) a.m l.loop.invariant.3 (ap rows_of none) in
+    let none : left l ≡ [] = by_same (meets a.cones.now a.words.now l.loop-rows.place) {r = left l} r.next-met.ensures.0 c.enum_told-1.given.1 in
+    let all : l.loop-rows.row ≡ a.m = sum_done l.loop-rows.row (rows_of (left l)) a.m l.loop-rows.invariant.3 (ap rows_of none) in
     let j = s.pre.0 in (
-      by_same (λ (xs : List Float). written xs a.s-out.now)
-          (joins_done (s_part a.standard) a.m a.s.now a.s-out.now s.pre.1.0.0 (values_from (s_part a.standard) ps (drop (first_of a.standard a.m) a.s.now)) (left l) l.loop.row l.loop.t
-          l.loop.s-out l.loop.invariant.0 none all)
+      by_same (λ (xs : List Float). written xs a.s_out.now)
+          (joins_done (s_part a.standard) a.m a.s.now a.s_out.now s.pre.1.0.0 (values_from (s_part a.standard) ps (drop (first_of a.standard a.m) a.s.now)) (left l) l.loop-rows.row l.loop-rows.t
+          l.loop-rows.s_out l.loop-rows.invariant.0 none all)
           (joined_s a.standard j),
-      by_same (λ (xs : List Float). written xs a.z-out.now)
-          (joins_done (z_part a.standard) a.m a.z.now a.z-out.now s.pre.1.0.1 (values_from (z_part a.standard) ps (drop (first_of a.standard a.m) a.z.now)) (left l) l.loop.row l.loop.t
-          l.loop.z-out l.loop.invariant.1 none all)
+      by_same (λ (xs : List Float). written xs a.z_out.now)
+          (joins_done (z_part a.standard) a.m a.z.now a.z_out.now s.pre.1.0.1 (values_from (z_part a.standard) ps (drop (first_of a.standard a.m) a.z.now)) (left l) l.loop-rows.row l.loop-rows.t
+          l.loop-rows.z_out l.loop-rows.invariant.1 none all)
           (joined_z a.standard j),
     )
 
-pub join-parts_spec : {M : Type 1} → statement M
-join-parts_spec =
+pub join_parts_spec : {M : Type 1} → statement M
+join_parts_spec =
     tie.close
     (tie.spec
     invariant-loop

@@ -18,72 +18,72 @@ use Rattle.join_rows.proofs.sides_few.Tie as tie
 abbrev few : Cone → Bool
 few c = side_few c.kind c.first
 
-abbrev invariant-loop : tie.invariant-loop
+abbrev invariant-loop : tie.invariant-loop-i
 invariant-loop cones count i₀ i = (i ≤ count) × (sides_few cones ≡ all few (drop i (records cones)))
 
-abbrev decreases-loop : tie.decreases-loop
+abbrev decreases-loop : tie.decreases-loop-i
 decreases-loop cones count i₀ i = count - i
 
-room : (c : tie.In-loop invariant-loop decreases-loop) → c.before.loop.i * 3 + 3 ≤ length c.before.before.before.before.args.cones.now
-room c = inside c.before.before.before.before.args.cones.now c.before.loop.i (omega arith)
+room : (c : tie.In-loop-i invariant-loop decreases-loop) → c.loop-i.i * 3 + 3 ≤ length c.args.cones.now
+room c = inside c.args.cones.now c.loop-i.i (omega arith)
 
 -- the test made is that of the record
-tested : (c : tie.After-side-few invariant-loop decreases-loop) → let l = c.before.before.before.before in
-    c.side-few.result ≡ few (record_at l.before.before.before.args.cones.now l.loop.i)
+tested : (c : tie.After-side_few invariant-loop decreases-loop) → let l = c.before.before.before.before in
+    c.side_few.result ≡ few (record_at l.args.cones.now l.loop-i.i)
 tested c =
     let l = c.before.before.before.before in
-    c.side-few.ensures ∙ ap few (sym (record_in l.before.before.before.args.cones.now l.loop.i (omega arith)))
+    c.side_few.ensures ∙ ap few (sym (record_in l.args.cones.now l.loop-i.i (omega arith)))
 
-record-count-requires : tie.Need-record-count-requires invariant-loop decreases-loop
+record-count-requires : tie.Need-record_count-count-requires invariant-loop decreases-loop
 record-count-requires c κs = search rules
 
-loop-holds : tie.Need-loop-init invariant-loop decreases-loop
+loop-holds : tie.Need-loop-i-init invariant-loop decreases-loop
 loop-holds c = search rules
 
-mul_at : tie.Need-overflow-mul-at invariant-loop decreases-loop
+mul_at : tie.Need-overflow_mul-at invariant-loop decreases-loop
 mul_at c = omega (arith, room c)
 
-mul-side-few : tie.Need-overflow-mul-side-few invariant-loop decreases-loop
+mul-side-few : tie.Need-offset_bounds-cones-at invariant-loop decreases-loop
 mul-side-few c = omega (arith, room c)
 
-shared-slice-read-side-few : tie.Need-shared-slice-read-side-few invariant-loop decreases-loop
+shared-slice-read-side-few : tie.Need-bounds-cones-at invariant-loop decreases-loop
 shared-slice-read-side-few c = omega (arith, room c.before)
 
-add-side-few : tie.Need-overflow-add-side-few invariant-loop decreases-loop
+add-side-few : tie.Need-overflow_add-at invariant-loop decreases-loop
 add-side-few c = omega (arith, room c.before)
 
-mul-side-few-2 : tie.Need-overflow-mul-side-few-2 invariant-loop decreases-loop
+mul-side-few-2 : tie.Need-offset_bounds-cones-at-in-loop-i invariant-loop decreases-loop
 mul-side-few-2 c = omega (arith, room c.before)
 
-shared-slice-read-side-few-2 : tie.Need-shared-slice-read-side-few-2 invariant-loop decreases-loop
+shared-slice-read-side-few-2 : tie.Need-bounds-cones-at-in-loop-i invariant-loop decreases-loop
 shared-slice-read-side-few-2 c = omega (arith, room c.before.before)
 
-side-few-requires : tie.Need-side-few-requires invariant-loop decreases-loop
+side-few-requires : tie.Need-side_few-requires invariant-loop decreases-loop
 side-few-requires c κs = search rules
 
-returns : tie.Need-returns invariant-loop decreases-loop
+returns : tie.Need-returns-then-not-side_few invariant-loop decreases-loop
 returns c =
     let l = c.before.before.before.before.before in
-    let ws = l.before.before.before.args.cones.now in
-    sym (l.loop.invariant.1 ∙ all_fails few (records ws) l.loop.i no_cone (omega arith) (sym (tested c.before) ∙ not-true _ c.if1.true))
+    let ws = l.args.cones.now in
+    sym (l.loop-i.invariant.1 ∙ all_fails few (records ws) l.loop-i.i no_cone (omega arith) (sym (tested c.before) ∙ not-true _ c.if-not-side_few.true-raw))
 
-add-i : tie.Need-overflow-add-i invariant-loop decreases-loop
+add-i : tie.Need-overflow_add-i invariant-loop decreases-loop
 add-i c = search rules
 
-loop-less : tie.Need-loop-smaller invariant-loop decreases-loop
+loop-less : tie.Need-loop-i-smaller invariant-loop decreases-loop
 loop-less c = search rules
 
-loop-again : tie.Need-loop-preserved invariant-loop decreases-loop
+loop-again : tie.Need-loop-i-preserved invariant-loop decreases-loop
 loop-again c =
     let l = c.before.before.before.before.before in
-    let ws = l.before.before.before.args.cones.now in
-    (omega arith, l.loop.invariant.1 ∙ all-step few (records ws) l.loop.i no_cone (omega arith) (sym (tested c.before) ∙ not-false _ c.if1.false))
+    let ws = l.args.cones.now in
+    (omega arith, l.loop-i.invariant.1 ∙ all-step few (records ws) l.loop-i.i no_cone (omega arith) (sym (tested c.before) ∙ not-false _ c.if-not-side_few.false-raw))
 
-returns-2 : tie.Need-returns-2 invariant-loop decreases-loop
+returns-2 : tie.Need-returns invariant-loop decreases-loop
 returns-2 c =
     let l = c.before in
-    let ws = l.before.before.before.args.cones.now in
-    sym (l.loop.invariant.1 ∙ all_done few (records ws) l.loop.i (omega arith))
+    let ws = l.args.cones.now in
+    sym (l.loop-i.invariant.1 ∙ all_done few (records ws) l.loop-i.i (omega arith))
 
 pub sides_few_spec : {M : Type 1} → statement M
 sides_few_spec =

@@ -22,52 +22,52 @@ given s =
 abbrev given2 : tie.Start → Problem
 given2 s =
     let a = s.args in
-    problem a.n2 a.m2 a.p-starts2.now a.p-rows2.now a.p-values2.now a.q2.now a.a-starts2.now a.a-rows2.now
-    a.a-values2.now a.b2.now a.cones2.now a.alphas2.now a.count2 a.words2.now
+    problem a.n2 a.m2 a.p_starts2.now a.p_rows2.now a.p_values2.now a.q2.now a.a_starts2.now a.a_rows2.now
+    a.a_values2.now a.b2.now a.cones2.now a.alphas2.now a.count2 a.words2.now
 
 -- the outputs as passed
 abbrev lent : tie.Start → Tables
 lent s =
     let a = s.args in
-    tables a.p-starts-out.now a.p-rows-out.now a.p-values-out.now a.q-out.now a.a-starts-out.now a.a-rows-out.now
-    a.a-values-out.now a.b-out.now a.cones-out.now a.alphas-out.now a.pattern-words-out.now
+    tables a.p_starts_out.now a.p_rows_out.now a.p_values_out.now a.q_out.now a.a_starts_out.now a.a_rows_out.now
+    a.a_values_out.now a.b_out.now a.cones_out.now a.alphas_out.now a.pattern_words_out.now
 
-abbrev start : tie.After-refuse → tie.Start
+abbrev start : tie.After-refuse-refused → tie.Start
 start c = c.before.before.before.before.before.before.before.before.before.before.before.before.before.before.before.before.before.before.before.before.before.before.before.before.before.before.before.before.before.before.before.before.before.before.before
 
 -- nothing is refused
-number : (c : tie.Else1) → let s = start c.before in 0 ≡ pool_refusal (given s) (given2 s) (table_rooms (lent s))
-number c = sym c.if1.false ∙ c.before.refuse.ensures
+number : (c : tie.Else-refused-ne-DONE) → let s = start c.before in 0 ≡ pool_refusal (given s) (given2 s) (table_rooms (lent s))
+number c = sym c.if-refused-ne-DONE.false ∙ c.refuse-refused.ensures
 
-accepted : (c : tie.Else1) → let s = start c.before in Pooled (given s) (given2 s) (table_rooms (lent s))
+accepted : (c : tie.Else-refused-ne-DONE) → let s = start c.before in Pooled (given s) (given2 s) (table_rooms (lent s))
 accepted c = let s = start c.before in pooled (given s) (given2 s) (table_rooms (lent s)) (sym (number c))
 
-slice-aggregate-refuse : tie.Need-slice-aggregate-refuse
+slice-aggregate-refuse : tie.Need-slice_bounds-refuse-end
 slice-aggregate-refuse c = refl
 
-refuse-requires : tie.Need-refuse-requires
+refuse-requires : tie.Need-refuse-refused-requires
 refuse-requires c κs = tt
 
-returns : tie.Need-returns
+returns : tie.Need-returns-then-refused-ne-DONE
 returns c =
     let k = c.before in
     let s = start k in
-    record { number = k.refuse.ensures; tables = tables-kept k.refuse.result c.if1.true (tables_of (pool (given s) (given2 s))) (lent s) }
+    record { number = k.refuse-refused.ensures; tables = tables-kept k.refuse-refused.result c.if-refused-ne-DONE.true (tables_of (pool (given s) (given2 s))) (lent s) }
 
-copy-matrix-requires : tie.Need-copy-matrix-requires
+copy-matrix-requires : tie.Need-copy_matrix-requires
 copy-matrix-requires c κs =
     let e = c.before.before.before in
     let s = start e.before in
     let f = pool-fits (given s) (given2 s) (lent s) (accepted e) in
     (f.p_starts, f.p_rows, f.p_values)
 
-copy-values-requires : tie.Need-copy-values-requires
+copy-values-requires : tie.Need-copy_values-requires
 copy-values-requires c κs =
     let e = c.before.before.before.before.before.before.before.before.before.before.before in
     let s = start e.before in
     (pool-fits (given s) (given2 s) (lent s) (accepted e)).q
 
-write-constraints-requires : tie.Need-write-constraints-requires
+write-constraints-requires : tie.Need-write_constraints-requires
 write-constraints-requires c κs =
     let e = c.before.before.before.before.before.before.before.before.before.before.before.before.before.before.before.before.before.before in
     let s = start e.before in
@@ -88,7 +88,7 @@ write-constraints-requires c κs =
       b = f.b;
     }
 
-write-layout-requires : tie.Need-write-layout-requires
+write-layout-requires : tie.Need-write_layout-requires
 write-layout-requires c κs =
     let e = c.before.before.before.before.before.before.before.before.before.before.before.before.before.before.before.before.before.before.before.before.before.before.before.before.before.before.before.before.before.before in
     let s = start e.before in
@@ -99,40 +99,40 @@ write-layout-requires c κs =
     let f = pool-fits p other t h in
     ((pool-words_end p other t h, pool_origins p other t h), (sound-cone-count h.first.sound, (f.cones, f.alphas, f.words)))
 
-same_length : tie.Need-same-length
-same_length c = c.before.before.before.before.before.before.before.before.before.before.before.before.before.before.before.before.before.before.before.before.before.before.before.before.before.before.before.before.before.before.before.before.before.copy-matrix.auto.1.1.1.0
+same_length : tie.Need-shape_of-p_starts_out
+same_length c = c.copy_matrix.auto.starts_out
 
-same-length-2 : tie.Need-same-length-2
-same-length-2 c = c.before.before.before.before.before.before.before.before.before.before.before.before.before.before.before.before.before.before.before.before.before.before.before.before.before.before.before.before.before.before.before.before.before.copy-matrix.auto.1.1.1.1.0
+same-length-2 : tie.Need-shape_of-p_rows_out
+same-length-2 c = c.copy_matrix.auto.rows_out
 
-same-length-3 : tie.Need-same-length-3
-same-length-3 c = c.before.before.before.before.before.before.before.before.before.before.before.before.before.before.before.before.before.before.before.before.before.before.before.before.before.before.before.before.before.before.before.before.before.copy-matrix.auto.1.1.1.1.1.0
+same-length-3 : tie.Need-shape_of-p_values_out
+same-length-3 c = c.copy_matrix.auto.values_out
 
-same-length-4 : tie.Need-same-length-4
-same-length-4 c = c.before.before.before.before.before.before.before.before.before.before.before.before.before.before.before.before.before.before.before.before.before.before.before.before.before.copy-values.auto.0
+same-length-4 : tie.Need-shape_of-q_out
+same-length-4 c = c.copy_values.auto.out
 
-same-length-5 : tie.Need-same-length-5
-same-length-5 c = c.before.before.before.before.before.before.before.before.before.before.before.before.before.before.before.before.before.before.write-constraints.auto.1.1.1.1.1.1.1.1.1.1.0
+same-length-5 : tie.Need-shape_of-a_starts_out
+same-length-5 c = c.write_constraints.auto.a_starts_out
 
-same-length-6 : tie.Need-same-length-6
-same-length-6 c = c.before.before.before.before.before.before.before.before.before.before.before.before.before.before.before.before.before.before.write-constraints.auto.1.1.1.1.1.1.1.1.1.1.1.0
+same-length-6 : tie.Need-shape_of-a_rows_out
+same-length-6 c = c.write_constraints.auto.a_rows_out
 
-same-length-7 : tie.Need-same-length-7
-same-length-7 c = c.before.before.before.before.before.before.before.before.before.before.before.before.before.before.before.before.before.before.write-constraints.auto.1.1.1.1.1.1.1.1.1.1.1.1.0
+same-length-7 : tie.Need-shape_of-a_values_out
+same-length-7 c = c.write_constraints.auto.a_values_out
 
-same-length-8 : tie.Need-same-length-8
-same-length-8 c = c.before.before.before.before.before.before.before.before.before.before.before.before.before.before.before.before.before.before.write-constraints.auto.1.1.1.1.1.1.1.1.1.1.1.1.1.0
+same-length-8 : tie.Need-shape_of-b_out
+same-length-8 c = c.write_constraints.auto.b_out
 
-same-length-9 : tie.Need-same-length-9
-same-length-9 c = c.before.before.before.before.before.before.write-layout.auto.1.1.1.1.1.1.1.0
+same-length-9 : tie.Need-shape_of-cones_out
+same-length-9 c = c.write_layout.auto.cones_out
 
-same-length-10 : tie.Need-same-length-10
-same-length-10 c = c.before.before.before.before.before.before.write-layout.auto.1.1.1.1.1.1.1.1.0
+same-length-10 : tie.Need-shape_of-alphas_out
+same-length-10 c = c.write_layout.auto.alphas_out
 
-same-length-11 : tie.Need-same-length-11
-same-length-11 c = c.before.before.before.before.before.before.write-layout.auto.1.1.1.1.1.1.1.1.1.0
+same-length-11 : tie.Need-shape_of-pattern_words_out
+same-length-11 c = c.write_layout.auto.words_out
 
-returns-2 : tie.Need-returns-2
+returns-2 : tie.Need-returns
 returns-2 c =
     let y = c.before.before.before.before.before.before in
     let w = y.before.before.before.before.before.before.before.before.before.before.before.before in
@@ -147,20 +147,20 @@ returns-2 c =
       number = number e;
       tables = record {
         objective = record {
-          p_starts = o.copy-matrix.ensures.0;
-          p_rows = o.copy-matrix.ensures.1.0;
-          p_values = o.copy-matrix.ensures.1.1;
-          q = v.copy-values.ensures;
-          alphas = y.write-layout.ensures.1.0;
+          p_starts = o.copy_matrix.ensures.0;
+          p_rows = o.copy_matrix.ensures.1.0;
+          p_values = o.copy_matrix.ensures.1.1;
+          q = v.copy_values.ensures;
+          alphas = y.write_layout.ensures.1.0;
         };
         constrained = record {
-          a_starts = w.write-constraints.ensures.a_starts ∙ ap (λ (xs : List ℕ). written xs t.A.starts) (starts-written p other t h);
-          a_rows = w.write-constraints.ensures.a_rows ∙ ap (λ (xs : List ℕ). written xs t.A.rows) (rows_written p other t h);
-          a_values = w.write-constraints.ensures.a_values ∙ ap (λ (xs : List Float). written xs t.A.values) (values-written p other t h);
-          b = w.write-constraints.ensures.b;
-          cones = y.write-layout.ensures.0;
+          a_starts = w.write_constraints.ensures.a_starts ∙ ap (λ (xs : List ℕ). written xs t.A.starts) (starts-written p other t h);
+          a_rows = w.write_constraints.ensures.a_rows ∙ ap (λ (xs : List ℕ). written xs t.A.rows) (rows_written p other t h);
+          a_values = w.write_constraints.ensures.a_values ∙ ap (λ (xs : List Float). written xs t.A.values) (values-written p other t h);
+          b = w.write_constraints.ensures.b;
+          cones = y.write_layout.ensures.0;
         };
-        pattern_words = y.write-layout.ensures.1.1;
+        pattern_words = y.write_layout.ensures.1.1;
       };
     }
 

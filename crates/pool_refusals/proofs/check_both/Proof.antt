@@ -6,7 +6,7 @@ use Rattle.layout.specs.Problems.Problem.{Problem, problem}
 use Rattle.layout.specs.Calls.Answers.{problem_refusal}
 use Rattle.same_tables.proofs.Alike.{unchecked}
 use Rattle.pool_refusals.specs.Refusals.{second_refusal, both_refusal}
-use Rattle.check_problem.proofs.Order.{first-refused, next-given}
+use Rattle.check_problem-first.proofs.Order.{first-refused, next-given}
 use Rattle.pool_refusals.proofs.check_both.Statement.{statement}
 use Rattle.pool_refusals.proofs.check_both.Tie as tie
 
@@ -19,54 +19,54 @@ given s =
 abbrev given2 : tie.Start → Problem
 given2 s =
     let a = s.args in
-    problem a.n2 a.m2 a.p-starts2.now a.p-rows2.now a.p-values2.now a.q2.now a.a-starts2.now a.a-rows2.now
-    a.a-values2.now a.b2.now a.cones2.now a.alphas2.now a.count2 a.words2.now
+    problem a.n2 a.m2 a.p_starts2.now a.p_rows2.now a.p_values2.now a.q2.now a.a_starts2.now a.a_rows2.now
+    a.a_values2.now a.b2.now a.cones2.now a.alphas2.now a.count2 a.words2.now
 
-abbrev start : tie.After-check-problem → tie.Start
+abbrev start : tie.After-check_problem-first → tie.Start
 start c = c.before.before.before.before.before.before.before.before.before.before.before.before.before.before.before.before.before.before.before.before.before.before.before
 
-check-problem-requires : tie.Need-check-problem-requires
+check-problem-requires : tie.Need-check_problem-first-requires
 check-problem-requires c κs = tt
 
-returns : tie.Need-returns
+returns : tie.Need-returns-then-first-ne-DONE
 returns c =
     let k = c.before in
     let s = start k in
-    first-refused (problem_refusal (given s)) (second_refusal s.args.n (given2 s)) k.check-problem.result k.check-problem.ensures c.if1.true
+    first-refused (problem_refusal (given s)) (second_refusal s.args.n (given2 s)) k.check_problem-first.result k.check_problem-first.ensures c.if-first-ne-DONE.true
 
-layouts-agree-requires : tie.Need-layouts-agree-requires
+layouts-agree-requires : tie.Need-layouts_agree-same-requires
 layouts-agree-requires c κs = tt
 
-checked-alike-requires : tie.Need-checked-alike-requires
+checked-alike-requires : tie.Need-checked_alike-requires
 checked-alike-requires c κs = tt
 
-compare-unknowns-requires : tie.Need-compare-unknowns-requires
+compare-unknowns-requires : tie.Need-compare_unknowns-requires
 compare-unknowns-requires c κs = tt
 
 -- where the first problem passes, the number is the result of the second one's checks and the comparison
-decides : (e : tie.Else1) (r : ℕ) → let s = start e.before in r ≡ second_refusal s.args.n (given2 s) → r ≡ both_refusal (given s) (given2 s)
+decides : (e : tie.Else-first-ne-DONE) (r : ℕ) → let s = start e.before in r ≡ second_refusal s.args.n (given2 s) → r ≡ both_refusal (given s) (given2 s)
 decides e r h =
     let k = e.before in
     let s = start k in
-    next-given (problem_refusal (given s)) (second_refusal s.args.n (given2 s)) k.check-problem.result r
-    k.check-problem.ensures e.if1.false h
+    next-given (problem_refusal (given s)) (second_refusal s.args.n (given2 s)) k.check_problem-first.result r
+    k.check_problem-first.ensures e.if-first-ne-DONE.false h
 
-returns-2 : tie.Need-returns-2
+returns-2 : tie.Need-returns-then-checked_alike
 returns-2 c =
     let a = c.before.before in
     let e = a.before.before in
     let s = start e.before in
     let passed : 0 ≡ problem_refusal (given2 s) =
-    unchecked (given s) (given2 s) a.before.layouts-agree.result a.checked-alike.result e.before.check-problem.result
-    a.before.layouts-agree.ensures a.checked-alike.ensures c.before.if2.true e.before.check-problem.ensures e.if1.false in
-    decides e c.compare-unknowns.result
-    (next-given (problem_refusal (given2 s)) (cond (eqb s.args.n s.args.n2) 0 17) 0 c.compare-unknowns.result passed refl c.compare-unknowns.ensures)
+    unchecked (given s) (given2 s) a.layouts_agree-same.result a.checked_alike.result e.check_problem-first.result
+    a.layouts_agree-same.ensures a.checked_alike.ensures c.if-checked_alike.true e.check_problem-first.ensures e.if-first-ne-DONE.false in
+    decides e c.compare_unknowns.result
+    (next-given (problem_refusal (given2 s)) (cond (eqb s.args.n s.args.n2) 0 17) 0 c.compare_unknowns.result passed refl c.compare_unknowns.ensures)
 
-check-second-requires : tie.Need-check-second-requires
+check-second-requires : tie.Need-check_second-requires
 check-second-requires c κs = tt
 
-returns-3 : tie.Need-returns-3
-returns-3 c = decides c.before.before.before.before c.check-second.result c.check-second.ensures
+returns-3 : tie.Need-returns
+returns-3 c = decides c.before.before.before.before c.check_second.result c.check_second.ensures
 
 pub check_both_spec : {M : Type 1} → statement M
 check_both_spec =

@@ -17,27 +17,27 @@ given s =
 abbrev given2 : tie.Start → Problem
 given2 s =
     let a = s.args in
-    problem a.n2 a.m2 a.p-starts2.now a.p-rows2.now a.p-values2.now a.q2.now a.a-starts2.now a.a-rows2.now
-    a.a-values2.now a.b2.now a.cones2.now a.alphas2.now a.count2 a.words2.now
+    problem a.n2 a.m2 a.p_starts2.now a.p_rows2.now a.p_values2.now a.q2.now a.a_starts2.now a.a_rows2.now
+    a.a_values2.now a.b2.now a.cones2.now a.alphas2.now a.count2 a.words2.now
 
-abbrev start : tie.After-check-both → tie.Start
+abbrev start : tie.After-check_both-both → tie.Start
 start c = c.before.before.before.before.before.before.before.before.before.before.before.before.before.before.before.before.before.before.before.before.before.before.before.before
 
 -- neither problem is refused, and both have the same n
-passed : (c : tie.Else1) → let s = start c.before in both_refusal (given s) (given2 s) ≡ 0
-passed c = sym c.before.check_both.ensures ∙ c.if1.false
+passed : (c : tie.Else-both-ne-DONE) → let s = start c.before in both_refusal (given s) (given2 s) ≡ 0
+passed c = sym c.check_both-both.ensures ∙ c.if-both-ne-DONE.false
 
-checked : (c : tie.Else1) → let s = start c.before in Checked (given s) × Checked (given2 s) × ((given s).n ≡ (given2 s).n)
+checked : (c : tie.Else-both-ne-DONE) → let s = start c.before in Checked (given s) × Checked (given2 s) × ((given s).n ≡ (given2 s).n)
 checked c = let s = start c.before in both_checked (given s) (given2 s) s.args.rooms.now (passed c)
 
-check-both-requires : tie.Need-check-both-requires
+check-both-requires : tie.Need-check_both-both-requires
 check-both-requires c κs = tt
 
-returns : tie.Need-returns
+returns : tie.Need-returns-then-both-ne-DONE
 returns c =
     let k = c.before in
     let s = start k in
-    both_refused (given s) (given2 s) s.args.rooms.now k.check_both.result k.check_both.ensures c.if1.true
+    both_refused (given s) (given2 s) s.args.rooms.now k.check_both-both.result k.check_both-both.ensures c.if-both-ne-DONE.true
 
 bounded-requires : tie.Need-bounded-requires
 bounded-requires c κs =
@@ -45,37 +45,37 @@ bounded-requires c κs =
     let (one, two, same) = checked c in
     (one.sound.few, two.sound.few, sound-cone-count one.sound, sound-cone-count two.sound)
 
-returns-2 : tie.Need-returns-2
+returns-2 : tie.Need-returns-then-not-bounded
 returns-2 c =
     let e = c.before.before in
     let s = start e.before in
-    too_large (given s) (given2 s) s.args.rooms.now (passed e) (sym c.before.bounded.ensures ∙ not-true _ c.if2.true)
+    too_large (given s) (given2 s) s.args.rooms.now (passed e) (sym c.bounded.ensures ∙ not-true _ c.if-not-bounded.true-raw)
 
-total-numbers-requires : tie.Need-total-numbers-requires
+total-numbers-requires : tie.Need-total_numbers-requires
 total-numbers-requires c κs = tt
 
-total-values-requires : tie.Need-total-values-requires
+total-values-requires : tie.Need-total_values-requires
 total-values-requires c κs = tt
 
-total-values-requires-2 : tie.Need-total-values-requires-2
+total-values-requires-2 : tie.Need-total_values-requires-2
 total-values-requires-2 c κs = tt
 
-total-numbers-requires-2 : tie.Need-total-numbers-requires-2
+total-numbers-requires-2 : tie.Need-total_numbers-requires-2
 total-numbers-requires-2 c κs = tt
 
-total-values-requires-3 : tie.Need-total-values-requires-3
+total-values-requires-3 : tie.Need-total_values-requires-3
 total-values-requires-3 c κs = tt
 
-total-numbers-requires-3 : tie.Need-total-numbers-requires-3
+total-numbers-requires-3 : tie.Need-total_numbers-requires-3
 total-numbers-requires-3 c κs = tt
 
-slice-aggregate-check-rooms : tie.Need-slice-aggregate-check-rooms
+slice-aggregate-check-rooms : tie.Need-slice_bounds-check_rooms-end
 slice-aggregate-check-rooms c = refl
 
-check-rooms-requires : tie.Need-check-rooms-requires
+check-rooms-requires : tie.Need-check_rooms-requires
 check-rooms-requires c κs = tt
 
-returns-3 : tie.Need-returns-3
+returns-3 : tie.Need-returns
 returns-3 c =
     let t6 = c.before.before in
     let t5 = t6.before in
@@ -86,9 +86,9 @@ returns-3 c =
     let l = t1.before in
     let e = l.before.before in
     let s = start e.before in
-    by-room (given s) (given2 s) s.args.rooms.now _ c.check-rooms.result (passed e) (sym l.before.bounded.ensures ∙ not-false _ l.if2.false)
-    (needs-given (given s) (given2 s) (checked e) t1.total-numbers.ensures t2.total-values.ensures t3.total-values2.ensures t4.total-numbers2.ensures t5.total-values3.ensures t6.total-numbers3.ensures)
-    c.check-rooms.ensures
+    by-room (given s) (given2 s) s.args.rooms.now _ c.check_rooms.result (passed e) (sym l.bounded.ensures ∙ not-false _ l.if-not-bounded.false-raw)
+    (needs-given (given s) (given2 s) (checked e) t1.total_numbers.ensures t2.total_values.ensures t3.total_values-2.ensures t4.total_numbers-2.ensures t5.total_values-3.ensures t6.total_numbers-3.ensures)
+    c.check_rooms.ensures
 
 pub refuse_spec : {M : Type 1} → statement M
 refuse_spec =

@@ -6,132 +6,132 @@ use native.Mathlib.Omega.{arith}
 use Rattle.pool_tables.proofs.stack_values.Statement.{statement}
 use Rattle.pool_tables.proofs.stack_values.Tie as tie
 
-abbrev invariant-loop : tie.invariant-loop
+abbrev invariant-loop : tie.invariant-loop-first2
 invariant-loop n starts values starts2 values2 out₀ count last first₀ first2₀ c₀ out first first2 c =
     (c ≤ n) × (count ≡ n) × (last ≡ get_or starts2 n 0) × Stacking starts values starts2 values2 out₀ c first first2 out
 
-abbrev decreases-loop : tie.decreases-loop
+abbrev decreases-loop : tie.decreases-loop-first2
 decreases-loop n starts values starts2 values2 out₀ count last first₀ first2₀ c₀ out first first2 c = count - c
 
-abbrev start : tie.At-loop invariant-loop decreases-loop → tie.Start invariant-loop decreases-loop
+abbrev start : tie.At-loop-first2 invariant-loop decreases-loop → tie.Start invariant-loop decreases-loop
 start l = l.before.before.before.before.before.before.before
 
 -- what is written and what is not lies within the tables and the output
-fits : (l : tie.At-loop invariant-loop decreases-loop)
+fits : (l : tie.At-loop-first2 invariant-loop decreases-loop)
     → let a = (start l).args in
     let end = get_or a.starts.now a.n 0 in
     let end2 = get_or a.starts2.now a.n 0 in
-    (l.loop.first ≤ end) × (end ≤ length a.values.now) × (l.loop.first2 ≤ end2) × (end2 ≤ length a.values2.now)
-    × (length a.values.now + length a.values2.now ≤ length l.loop.out)
+    (l.loop-first2.first ≤ end) × (end ≤ length a.values.now) × (l.loop-first2.first2 ≤ end2) × (end2 ≤ length a.values2.now)
+    × (length a.values.now + length a.values2.now ≤ length l.loop-first2.out)
 fits l =
     let s = start l in
-    let f = stacking_fits s.args.n s.args.starts.now s.args.values.now s.args.starts2.now s.args.values2.now s.args.out.now s.pre.0.0 s.pre.0.1 s.pre.1 l.loop.invariant.3 l.loop.invariant.0 in
+    let f = stacking_fits s.args.n s.args.starts.now s.args.values.now s.args.starts2.now s.args.values2.now s.args.out.now s.pre.0.0 s.pre.0.1 s.pre.1 l.loop-first2.invariant.3 l.loop-first2.invariant.0 in
     (f.1, f.2, f.3, f.4, omega (arith, f.0, s.pre.1))
 
-left : (c : tie.In-loop invariant-loop decreases-loop) → c.before.loop.c < (start c.before).args.n
+left : (c : tie.In-loop-first2 invariant-loop decreases-loop) → c.loop-first2.c < (start c.before).args.n
 left c =
     let l = c.before in
     let s = start l in
-    column-left s.args.n s.args.starts.now s.args.values.now s.args.starts2.now s.args.values2.now s.args.out.now s.pre.0.0 s.pre.0.1 s.pre.1 l.loop.invariant.3 l.loop.invariant.0 (omega (arith, c.loop-test.true, l.loop.invariant.2))
+    column-left s.args.n s.args.starts.now s.args.values.now s.args.starts2.now s.args.values2.now s.args.out.now s.pre.0.0 s.pre.0.1 s.pre.1 l.loop-first2.invariant.3 l.loop-first2.invariant.0 (omega (arith, c.loop-first2-test.true, l.loop-first2.invariant.2))
 
 -- this iteration's column lies within the tables
-within : (c : tie.In-loop invariant-loop decreases-loop)
+within : (c : tie.In-loop-first2 invariant-loop decreases-loop)
     → let l = c.before in
     let a = (start l).args in
-    let end = get_or a.starts.now (l.loop.c + 1) 0 in
-    let end2 = get_or a.starts2.now (l.loop.c + 1) 0 in
-    (l.loop.first ≤ end) × (end ≤ length a.values.now) × (l.loop.first2 ≤ end2) × (end2 ≤ length a.values2.now)
-    × (length a.values.now + length a.values2.now ≤ length l.loop.out)
+    let end = get_or a.starts.now (l.loop-first2.c + 1) 0 in
+    let end2 = get_or a.starts2.now (l.loop-first2.c + 1) 0 in
+    (l.loop-first2.first ≤ end) × (end ≤ length a.values.now) × (l.loop-first2.first2 ≤ end2) × (end2 ≤ length a.values2.now)
+    × (length a.values.now + length a.values2.now ≤ length l.loop-first2.out)
 within c =
     let l = c.before in
     let s = start l in
-    let i = inside s.args.n s.args.starts.now s.args.values.now s.args.starts2.now s.args.values2.now s.args.out.now s.pre.0.0 s.pre.0.1 s.pre.1 l.loop.invariant.3 (left c) in
+    let i = inside s.args.n s.args.starts.now s.args.values.now s.args.starts2.now s.args.values2.now s.args.out.now s.pre.0.0 s.pre.0.1 s.pre.1 l.loop-first2.invariant.3 (left c) in
     (i.0, i.1, i.2, i.3, (fits l).4)
 
-mul-last : tie.Need-overflow-mul-last invariant-loop decreases-loop
-mul-last c = omega (arith, c.before.before.before.before.before.requires.0.1.0)
+mul-last : tie.Need-offset_bounds-starts2-count invariant-loop decreases-loop
+mul-last c = omega (arith, c.requires.0.1.0)
 
-shared-slice-read-last : tie.Need-shared-slice-read-last invariant-loop decreases-loop
-shared-slice-read-last c = omega (arith, c.before.before.before.before.before.before.requires.0.1.0)
+shared-slice-read-last : tie.Need-bounds-starts2-count invariant-loop decreases-loop
+shared-slice-read-last c = omega (arith, c.requires.0.1.0)
 
-cast-last : tie.Need-overflow-cast-last invariant-loop decreases-loop
-cast-last c = omega (arith, c.shared-slice-known5.given c.before.before.before.before.before.before.args.n)
+cast-last : tie.Need-overflow_cast-last invariant-loop decreases-loop
+cast-last c = omega (arith, c.shared_slice_known-5-1.given c.args.n)
 
-loop-holds : tie.Need-loop-init invariant-loop decreases-loop
+loop-holds : tie.Need-loop-first2-init invariant-loop decreases-loop
 loop-holds c =
     let s = c.before.before.before.before.before.before in
     (omega arith, refl, refl, stacking_starts s.args.n s.args.starts.now s.args.values.now s.args.starts2.now s.args.values2.now s.args.out.now s.requires.0.0 s.requires.0.1 s.requires.1)
 
-add-end : tie.Need-overflow-add-end invariant-loop decreases-loop
+add-end : tie.Need-overflow_add-end invariant-loop decreases-loop
 add-end c = omega (arith, left c)
 
-mul-end : tie.Need-overflow-mul-end invariant-loop decreases-loop
+mul-end : tie.Need-offset_bounds-starts-c invariant-loop decreases-loop
 mul-end c = omega (arith, (start c.before).pre.0.0.0, left c)
 
-shared-slice-read-end : tie.Need-shared-slice-read-end invariant-loop decreases-loop
+shared-slice-read-end : tie.Need-bounds-starts-c invariant-loop decreases-loop
 shared-slice-read-end c = omega (arith, (start c.before.before).pre.0.0.0, left c.before)
 
-cast-end : tie.Need-overflow-cast-end invariant-loop decreases-loop
-cast-end c = omega (arith, c.shared-slice-known6.given (c.before.before.loop.c + 1))
+cast-end : tie.Need-overflow_cast-end invariant-loop decreases-loop
+cast-end c = omega (arith, c.shared_slice_known-in-loop-first2-1.given (c.loop-first2.c + 1))
 
-add-end2 : tie.Need-overflow-add-end2 invariant-loop decreases-loop
+add-end2 : tie.Need-overflow_add-end2 invariant-loop decreases-loop
 add-end2 c = omega (arith, left c.before)
 
-mul-end2 : tie.Need-overflow-mul-end2 invariant-loop decreases-loop
+mul-end2 : tie.Need-offset_bounds-starts2-c invariant-loop decreases-loop
 mul-end2 c = omega (arith, (start c.before.before).pre.0.1.0, left c.before)
 
-shared-slice-read-end2 : tie.Need-shared-slice-read-end2 invariant-loop decreases-loop
+shared-slice-read-end2 : tie.Need-bounds-starts2-c invariant-loop decreases-loop
 shared-slice-read-end2 c = omega (arith, (start c.before.before.before).pre.0.1.0, left c.before.before)
 
-cast-end2 : tie.Need-overflow-cast-end2 invariant-loop decreases-loop
-cast-end2 c = omega (arith, c.shared-slice-known7.given (c.before.before.before.loop.c + 1))
+cast-end2 : tie.Need-overflow_cast-end2 invariant-loop decreases-loop
+cast-end2 c = omega (arith, c.shared_slice_known-in-loop-first2-2-1.given (c.loop-first2.c + 1))
 
-put-values-requires : tie.Need-put-values-requires invariant-loop decreases-loop
+put-values-requires : tie.Need-put_values-requires invariant-loop decreases-loop
 put-values-requires c κs =
     let w = within c.before.before.before in
     (w.0, w.1, w.2, w.3, omega (arith, w))
 
-add-c : tie.Need-overflow-add-c invariant-loop decreases-loop
+add-c : tie.Need-overflow_add-c invariant-loop decreases-loop
 add-c c = omega (arith, left c.before.before.before.before.before.before)
 
-loop-less : tie.Need-loop-smaller invariant-loop decreases-loop
-loop-less c = omega (arith, left c.before.before.before.before.before.before, c.before.before.before.before.before.before.before.loop.invariant.1)
+loop-less : tie.Need-loop-first2-smaller invariant-loop decreases-loop
+loop-less c = omega (arith, left c.before.before.before.before.before.before, c.loop-first2.invariant.1)
 
-loop-again : tie.Need-loop-preserved invariant-loop decreases-loop
+loop-again : tie.Need-loop-first2-preserved invariant-loop decreases-loop
 loop-again c =
     let t = c.before.before in
     let i = t.before.before.before.before in
     let l = i.before in
     let s = start l in (
       omega (arith, left i),
-      l.loop.invariant.1,
-      l.loop.invariant.2,
-      stacking_more s.args.n s.args.starts.now s.args.values.now s.args.starts2.now s.args.values2.now s.args.out.now s.pre.0.0 s.pre.0.1 s.pre.1 l.loop.invariant.3 (left i)
-          t.put-values.ensures,
+      l.loop-first2.invariant.1,
+      l.loop-first2.invariant.2,
+      stacking_more s.args.n s.args.starts.now s.args.values.now s.args.starts2.now s.args.values2.now s.args.out.now s.pre.0.0 s.pre.0.1 s.pre.1 l.loop-first2.invariant.3 (left i)
+          t.put_values.ensures,
     )
 
-mul-end-2 : tie.Need-overflow-mul-end-2 invariant-loop decreases-loop
-mul-end-2 c = omega (arith, (start c.before).pre.0.0.0, c.before.loop.invariant.1)
+mul-end-2 : tie.Need-offset_bounds-starts-count invariant-loop decreases-loop
+mul-end-2 c = omega (arith, (start c.before).pre.0.0.0, c.loop-first2.invariant.1)
 
-shared-slice-read-end-2 : tie.Need-shared-slice-read-end-2 invariant-loop decreases-loop
-shared-slice-read-end-2 c = omega (arith, (start c.before.before).pre.0.0.0, c.before.before.loop.invariant.1)
+shared-slice-read-end-2 : tie.Need-bounds-starts-count invariant-loop decreases-loop
+shared-slice-read-end-2 c = omega (arith, (start c.before.before).pre.0.0.0, c.loop-first2.invariant.1)
 
-cast-end-2 : tie.Need-overflow-cast-end-2 invariant-loop decreases-loop
-cast-end-2 c = omega (arith, c.shared-slice-known8.given (start c.before.before).args.n)
+cast-end-2 : tie.Need-overflow_cast-end-2 invariant-loop decreases-loop
+cast-end-2 c = omega (arith, c.shared_slice_known-6-1.given (start c.before.before).args.n)
 
-put-values-requires-2 : tie.Need-put-values-requires-2 invariant-loop decreases-loop
+put-values-requires-2 : tie.Need-put_values-requires-2 invariant-loop decreases-loop
 put-values-requires-2 c κs =
     let w = fits c.before.before.before in
     (w.0, w.1, w.2, w.3, omega (arith, w))
 
-same_length : tie.Need-same-length invariant-loop decreases-loop
+same_length : tie.Need-shape_of-out invariant-loop decreases-loop
 same_length c =
     let t = c.before.before in
     let e = t.before.before.before in
     let l = e.before in
     let s = start l in
-    (stacking_done s.args.n s.args.starts.now s.args.values.now s.args.starts2.now s.args.values2.now s.args.out.now s.pre.0.0 s.pre.0.1 s.pre.1 l.loop.invariant.3 l.loop.invariant.0 (get_or s.args.starts2.now s.args.n 0) refl (omega (arith, e.loop-test.false, l.loop.invariant.2))
-    t.put-values2.ensures).1
+    (stacking_done s.args.n s.args.starts.now s.args.values.now s.args.starts2.now s.args.values2.now s.args.out.now s.pre.0.0 s.pre.0.1 s.pre.1 l.loop-first2.invariant.3 l.loop-first2.invariant.0 (get_or s.args.starts2.now s.args.n 0) refl (omega (arith, e.loop-first2-test.false, l.loop-first2.invariant.2))
+    t.put_values-2.ensures).1
 
 returns : tie.Need-returns invariant-loop decreases-loop
 returns c =
@@ -139,8 +139,8 @@ returns c =
     let e = t.before.before.before in
     let l = e.before in
     let s = start l in
-    (stacking_done s.args.n s.args.starts.now s.args.values.now s.args.starts2.now s.args.values2.now s.args.out.now s.pre.0.0 s.pre.0.1 s.pre.1 l.loop.invariant.3 l.loop.invariant.0 (get_or s.args.starts2.now s.args.n 0) refl (omega (arith, e.loop-test.false, l.loop.invariant.2))
-    t.put-values2.ensures).0
+    (stacking_done s.args.n s.args.starts.now s.args.values.now s.args.starts2.now s.args.values2.now s.args.out.now s.pre.0.0 s.pre.0.1 s.pre.1 l.loop-first2.invariant.3 l.loop-first2.invariant.0 (get_or s.args.starts2.now s.args.n 0) refl (omega (arith, e.loop-first2-test.false, l.loop-first2.invariant.2))
+    t.put_values-2.ensures).0
 
 pub stack_values_spec : {M : Type 1} → statement M
 stack_values_spec =

@@ -11,81 +11,81 @@ use Rattle.problem_file.proofs.read_file.Tie as tie
 abbrev lent : tie.Start → FileOutputs
 lent s =
     let a = s.args in
-    file_outputs a.counts-out.now a.p-starts-out.now a.p-rows-out.now a.p-values-out.now a.q-out.now a.a-starts-out.now
-    a.a-rows-out.now a.a-values-out.now a.b-out.now a.cones-out.now a.alphas-out.now a.pattern-words-out.now
+    file_outputs a.counts_out.now a.p_starts_out.now a.p_rows_out.now a.p_values_out.now a.q_out.now a.a_starts_out.now
+    a.a_rows_out.now a.a_values_out.now a.b_out.now a.cones_out.now a.alphas_out.now a.pattern_words_out.now
 
-abbrev start : tie.After-refuse-read → tie.Start
+abbrev start : tie.After-refuse_read-refused → tie.Start
 start c = c.before.before.before.before.before.before.before.before.before.before.before.before.before.before.before
 
 -- nothing is refused
-number : (c : tie.Else1) → let s = start c.before in 0 ≡ read_words_refusal s.args.words.now s.args.length (file_rooms (lent s))
-number c = sym c.if1.false ∙ c.before.refuse-read.ensures
+number : (c : tie.Else-refused-ne-DONE) → let s = start c.before in 0 ≡ read_words_refusal s.args.words.now s.args.length (file_rooms (lent s))
+number c = sym c.if-refused-ne-DONE.false ∙ c.refuse_read-refused.ensures
 
-taken : (c : tie.Else1) → let s = start c.before in WellShaped s.args.words.now × RoomsFit s.args.words.now (lent s)
+taken : (c : tie.Else-refused-ne-DONE) → let s = start c.before in WellShaped s.args.words.now × RoomsFit s.args.words.now (lent s)
 taken c = let s = start c.before in read_taken s.args.words.now s.args.length (lent s) (sym (number c))
 
-slice-aggregate-refuse-read : tie.Need-slice-aggregate-refuse-read
+slice-aggregate-refuse-read : tie.Need-slice_bounds-refuse_read-end
 slice-aggregate-refuse-read c = refl
 
-refuse-read-requires : tie.Need-refuse-read-requires
+refuse-read-requires : tie.Need-refuse_read-refused-requires
 refuse-read-requires c κs = tt
 
-returns : tie.Need-returns
+returns : tie.Need-returns-then-refused-ne-DONE
 returns c =
     let k = c.before in
     let s = start k in
     let ws = s.args.words.now in
-    record { number = k.refuse-read.ensures; tables = file_kept k.refuse-read.result (outputs_of (counts_in ws) (word_tables ws)) (lent s) c.if1.true }
+    record { number = k.refuse_read-refused.ensures; tables = file_kept k.refuse_read-refused.result (outputs_of (counts_in ws) (word_tables ws)) (lent s) c.if-refused-ne-DONE.true }
 
-read-counts-requires : tie.Need-read-counts-requires
+read-counts-requires : tie.Need-read_counts-requires
 read-counts-requires c κs = let (stands, room) = taken c.before in (stands, room.counts)
 
-read-objective-requires : tie.Need-read-objective-requires
+read-objective-requires : tie.Need-read_objective-requires
 read-objective-requires c κs = let (stands, room) = taken c.before.before.before.before.before.before.before.before in (stands, (room.p_starts, room.p_rows, room.p_values, room.q))
 
-read-constraints-requires : tie.Need-read-constraints-requires
+read-constraints-requires : tie.Need-read_constraints-requires
 read-constraints-requires c κs = let (stands, room) = taken c.before.before.before.before.before.before.before.before.before.before.before.before.before.before.before.before.before.before.before.before.before in (stands, (room.a_starts, room.a_rows, room.a_values, room.b))
 
-read-layout-requires : tie.Need-read-layout-requires
+read-layout-requires : tie.Need-read_layout-requires
 read-layout-requires c κs = let (stands, room) = taken c.before.before.before.before.before.before.before.before.before.before.before.before.before.before.before.before.before.before.before.before.before.before.before.before.before.before.before.before.before.before.before.before.before in (stands, (room.cones, room.alphas, room.pattern_words))
 
-same_length : tie.Need-same-length
-same_length c = c.before.before.before.before.before.before.before.before.before.before.before.before.before.before.before.before.before.before.before.before.before.before.before.before.before.before.before.before.before.before.before.before.before.before.before.before.before.before.read-counts.auto.1.0
+same_length : tie.Need-shape_of-counts_out
+same_length c = c.read_counts.auto.counts_out
 
-same-length-2 : tie.Need-same-length-2
-same-length-2 c = c.before.before.before.before.before.before.before.before.before.before.before.before.before.before.before.before.before.before.before.before.before.before.before.before.before.before.before.before.before.before.before.read-objective.auto.1.0
+same-length-2 : tie.Need-shape_of-p_starts_out
+same-length-2 c = c.read_objective.auto.starts_out
 
-same-length-3 : tie.Need-same-length-3
-same-length-3 c = c.before.before.before.before.before.before.before.before.before.before.before.before.before.before.before.before.before.before.before.before.before.before.before.before.before.before.before.before.before.before.before.read-objective.auto.1.1.0
+same-length-3 : tie.Need-shape_of-p_rows_out
+same-length-3 c = c.read_objective.auto.rows_out
 
-same-length-4 : tie.Need-same-length-4
-same-length-4 c = c.before.before.before.before.before.before.before.before.before.before.before.before.before.before.before.before.before.before.before.before.before.before.before.before.before.before.before.before.before.before.before.read-objective.auto.1.1.1.0
+same-length-4 : tie.Need-shape_of-p_values_out
+same-length-4 c = c.read_objective.auto.values_out
 
-same-length-5 : tie.Need-same-length-5
-same-length-5 c = c.before.before.before.before.before.before.before.before.before.before.before.before.before.before.before.before.before.before.before.before.before.before.before.before.before.before.before.before.before.before.before.read-objective.auto.1.1.1.1.0
+same-length-5 : tie.Need-shape_of-q_out
+same-length-5 c = c.read_objective.auto.q_out
 
-same-length-6 : tie.Need-same-length-6
-same-length-6 c = c.before.before.before.before.before.before.before.before.before.before.before.before.before.before.before.before.before.before.read-constraints.auto.1.0
+same-length-6 : tie.Need-shape_of-a_starts_out
+same-length-6 c = c.read_constraints.auto.starts_out
 
-same-length-7 : tie.Need-same-length-7
-same-length-7 c = c.before.before.before.before.before.before.before.before.before.before.before.before.before.before.before.before.before.before.read-constraints.auto.1.1.0
+same-length-7 : tie.Need-shape_of-a_rows_out
+same-length-7 c = c.read_constraints.auto.rows_out
 
-same-length-8 : tie.Need-same-length-8
-same-length-8 c = c.before.before.before.before.before.before.before.before.before.before.before.before.before.before.before.before.before.before.read-constraints.auto.1.1.1.0
+same-length-8 : tie.Need-shape_of-a_values_out
+same-length-8 c = c.read_constraints.auto.values_out
 
-same-length-9 : tie.Need-same-length-9
-same-length-9 c = c.before.before.before.before.before.before.before.before.before.before.before.before.before.before.before.before.before.before.read-constraints.auto.1.1.1.1.0
+same-length-9 : tie.Need-shape_of-b_out
+same-length-9 c = c.read_constraints.auto.b_out
 
-same-length-10 : tie.Need-same-length-10
-same-length-10 c = c.before.before.before.before.before.before.read-layout.auto.1.0
+same-length-10 : tie.Need-shape_of-cones_out
+same-length-10 c = c.read_layout.auto.cones_out
 
-same-length-11 : tie.Need-same-length-11
-same-length-11 c = c.before.before.before.before.before.before.read-layout.auto.1.1.0
+same-length-11 : tie.Need-shape_of-alphas_out
+same-length-11 c = c.read_layout.auto.alphas_out
 
-same-length-12 : tie.Need-same-length-12
-same-length-12 c = c.before.before.before.before.before.before.read-layout.auto.1.1.1.0
+same-length-12 : tie.Need-shape_of-pattern_words_out
+same-length-12 c = c.read_layout.auto.pattern_words_out
 
-returns-2 : tie.Need-returns-2
+returns-2 : tie.Need-returns
 returns-2 c =
     let l = c.before.before.before.before.before.before in
     let a = l.before.before.before.before.before.before.before.before.before.before.before.before in
@@ -94,18 +94,18 @@ returns-2 c =
     record {
       number = number k.before.before;
       tables = record {
-        counts = k.read-counts.ensures;
-        p_starts = p.read-objective.ensures.0;
-        p_rows = p.read-objective.ensures.1.0;
-        p_values = p.read-objective.ensures.1.1.0;
-        q = p.read-objective.ensures.1.1.1;
-        a_starts = a.read-constraints.ensures.0;
-        a_rows = a.read-constraints.ensures.1.0;
-        a_values = a.read-constraints.ensures.1.1.0;
-        b = a.read-constraints.ensures.1.1.1;
-        cones = l.read-layout.ensures.0;
-        alphas = l.read-layout.ensures.1.0;
-        pattern_words = l.read-layout.ensures.1.1;
+        counts = k.read_counts.ensures;
+        p_starts = p.read_objective.ensures.0;
+        p_rows = p.read_objective.ensures.1.0;
+        p_values = p.read_objective.ensures.1.1.0;
+        q = p.read_objective.ensures.1.1.1;
+        a_starts = a.read_constraints.ensures.0;
+        a_rows = a.read_constraints.ensures.1.0;
+        a_values = a.read_constraints.ensures.1.1.0;
+        b = a.read_constraints.ensures.1.1.1;
+        cones = l.read_layout.ensures.0;
+        alphas = l.read_layout.ensures.1.0;
+        pattern_words = l.read_layout.ensures.1.1;
       };
     }
 

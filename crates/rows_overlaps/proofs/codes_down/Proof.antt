@@ -13,64 +13,64 @@ use borrow.Author.Rules.{rules}
 use Rattle.rows_overlaps.proofs.codes_down.Statement.{statement}
 use Rattle.rows_overlaps.proofs.codes_down.Tie as tie
 
-abbrev invariant-loop : tie.invariant-loop
+abbrev invariant-loop : tie.invariant-loop-c
 invariant-loop words ordering offsets starts base out₀ t₀ c₀ out t c =
     let R = join (codes_here base words ordering offsets starts) (reverse (drop c (below (length offsets)))) in
     (c ≤ length offsets) × (t ≡ length R) × (length out ≡ length out₀) × (out ≡ written R out₀)
 
-abbrev decreases-loop : tie.decreases-loop
+abbrev decreases-loop : tie.decreases-loop-c
 decreases-loop words ordering offsets starts base out₀ t₀ c₀ out t c = c
 
 -- the output has room for the codes of this iteration's clique
-fits : (i : tie.In-loop invariant-loop decreases-loop)
-    → let a = i.before.before.before.before.before.before.before.args in
-    i.before.loop.t + length (codes_here a.base a.words.now a.ordering.now a.offsets.now a.starts.now (i.before.loop.c - 1)) ≤ length i.before.loop.out
+fits : (i : tie.In-loop-c invariant-loop decreases-loop)
+    → let a = i.args in
+    i.loop-c.t + length (codes_here a.base a.words.now a.ordering.now a.offsets.now a.starts.now (i.loop-c.c - 1)) ≤ length i.loop-c.out
 fits i =
     let l = i.before in
     let s = l.before.before.before.before.before.before in
     let a = s.args in
     let f = codes_here a.base a.words.now a.ordering.now a.offsets.now a.starts.now in
     let K = length a.offsets.now in
-    let n : ℕ = l.loop.c - 1 in
-    let q : l.loop.c ≡ n + 1 = omega arith in
+    let n : ℕ = l.loop-c.c - 1 in
+    let q : l.loop-c.c ≡ n + 1 = omega arith in
     omega (arith, ap (λ (m : ℕ). length (join f (reverse (drop m (below K))))) q, numbers_room f K n (omega arith), s.requires.1.1)
 
-loop-holds : tie.Need-loop-init invariant-loop decreases-loop
+loop-holds : tie.Need-loop-c-init invariant-loop decreases-loop
 loop-holds c =
-    let a = c.before.before.before.before.before.args in
+    let a = c.args in
     let k = length a.offsets.now in
     let e : [] ≡ join (codes_here a.base a.words.now a.ordering.now a.offsets.now a.starts.now) (reverse (drop k (below k))) =
     ap (λ (ns : List ℕ). join (codes_here a.base a.words.now a.ordering.now a.offsets.now a.starts.now) (reverse ns)) (sym (drop_of_length-le (below k) {i = k} (omega (arith, length-up_from 0 k)))) in
     (omega arith, ap length e, refl, ap (λ (xs : List ℕ). written xs a.out.now) e)
 
-sub-c : tie.Need-overflow-sub-c invariant-loop decreases-loop
+sub-c : tie.Need-overflow_sub-c invariant-loop decreases-loop
 sub-c c = search rules
 
-mul-code-rows : tie.Need-overflow-mul-code-rows invariant-loop decreases-loop
+mul-code-rows : tie.Need-offset_bounds-out-t invariant-loop decreases-loop
 mul-code-rows c = omega (arith, fits c)
 
-sub-code-rows : tie.Need-overflow-sub-code-rows invariant-loop decreases-loop
+sub-code-rows : tie.Need-slice_bounds-code_rows-count invariant-loop decreases-loop
 sub-code-rows c = omega (arith, fits c)
 
-part-code-rows-start : tie.Need-slice-bounds-code-rows-start invariant-loop decreases-loop
+part-code-rows-start : tie.Need-slice_bounds-code_rows-start invariant-loop decreases-loop
 part-code-rows-start c = omega (arith, fits c)
 
-part-code-rows-end : tie.Need-slice-bounds-code-rows-end invariant-loop decreases-loop
+part-code-rows-end : tie.Need-slice_bounds-code_rows-end invariant-loop decreases-loop
 part-code-rows-end c = omega (arith, fits c)
 
-code-rows-requires : tie.Need-code-rows-requires invariant-loop decreases-loop
+code-rows-requires : tie.Need-code_rows-t-requires invariant-loop decreases-loop
 code-rows-requires c κs =
     let i = c.before in
     let s = i.before.before.before.before.before.before.before in
     ((s.requires.0, omega arith), (s.requires.1.0, simp (length-take, length-drop) (omega (arith, fits i))))
 
-add-t : tie.Need-overflow-add-t invariant-loop decreases-loop
-add-t c = omega (arith, fits c.before.before.before.before, c.before.before.code-rows.ensures.0)
+add-t : tie.Need-overflow_add-t invariant-loop decreases-loop
+add-t c = omega (arith, fits c.before.before.before.before, c.code_rows-t.ensures.0)
 
-loop-less : tie.Need-loop-smaller invariant-loop decreases-loop
+loop-less : tie.Need-loop-c-smaller invariant-loop decreases-loop
 loop-less c = search rules
 
-loop-again : tie.Need-loop-preserved invariant-loop decreases-loop
+loop-again : tie.Need-loop-c-preserved invariant-loop decreases-loop
 loop-again c =
     let i = c.before.before.before.before in
     let l = i.before in
@@ -78,16 +78,16 @@ loop-again c =
     let a = s.args in
     let f = codes_here a.base a.words.now a.ordering.now a.offsets.now a.starts.now in
     let K = length a.offsets.now in
-    let t = l.loop.t in
-    let n : ℕ = l.loop.c - 1 in
-    let k : ℕ = length l.loop.out - t in
-    let call = c.before.before.code-rows in
-    let q : l.loop.c ≡ n + 1 = omega arith in
-    let done = join f (reverse (drop l.loop.c (below K))) in
+    let t = l.loop-c.t in
+    let n : ℕ = l.loop-c.c - 1 in
+    let k : ℕ = length l.loop-c.out - t in
+    let call = c.code_rows-t in
+    let q : l.loop-c.c ≡ n + 1 = omega arith in
+    let done = join f (reverse (drop l.loop-c.c (below K))) in
     let more : join f (reverse (drop n (below K))) ≡ done ++ f n =
     numbers_more f K n (omega arith) ∙ ap (λ (m : ℕ). join f (reverse (drop m (below K))) ++ f n) (sym q) in
-    let e : take t l.loop.out ++ (call.new.1.1.1.1.1.1.0 ++ drop k (drop t l.loop.out)) ≡ written (join f (reverse (drop n (below K)))) a.out.now =
-    written_next done (f n) a.out.now l.loop.out call.new.1.1.1.1.1.1.0 t k l.loop.invariant.1 l.loop.invariant.3
+    let e : take t l.loop-c.out ++ (call.new.out ++ drop k (drop t l.loop-c.out)) ≡ written (join f (reverse (drop n (below K)))) a.out.now =
+    written_next done (f n) a.out.now l.loop-c.out call.new.out t k l.loop-c.invariant.1 l.loop-c.invariant.3
     (omega (arith, fits i)) (omega (arith, fits i)) call.ensures.1
     ∙ ap (λ (xs : List ℕ). written xs a.out.now) (sym more) in
     let size : t + length (f n) ≡ length (join f (reverse (drop n (below K)))) = omega (arith, ap length more, length-append done (f n)) in (
@@ -97,17 +97,17 @@ loop-again c =
       e,
     )
 
-same_length : tie.Need-same-length invariant-loop decreases-loop
-same_length c = c.before.loop.invariant.2
+same_length : tie.Need-shape_of-out invariant-loop decreases-loop
+same_length c = c.loop-c.invariant.2
 
 returns : tie.Need-returns invariant-loop decreases-loop
 returns c =
     let l = c.before in
-    let a = l.before.before.before.before.before.before.args in
+    let a = l.args in
     let f = codes_here a.base a.words.now a.ordering.now a.offsets.now a.starts.now in
     let K = length a.offsets.now in
-    let e : drop l.loop.c (below K) ≡ below K = let z : l.loop.c ≡ 0 = omega arith in ap (λ (n : ℕ). drop n (below K)) z in
-    (l.loop.invariant.1 ∙ ap (λ (ns : List ℕ). length (join f (reverse ns))) e, l.loop.invariant.3 ∙ ap (λ (ns : List ℕ). written (join f (reverse ns)) a.out.now) e)
+    let e : drop l.loop-c.c (below K) ≡ below K = let z : l.loop-c.c ≡ 0 = omega arith in ap (λ (n : ℕ). drop n (below K)) z in
+    (l.loop-c.invariant.1 ∙ ap (λ (ns : List ℕ). length (join f (reverse ns))) e, l.loop-c.invariant.3 ∙ ap (λ (ns : List ℕ). written (join f (reverse ns)) a.out.now) e)
 
 pub codes_down_spec : {M : Type 1} → statement M
 codes_down_spec =

@@ -31,22 +31,22 @@ kept_long n xs e = le_of_eq (sym (e ∙ length-replicate {A = ℕ} n 0))
 low : (s : tie.Start) (at : ℕ) → Below 256 (vertices_here s.args.words.now s.args.ordering.now at)
 low s at k l = le_trans (vertices-below s.args.words.now s.args.ordering.now at k l) s.requires.0.0.sortable.few
 
-slice-aggregate-clique-vertices : tie.Need-slice-aggregate-clique-vertices
+slice-aggregate-clique-vertices : tie.Need-slice_bounds-clique_vertices-end
 slice-aggregate-clique-vertices c = search rules
 
-clique-vertices-requires : tie.Need-clique-vertices-requires
+clique-vertices-requires : tie.Need-clique_vertices-n-requires
 clique-vertices-requires c κs = search rules
 
-array-share-prefix-vertices : tie.Need-array-share-prefix-vertices
-array-share-prefix-vertices c = let s = c.before.before.before.before.before.before in omega (arith, c.before.clique-vertices.ensures.0, few s s.args.parent)
+array-share-prefix-vertices : tie.Need-slice_bounds-vertices-end
+array-share-prefix-vertices c = let s = c.before.before.before.before.before.before in omega (arith, c.clique_vertices-n.ensures.0, few s s.args.parent)
 
-slice-aggregate-note-places : tie.Need-slice-aggregate-note-places
-slice-aggregate-note-places c = let v = c.before.before in v.clique-vertices.ensures.0 ∙ sym (ap length v.clique-vertices.ensures.1)
+slice-aggregate-note-places : tie.Need-slice_bounds-note_places-end
+slice-aggregate-note-places c = let v = c.before.before in v.clique_vertices-n.ensures.0 ∙ sym (ap length v.clique_vertices-n.ensures.1)
 
-slice-aggregate-note-places-2 : tie.Need-slice-aggregate-note-places-2
+slice-aggregate-note-places-2 : tie.Need-slice_bounds-note_places-end-2
 slice-aggregate-note-places-2 c = search rules
 
-note-places-requires : tie.Need-note-places-requires
+note-places-requires : tie.Need-note_places-requires
 note-places-requires c κs =
     let v = c.before.before.before in
     let s = v.before.before.before.before.before in
@@ -54,30 +54,30 @@ note-places-requires c κs =
     let o = s.args.ordering.now in
     let at = s.args.parent in
     let clear = cleared 256 (vertices_here ws o at) (low s at) in
-    rw v.clique-vertices.ensures.1 ((vertices_rise ws o at, clear.0, few s at), clear.1)
+    rw v.clique_vertices-n.ensures.1 ((vertices_rise ws o at, clear.0, few s at), clear.1)
 
 -- the table of positions of the parent's vertices
-noted : (n : tie.After-note-places) → let a = n.before.before.before.before.before.before.before.before.before.args in Places (vertices_here a.words.now a.ordering.now a.parent) n.note-places.new.1.0
-noted n = subst (λ (vs : List ℕ). Places vs n.note-places.new.1.0) n.before.before.before.before.clique-vertices.ensures.1 n.note-places.ensures
+noted : (n : tie.After-note_places) → let a = n.args in Places (vertices_here a.words.now a.ordering.now a.parent) n.note_places.new.out
+noted n = subst (λ (vs : List ℕ). Places vs n.note_places.new.out) n.clique_vertices-n.ensures.1 n.note_places.ensures
 
-slice-aggregate-clique-vertices-2 : tie.Need-slice-aggregate-clique-vertices-2
+slice-aggregate-clique-vertices-2 : tie.Need-slice_bounds-clique_vertices-end-2
 slice-aggregate-clique-vertices-2 c = search rules
 
-clique-vertices-requires-2 : tie.Need-clique-vertices-requires-2
+clique-vertices-requires-2 : tie.Need-clique_vertices-k-requires
 clique-vertices-requires-2 c κs =
     let v = c.before.before.before.before.before.before in
-    (c.before.before.before.before.before.before.before.before.before.before.before.requires.0.0, kept_long 256 v.clique-vertices.new.1.1.1.0 v.clique-vertices.auto.1.1.1.0)
+    (c.requires.0.0, kept_long 256 v.clique_vertices-n.new.out v.clique_vertices-n.auto.out)
 
-array-share-prefix-vertices-2 : tie.Need-array-share-prefix-vertices-2
-array-share-prefix-vertices-2 c = let s = c.before.before.before.before.before.before.before.before.before.before.before.before.before.before in omega (arith, c.before.before.clique-vertices2.ensures.0, few s s.args.at)
+array-share-prefix-vertices-2 : tie.Need-slice_bounds-vertices-end-2
+array-share-prefix-vertices-2 c = let s = c.before.before.before.before.before.before.before.before.before.before.before.before.before.before in omega (arith, c.clique_vertices-k.ensures.0, few s s.args.at)
 
-slice-aggregate-code-block : tie.Need-slice-aggregate-code-block
-slice-aggregate-code-block c = let v = c.before.before.before in v.clique-vertices2.ensures.0 ∙ sym (ap length v.clique-vertices2.ensures.1)
+slice-aggregate-code-block : tie.Need-slice_bounds-code_block-end
+slice-aggregate-code-block c = let v = c.before.before.before in v.clique_vertices-k.ensures.0 ∙ sym (ap length v.clique_vertices-k.ensures.1)
 
-slice-aggregate-code-block-2 : tie.Need-slice-aggregate-code-block-2
+slice-aggregate-code-block-2 : tie.Need-slice_bounds-code_block-end-2
 slice-aggregate-code-block-2 c = search rules
 
-code-block-requires : tie.Need-code-block-requires
+code-block-requires : tie.Need-code_block-requires
 code-block-requires c κs =
     let v = c.before.before.before.before in
     let n = v.before.before.before in
@@ -85,9 +85,9 @@ code-block-requires c κs =
     let a = s.args in
     let ws = a.words.now in
     let o = a.ordering.now in
-    let places = n.note-places.new.1.0 in
-    let size : length places ≡ 256 = n.note-places.auto.1.0 ∙ length-replicate {A = ℕ} 256 0 in
-    rw v.clique-vertices2.ensures.1 (
+    let places = n.note_places.new.out in
+    let size : length places ≡ 256 = n.note_places.auto.out ∙ length-replicate {A = ℕ} 256 0 in
+    rw v.clique_vertices-k.ensures.1 (
       (vertices_rise ws o a.at, rw size (low s a.at), vertices_fit ws o a.at a.base 65536 s.requires.1.0.0),
       (
         s.requires.1.0.1,
@@ -96,7 +96,7 @@ code-block-requires c κs =
       ),
     )
 
-same_length : tie.Need-same-length
+same_length : tie.Need-shape_of-out
 same_length c = search rules
 
 returns : tie.Need-returns
@@ -108,10 +108,10 @@ returns c =
     let a = s.args in
     let ws = a.words.now in
     let o = a.ordering.now in
-    let places = n.note-places.new.1.0 in
-    let e = v.clique-vertices2.ensures.1 in (
-      b.code-block.ensures.0 ∙ ap (λ (vs : List ℕ). triangle (length vs)) e ∙ sym (length_tied a.base a.start ws o a.parent a.at),
-      b.code-block.ensures.1 ∙ ap (λ (vs : List ℕ). written (map (place_code places a.base a.start) (pairs vs)) a.out.now) e
+    let places = n.note_places.new.out in
+    let e = v.clique_vertices-k.ensures.1 in (
+      b.code_block.ensures.0 ∙ ap (λ (vs : List ℕ). triangle (length vs)) e ∙ sym (length_tied a.base a.start ws o a.parent a.at),
+      b.code_block.ensures.1 ∙ ap (λ (vs : List ℕ). written (map (place_code places a.base a.start) (pairs vs)) a.out.now) e
           ∙ ap (λ (xs : List ℕ). written xs a.out.now) (tied_places a.base a.start ws o a.parent a.at places (noted n)),
     )
 

@@ -15,67 +15,67 @@ use borrow.Author.Rules.{rules}
 use Rattle.rows_parent.proofs.code_block.Statement.{statement}
 use Rattle.rows_parent.proofs.code_block.Tie as tie
 
-abbrev invariant-loop : tie.invariant-loop
+abbrev invariant-loop : tie.invariant-loop-j
 invariant-loop out₀ vertices places base start t₀ j₀ out t j =
     let B = columns_below (place_code places base start) vertices j in
     (j ≤ length vertices) × (t ≡ triangle j) × (t ≡ length B) × (length out ≡ length out₀) × (out ≡ written B out₀)
 
-abbrev decreases-loop : tie.decreases-loop
+abbrev decreases-loop : tie.decreases-loop-j
 decreases-loop out₀ vertices places base start t₀ j₀ out t j = length vertices - j
 
 -- the output has room for column j
-fits : (i : tie.In-loop invariant-loop decreases-loop) → i.before.loop.t + (i.before.loop.j + 1) ≤ length i.before.loop.out
+fits : (i : tie.In-loop-j invariant-loop decreases-loop) → i.loop-j.t + (i.loop-j.j + 1) ≤ length i.loop-j.out
 fits i =
     let l = i.before in
     let s = l.before.before.before.before in
-    omega (arith, triangle-suc l.loop.j, triangle_mono (suc l.loop.j) (length s.args.vertices.now) i.loop-test.true, s.requires.1.2)
+    omega (arith, triangle-suc l.loop-j.j, triangle_mono (suc l.loop-j.j) (length s.args.vertices.now) i.loop-j-test.true, s.requires.1.2)
 
-loop-holds : tie.Need-loop-init invariant-loop decreases-loop
+loop-holds : tie.Need-loop-j-init invariant-loop decreases-loop
 loop-holds c = (omega arith, refl, refl, refl, refl)
 
-mul-tied-column : tie.Need-overflow-mul-tied-column invariant-loop decreases-loop
+mul-tied-column : tie.Need-offset_bounds-out-t invariant-loop decreases-loop
 mul-tied-column c = omega (arith, fits c)
 
-sub-tied-column : tie.Need-overflow-sub-tied-column invariant-loop decreases-loop
+sub-tied-column : tie.Need-slice_bounds-tied_column-count invariant-loop decreases-loop
 sub-tied-column c = omega (arith, fits c)
 
-part-tied-column-start : tie.Need-slice-bounds-tied-column-start invariant-loop decreases-loop
+part-tied-column-start : tie.Need-slice_bounds-tied_column-start invariant-loop decreases-loop
 part-tied-column-start c = omega (arith, fits c)
 
-part-tied-column-end : tie.Need-slice-bounds-tied-column-end invariant-loop decreases-loop
+part-tied-column-end : tie.Need-slice_bounds-tied_column-end invariant-loop decreases-loop
 part-tied-column-end c = omega (arith, fits c)
 
-tied-column-requires : tie.Need-tied-column-requires invariant-loop decreases-loop
+tied-column-requires : tie.Need-tied_column-requires invariant-loop decreases-loop
 tied-column-requires c κs =
     let i = c.before in
     let s = i.before.before.before.before.before in
-    ((i.loop-test.true, simp (length-take, length-drop) (omega (arith, fits i)), s.requires.0.0, s.requires.0.1), (s.requires.0.2 i.before.loop.j i.loop-test.true, s.requires.1.0, s.requires.1.1))
+    ((i.loop-j-test.true, simp (length-take, length-drop) (omega (arith, fits i)), s.requires.0.0, s.requires.0.1), (s.requires.0.2 i.loop-j.j i.loop-j-test.true, s.requires.1.0, s.requires.1.1))
 
-add-t : tie.Need-overflow-add-t invariant-loop decreases-loop
+add-t : tie.Need-overflow_add-t invariant-loop decreases-loop
 add-t c = search rules
 
-add-t-2 : tie.Need-overflow-add-t-2 invariant-loop decreases-loop
+add-t-2 : tie.Need-overflow_add-t-in-loop-j invariant-loop decreases-loop
 add-t-2 c = omega (arith, fits c.before.before.before.before)
 
-add-j : tie.Need-overflow-add-j invariant-loop decreases-loop
+add-j : tie.Need-overflow_add-j invariant-loop decreases-loop
 add-j c = search rules
 
-loop-less : tie.Need-loop-smaller invariant-loop decreases-loop
+loop-less : tie.Need-loop-j-smaller invariant-loop decreases-loop
 loop-less c = search rules
 
-loop-again : tie.Need-loop-preserved invariant-loop decreases-loop
+loop-again : tie.Need-loop-j-preserved invariant-loop decreases-loop
 loop-again c =
     let i = c.before.before.before.before in
     let l = i.before in
-    let a = l.before.before.before.before.args in
+    let a = l.args in
     let f = place_code a.places.now a.base a.start in
     let vs = a.vertices.now in
-    let j = l.loop.j in
-    let t = l.loop.t in
-    let k : ℕ = length l.loop.out - t in
-    let call = c.before.before.tied-column in
-    let e : take t l.loop.out ++ (call.new.0 ++ drop k (drop t l.loop.out)) ≡ written (columns_below f vs (j + 1)) a.out.now =
-    written_next (columns_below f vs j) (map f (column_pairs vs j)) a.out.now l.loop.out call.new.0 t k l.loop.invariant.2 l.loop.invariant.4
+    let j = l.loop-j.j in
+    let t = l.loop-j.t in
+    let k : ℕ = length l.loop-j.out - t in
+    let call = c.tied_column in
+    let e : take t l.loop-j.out ++ (call.new.out ++ drop k (drop t l.loop-j.out)) ≡ written (columns_below f vs (j + 1)) a.out.now =
+    written_next (columns_below f vs j) (map f (column_pairs vs j)) a.out.now l.loop-j.out call.new.out t k l.loop-j.invariant.2 l.loop-j.invariant.4
     (omega (arith, length-column f vs j, fits i)) (omega (arith, fits i)) call.ensures
     ∙ ap (λ (xs : List ℕ). written xs a.out.now) (sym (columns_more f vs j)) in (
       omega arith,
@@ -85,15 +85,15 @@ loop-again c =
       e,
     )
 
-same_length : tie.Need-same-length invariant-loop decreases-loop
-same_length c = c.before.loop.invariant.3
+same_length : tie.Need-shape_of-out invariant-loop decreases-loop
+same_length c = c.loop-j.invariant.3
 
 returns : tie.Need-returns invariant-loop decreases-loop
 returns c =
     let l = c.before in
-    let a = l.before.before.before.before.args in
-    let e : l.loop.j ≡ length a.vertices.now = omega arith in
-    (l.loop.invariant.1 ∙ ap triangle e, l.loop.invariant.4 ∙ ap (λ (n : ℕ). written (columns_below (place_code a.places.now a.base a.start) a.vertices.now n) a.out.now) e)
+    let a = l.args in
+    let e : l.loop-j.j ≡ length a.vertices.now = omega arith in
+    (l.loop-j.invariant.1 ∙ ap triangle e, l.loop-j.invariant.4 ∙ ap (λ (n : ℕ). written (columns_below (place_code a.places.now a.base a.start) a.vertices.now n) a.out.now) e)
 
 pub code_block_spec : {M : Type 1} → statement M
 code_block_spec =

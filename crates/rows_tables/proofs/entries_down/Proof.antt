@@ -22,7 +22,7 @@ use borrow.Author.Rules.{rules}
 use Rattle.rows_tables.proofs.entries_down.Statement.{statement}
 use Rattle.rows_tables.proofs.entries_down.Tie as tie
 
-abbrev invariant-loop : tie.invariant-loop
+abbrev invariant-loop : tie.invariant-loop-left
 invariant-loop cone pattern words first count end out₀ at₀ row₀ left₀ out at row left =
     let cs = cliques_from words first count in
     let base = end - sum (map dim_of cs) in
@@ -30,99 +30,99 @@ invariant-loop cone pattern words first count end out₀ at₀ row₀ left₀ ou
     × (row ≡ base + sum (map dim_of (cliques_from words at left)))
     × (down_words cone pattern (count - left) base (cliques_from words at left) ++ drop (left * 5) out ≡ down_words cone pattern 0 base cs ++ drop (count * 5) out₀)
 
-abbrev decreases-loop : tie.decreases-loop
+abbrev decreases-loop : tie.decreases-loop-left
 decreases-loop cone pattern words first count end out₀ at₀ row₀ left₀ out at row left = left
 
-abbrev start : tie.At-loop invariant-loop decreases-loop → tie.Start invariant-loop decreases-loop
+abbrev start : tie.At-loop-left invariant-loop decreases-loop → tie.Start invariant-loop decreases-loop
 start l = l.before.before.before
 
 abbrev base_of : tie.Start invariant-loop decreases-loop → ℕ
 base_of s = s.args.end - sum (map dim_of (cliques_from s.args.words.now s.args.first s.args.count))
 
 -- a clique was read
-first_of : (c : tie.After-here invariant-loop decreases-loop)
+first_of : (c : tie.After-here-q invariant-loop decreases-loop)
     → let l = c.before.before in
     let ws = (start l).args.words.now in
-    let q = c.here.result in
-    cliques_from ws l.loop.at l.loop.left ≡ clique_of ws q ∷ cliques_from ws q.next (l.loop.left - 1)
+    let q = c.here-q.result in
+    cliques_from ws l.loop-left.at l.loop-left.left ≡ clique_of ws q ∷ cliques_from ws q.next (l.loop-left.left - 1)
 first_of c =
     let l = c.before.before in
-    from_next (start l).args.words.now l.loop.at l.loop.left _ c.here.ensures.0 c.before.loop-test.true c.here.result refl l.loop.invariant.1
+    from_next (start l).args.words.now l.loop-left.at l.loop-left.left _ c.here-q.ensures.0 c.loop-left-test.true c.here-q.result refl l.loop-left.invariant.1
 
-size : (c : tie.After-here invariant-loop decreases-loop)
+size : (c : tie.After-here-q invariant-loop decreases-loop)
     → let ws = (start c.before.before).args.words.now in
-    let q = c.here.result in
+    let q = c.here-q.result in
     (block_size (clique_of ws q) ≡ q.snode_count + q.separator_count) × (q.snode_count + q.separator_count ≤ 256)
 size c =
     let l = c.before.before in
     let ws = (start l).args.words.now in
-    let q = c.here.result in
-    let e = block_size_lem ws l.loop.at q c.here.ensures.1 in
-    let small = (all_cons (block_at_most 256) (clique_of ws q) (cliques_from ws q.next (l.loop.left - 1)) _ (first_of c) l.loop.invariant.2).0 in
+    let q = c.here-q.result in
+    let e = block_size_lem ws l.loop-left.at q c.here-q.ensures.1 in
+    let small = (all_cons (block_at_most 256) (clique_of ws q) (cliques_from ws q.next (l.loop-left.left - 1)) _ (first_of c) l.loop-left.invariant.2).0 in
     (e, omega (arith, leb→le (block_size (clique_of ws q)) 256 (passes _ small)))
 
 -- the rows of its block, and those of the cliques after it
-rows_are : (c : tie.After-triangular-number invariant-loop decreases-loop)
+rows_are : (c : tie.After-triangular_number-rows invariant-loop decreases-loop)
     → let k = c.before.before in
     let ws = (start k.before.before).args.words.now in
-    c.triangular-number.result ≡ dim_of (clique_of ws k.here.result)
-rows_are c = c.triangular-number.ensures ∙ ap triangle (c.before.get-nblk.ensures ∙ sym (size c.before.before).0)
+    c.triangular_number-rows.result ≡ dim_of (clique_of ws k.here-q.result)
+rows_are c = c.triangular_number-rows.ensures ∙ ap triangle (c.get_nblk.ensures ∙ sym (size c.before.before).0)
 
-row_is : (c : tie.After-triangular-number invariant-loop decreases-loop)
+row_is : (c : tie.After-triangular_number-rows invariant-loop decreases-loop)
     → let k = c.before.before in
     let l = k.before.before in
     let ws = (start l).args.words.now in
-    l.loop.row ≡ base_of (start l) + sum (map dim_of (cliques_from ws k.here.result.next (l.loop.left - 1))) + c.triangular-number.result
+    l.loop-left.row ≡ base_of (start l) + sum (map dim_of (cliques_from ws k.here-q.result.next (l.loop-left.left - 1))) + c.triangular_number-rows.result
 row_is c =
     let k = c.before.before in
     let l = k.before.before in
-    omega (arith, l.loop.invariant.4, ap (λ (cs : List Clique). sum (map dim_of cs)) (first_of k), rows_are c)
+    omega (arith, l.loop-left.invariant.4, ap (λ (cs : List Clique). sum (map dim_of cs)) (first_of k), rows_are c)
 
 -- there is room for its map entry
-room : (i : tie.In-loop invariant-loop decreases-loop) → (i.before.loop.left - 1) * 5 + 5 ≤ length i.before.loop.out
-room i = omega (arith, i.before.loop.invariant.0, i.before.loop.invariant.3, (start i.before).pre.0.1, i.loop-test.true)
+room : (i : tie.In-loop-left invariant-loop decreases-loop) → (i.loop-left.left - 1) * 5 + 5 ≤ length i.loop-left.out
+room i = omega (arith, i.loop-left.invariant.0, i.loop-left.invariant.3, (start i.before).pre.0.1, i.loop-left-test.true)
 
-loop-holds : tie.Need-loop-init invariant-loop decreases-loop
+loop-holds : tie.Need-loop-left-init invariant-loop decreases-loop
 loop-holds c =
     let s = c.before.before in
     let a = s.args in
     let z : a.count - a.count ≡ 0 = omega arith in
     (omega arith, s.requires.0.0, s.requires.1.0, refl, omega (arith, s.requires.1.1), ap (λ (n : ℕ). down_words a.cone a.pattern n (base_of s) (cliques_from a.words.now a.first a.count) ++ drop (a.count * 5) a.out.now) z)
 
-here-requires : tie.Need-here-requires invariant-loop decreases-loop
-here-requires c κs = let l = c.before in first-whole (start l).args.words.now l.loop.at l.loop.left c.loop-test.true l.loop.invariant.1
+here-requires : tie.Need-here-q-requires invariant-loop decreases-loop
+here-requires c κs = let l = c.before in first-whole (start l).args.words.now l.loop-left.at l.loop-left.left c.loop-left-test.true l.loop-left.invariant.1
 
-get-nblk-requires : tie.Need-get-nblk-requires invariant-loop decreases-loop
+get-nblk-requires : tie.Need-get_nblk-requires invariant-loop decreases-loop
 get-nblk-requires c κs = omega (arith, (size c).1)
 
-cast-triangular-number : tie.Need-overflow-cast-triangular-number invariant-loop decreases-loop
-cast-triangular-number c = omega (arith, (size c.before).1, c.get-nblk.ensures)
+cast-triangular-number : tie.Need-overflow_cast-get_nblk invariant-loop decreases-loop
+cast-triangular-number c = omega (arith, (size c.before).1, c.get_nblk.ensures)
 
-triangular-number-requires : tie.Need-triangular-number-requires invariant-loop decreases-loop
-triangular-number-requires c κs = omega (arith, (size c.before).1, c.get-nblk.ensures)
+triangular-number-requires : tie.Need-triangular_number-rows-requires invariant-loop decreases-loop
+triangular-number-requires c κs = omega (arith, (size c.before).1, c.get_nblk.ensures)
 
-sub-clique : tie.Need-overflow-sub-clique invariant-loop decreases-loop
-sub-clique c = omega (arith, c.before.before.before.before.loop.invariant.0)
+sub-clique : tie.Need-overflow_sub-clique invariant-loop decreases-loop
+sub-clique c = omega (arith, c.loop-left.invariant.0)
 
-sub-left : tie.Need-overflow-sub-left invariant-loop decreases-loop
-sub-left c = omega (arith, c.before.before.before.loop-test.true)
+sub-left : tie.Need-overflow_sub-left invariant-loop decreases-loop
+sub-left c = omega (arith, c.loop-left-test.true)
 
-sub_row : tie.Need-overflow-sub-row invariant-loop decreases-loop
+sub_row : tie.Need-overflow_sub-row invariant-loop decreases-loop
 sub_row c = omega (arith, row_is c)
 
-cast-put-entry : tie.Need-overflow-cast-put-entry invariant-loop decreases-loop
+cast-put-entry : tie.Need-overflow_cast-left invariant-loop decreases-loop
 cast-put-entry c = search rules
 
-mul-put-entry : tie.Need-overflow-mul-put-entry invariant-loop decreases-loop
+mul-put-entry : tie.Need-overflow_mul-left invariant-loop decreases-loop
 mul-put-entry c = omega (arith, room c.before.before.before.before)
 
-put-entry-requires : tie.Need-put-entry-requires invariant-loop decreases-loop
+put-entry-requires : tie.Need-put_entry-requires invariant-loop decreases-loop
 put-entry-requires c κs = room c.before.before.before.before
 
-loop-less : tie.Need-loop-smaller invariant-loop decreases-loop
-loop-less c = omega (arith, c.before.before.before.before.before.before.before.loop-test.true)
+loop-less : tie.Need-loop-left-smaller invariant-loop decreases-loop
+loop-less c = omega (arith, c.loop-left-test.true)
 
-loop-again : tie.Need-loop-preserved invariant-loop decreases-loop
+loop-again : tie.Need-loop-left-preserved invariant-loop decreases-loop
 loop-again c =
     let w = c.before.before in
     let t = w.before.before in
@@ -132,34 +132,34 @@ loop-again c =
     let s = start l in
     let a = s.args in
     let ws = a.words.now in
-    let q = k.here.result in
-    let n = t.triangular-number.result in
-    let others = cliques_from ws q.next (l.loop.left - 1) in
-    let number : ℕ = a.count - l.loop.left in
-    let next : suc number ≡ a.count - (l.loop.left - 1) = omega (arith, i.loop-test.true, l.loop.invariant.0) in
-    let from : ℕ = (l.loop.left - 1) * 5 in
-    let room-is : l.loop.left * 5 ≡ from + 5 = omega (arith, i.loop-test.true) in
-    let row : base_of s + sum (map dim_of others) ≡ l.loop.row - n = omega (arith, row_is t) in
-    let read : down_words a.cone a.pattern number (base_of s) (cliques_from ws l.loop.at l.loop.left)
-    ≡ down_words a.cone a.pattern (a.count - (l.loop.left - 1)) (base_of s) others ++ (a.cone ∷ a.pattern ∷ number ∷ (l.loop.row - n) ∷ n ∷ []) =
+    let q = k.here-q.result in
+    let n = t.triangular_number-rows.result in
+    let others = cliques_from ws q.next (l.loop-left.left - 1) in
+    let number : ℕ = a.count - l.loop-left.left in
+    let next : suc number ≡ a.count - (l.loop-left.left - 1) = omega (arith, i.loop-left-test.true, l.loop-left.invariant.0) in
+    let from : ℕ = (l.loop-left.left - 1) * 5 in
+    let room-is : l.loop-left.left * 5 ≡ from + 5 = omega (arith, i.loop-left-test.true) in
+    let row : base_of s + sum (map dim_of others) ≡ l.loop-left.row - n = omega (arith, row_is t) in
+    let read : down_words a.cone a.pattern number (base_of s) (cliques_from ws l.loop-left.at l.loop-left.left)
+    ≡ down_words a.cone a.pattern (a.count - (l.loop-left.left - 1)) (base_of s) others ++ (a.cone ∷ a.pattern ∷ number ∷ (l.loop-left.row - n) ∷ n ∷ []) =
     ap (down_words a.cone a.pattern number (base_of s)) (first_of k) ∙ down_more a.cone a.pattern number (base_of s) (clique_of ws q) others
     ∙ ap₂ (λ (d r : ℕ). down_words a.cone a.pattern d (base_of s) others ++ (a.cone ∷ a.pattern ∷ number ∷ r ∷ dim_of (clique_of ws q) ∷ [])) next row
-    ∙ ap (λ (d : ℕ). down_words a.cone a.pattern (a.count - (l.loop.left - 1)) (base_of s) others ++ (a.cone ∷ a.pattern ∷ number ∷ (l.loop.row - n) ∷ d ∷ [])) (sym (rows_are t)) in (
-      omega (arith, l.loop.invariant.0),
-      sym (whole-next ws l.loop.at l.loop.left _ k.here.ensures.0 i.loop-test.true q refl) ∙ l.loop.invariant.1,
-      (all_cons (block_at_most 256) (clique_of ws q) others (cliques_from ws l.loop.at l.loop.left) (first_of k) l.loop.invariant.2).1,
-      w.put-entry.auto.0 ∙ l.loop.invariant.3,
+    ∙ ap (λ (d : ℕ). down_words a.cone a.pattern (a.count - (l.loop-left.left - 1)) (base_of s) others ++ (a.cone ∷ a.pattern ∷ number ∷ (l.loop-left.row - n) ∷ d ∷ [])) (sym (rows_are t)) in (
+      omega (arith, l.loop-left.invariant.0),
+      sym (whole-next ws l.loop-left.at l.loop-left.left _ k.here-q.ensures.0 i.loop-left-test.true q refl) ∙ l.loop-left.invariant.1,
+      (all_cons (block_at_most 256) (clique_of ws q) others (cliques_from ws l.loop-left.at l.loop-left.left) (first_of k) l.loop-left.invariant.2).1,
+      w.put_entry.auto.out ∙ l.loop-left.invariant.3,
       sym row,
-      entry_more l.loop.out from a.cone a.pattern number (l.loop.row - n) n (room i) w.put-entry.new.0 (down_words a.cone a.pattern (a.count - (l.loop.left - 1)) (base_of s) others) _ w.put-entry.ensures
-          (ap (λ (m : ℕ). (down_words a.cone a.pattern (a.count - (l.loop.left - 1)) (base_of s) others ++ (a.cone ∷ a.pattern ∷ number ∷ (l.loop.row - n) ∷ n ∷ [])) ++ drop m l.loop.out) (sym room-is)
-          ∙ ap (λ (xs : List ℕ). xs ++ drop (l.loop.left * 5) l.loop.out) (sym read) ∙ l.loop.invariant.5),
+      entry_more l.loop-left.out from a.cone a.pattern number (l.loop-left.row - n) n (room i) w.put_entry.new.out (down_words a.cone a.pattern (a.count - (l.loop-left.left - 1)) (base_of s) others) _ w.put_entry.ensures
+          (ap (λ (m : ℕ). (down_words a.cone a.pattern (a.count - (l.loop-left.left - 1)) (base_of s) others ++ (a.cone ∷ a.pattern ∷ number ∷ (l.loop-left.row - n) ∷ n ∷ [])) ++ drop m l.loop-left.out) (sym room-is)
+          ∙ ap (λ (xs : List ℕ). xs ++ drop (l.loop-left.left * 5) l.loop-left.out) (sym read) ∙ l.loop-left.invariant.5),
     )
 
-mul-result : tie.Need-overflow-mul-result invariant-loop decreases-loop
+mul-result : tie.Need-overflow_mul-result invariant-loop decreases-loop
 mul-result c = search rules
 
-same_length : tie.Need-same-length invariant-loop decreases-loop
-same_length c = c.before.loop.invariant.3
+same_length : tie.Need-shape_of-out invariant-loop decreases-loop
+same_length c = c.loop-left.invariant.3
 
 returns : tie.Need-returns invariant-loop decreases-loop
 returns c =
@@ -169,16 +169,16 @@ returns c =
     let ws = a.words.now in
     let cs = cliques_from ws a.first a.count in
     let full = down_words a.cone a.pattern 0 (base_of s) cs in
-    let z : l.loop.left ≡ 0 = omega (arith, c.loop-test.false) in
+    let z : l.loop-left.left ≡ 0 = omega (arith, c.loop-left-test.false) in
     let count : length full ≡ a.count * 5 =
     omega (arith, entries-length (entries_down a.cone a.pattern 0 (base_of s) cs), down-length a.cone a.pattern 0 (base_of s) cs, many-length read_clique a.count (drop a.first ws) s.pre.0.0) in (
       refl,
-      sym (ap (λ (n : ℕ). down_words a.cone a.pattern (a.count - n) (base_of s) (cliques_from ws l.loop.at n) ++ drop (n * 5) l.loop.out) z) ∙ l.loop.invariant.5
+      sym (ap (λ (n : ℕ). down_words a.cone a.pattern (a.count - n) (base_of s) (cliques_from ws l.loop-left.at n) ++ drop (n * 5) l.loop-left.out) z) ∙ l.loop-left.invariant.5
           ∙ ap (λ (n : ℕ). full ++ drop n a.out.now) (sym count),
     )
 
-pub entries-down_spec : {M : Type 1} → statement M
-entries-down_spec =
+pub entries_down_spec : {M : Type 1} → statement M
+entries_down_spec =
     tie.close
     (tie.spec
     invariant-loop

@@ -18,7 +18,7 @@ use Rattle.rows_tables.proofs.pattern_entries.Statement.{statement}
 use Rattle.rows_tables.proofs.pattern_entries.Tie as tie
 
 -- the cliques of the pattern are those read after its head
-module _ (k : tie.After-here) where
+module _ (k : tie.After-here-p) where
   abbrev start : tie.Start
   start = k.before.before.before
 
@@ -26,16 +26,16 @@ module _ (k : tie.After-here) where
   given = pattern_at start.args.words.now start.args.at
 
   abbrev here : List Clique
-  here = let q = k.here.result in cliques_from start.args.words.now q.cliques q.clique_count
+  here = let q = k.here-p.result in cliques_from start.args.words.now q.cliques q.clique_count
 
   pattern : given.cliques ≡ here
-  pattern = ap (λ (p : Pattern). p.cliques) (pattern_here start.args.words.now start.args.at _ start.pre.0.0 k.here.ensures.0 k.here.result refl)
+  pattern = ap (λ (p : Pattern). p.cliques) (pattern_here start.args.words.now start.args.at _ start.pre.0.0 k.here-p.ensures.0 k.here-p.result refl)
 
-  count : clique_count given ≡ k.here.result.clique_count
-  count = cliques-count start.args.words.now start.args.at _ start.pre.0.0 k.here.ensures.0 k.here.result refl
+  count : clique_count given ≡ k.here-p.result.clique_count
+  count = cliques-count start.args.words.now start.args.at _ start.pre.0.0 k.here-p.ensures.0 k.here-p.result refl
 
-  whole : let q = k.here.result in Whole start.args.words.now q.cliques q.clique_count
-  whole = cliques_here start.args.words.now start.args.at _ start.pre.0.0 k.here.ensures.0 k.here.result refl
+  whole : let q = k.here-p.result in Whole start.args.words.now q.cliques q.clique_count
+  whole = cliques_here start.args.words.now start.args.at _ start.pre.0.0 k.here-p.ensures.0 k.here-p.result refl
 
   small : all (block_at_most 256) here ≡ true
   small = sym (ap (all (block_at_most 256)) pattern) ∙ blocks-small given 256 start.pre.0.0 start.pre.0.1
@@ -45,29 +45,29 @@ module _ (k : tie.After-here) where
   rows = ap (λ (cs : List Clique). sum (map dim_of cs)) (sym pattern)
 
 -- the counted rows are those of the pattern's blocks
-counted : (d : tie.After-get-decomposed-dim-and-overlaps) → d.get-decomposed-dim-and-overlaps.result.dim ≡ block_rows (given d.before)
-counted d = d.get-decomposed-dim-and-overlaps.ensures.0
+counted : (d : tie.After-get_decomposed_dim_and_overlaps-blocks) → d.get_decomposed_dim_and_overlaps-blocks.result.dim ≡ block_rows (given d.before)
+counted d = d.get_decomposed_dim_and_overlaps-blocks.ensures.0
 
-here-requires : tie.Need-here-requires
+here-requires : tie.Need-here-p-requires
 here-requires c κs = let s = c.before.before in right-head s.args.words.now s.args.at s.requires.0.0.tree
 
-get-decomposed-dim-and-overlaps-requires : tie.Need-get-decomposed-dim-and-overlaps-requires
+get-decomposed-dim-and-overlaps-requires : tie.Need-get_decomposed_dim_and_overlaps-blocks-requires
 get-decomposed-dim-and-overlaps-requires c κs = let s = start c in (s.pre.0.0, s.pre.0.1)
 
-cast-entries-down : tie.Need-overflow-cast-entries-down
+cast-entries-down : tie.Need-overflow_cast-blocks
 cast-entries-down c = omega (arith, counted c.before, (start c.before.before).pre.0.2)
 
-add-entries-down : tie.Need-overflow-add-entries-down
+add-entries-down : tie.Need-overflow_add-first
 add-entries-down c = omega (arith, counted c.before, (start c.before.before).pre.0.2)
 
-entries-down-requires : tie.Need-entries-down-requires
+entries-down-requires : tie.Need-entries_down-requires
 entries-down-requires c κs =
     let d = c.before.before in
     let k = d.before in
     ((whole k, omega (arith, count k, (start k).requires.1)), (small k, omega (arith, rows k, counted d)))
 
-same_length : tie.Need-same-length
-same_length c = c.before.before.entries-down.auto.1.1.1.1.1.1.0
+same_length : tie.Need-shape_of-out
+same_length c = c.entries_down.auto.out
 
 returns : tie.Need-returns
 returns c =
@@ -75,10 +75,10 @@ returns c =
     let d = w.before.before.before in
     let k = d.before in
     let a = (start k).args in
-    let n = d.get-decomposed-dim-and-overlaps.result.dim in
+    let n = d.get_decomposed_dim_and_overlaps-blocks.result.dim in
     let base : a.first + n - sum (map dim_of (here k)) ≡ a.first = omega (arith, rows k, counted d) in (
-      w.entries-down.ensures.0 ∙ ap (λ (m : ℕ). m * 5) (sym (count k)),
-      w.entries-down.ensures.1
+      w.entries_down.ensures.0 ∙ ap (λ (m : ℕ). m * 5) (sym (count k)),
+      w.entries_down.ensures.1
           ∙ ap (λ (ws : List ℕ). written ws a.out.now)
           (ap₂ (λ (b : ℕ) (cs : List Clique). map_words (entries_down a.cone a.pattern 0 b cs)) base (sym (pattern k)) ∙ ap map_words (sym (entries-down (given k) a.cone 0 a.pattern a.first))),
     )

@@ -21,66 +21,66 @@ use Rattle.rows_tables.proofs.write_cut.Statement.{statement}
 use Rattle.rows_tables.proofs.write_cut.Tie as tie
 
 -- the words of the cone, table by table
-rows_h : (c : tie.After-enum-told)
-    → let a = c.before.before.before.before.args in
+rows_h : (c : tie.In-HRows)
+    → let a = c.args in
     let p = pattern_at a.words.now a.at in
     cut_codes a.table a.first a.place.cone a.place.row a.place.pattern p ≡ standard_pattern_rows p a.place.row
 rows_h c =
-    let a = c.before.before.before.before.args in
-    cut_h a.table a.first a.place.cone a.place.row a.place.pattern (pattern_at a.words.now a.at) c.enum_told.given.1
+    let a = c.args in
+    cut_h a.table a.first a.place.cone a.place.row a.place.pattern (pattern_at a.words.now a.at) c.enum_told-1.given.1
 
-rows_cut : (c : tie.After-enum-told2)
-    → let a = c.before.before.before.before.args in
+rows_cut : (c : tie.In-CutRows)
+    → let a = c.args in
     let p = pattern_at a.words.now a.at in
     cut_codes a.table a.first a.place.cone a.place.row a.place.pattern p ≡ map cut_code (pattern_rows p a.place.row a.first)
 rows_cut c =
-    let a = c.before.before.before.before.args in
-    cut-cut a.table a.first a.place.cone a.place.row a.place.pattern (pattern_at a.words.now a.at) c.enum-told2.given.1
+    let a = c.args in
+    cut-cut a.table a.first a.place.cone a.place.row a.place.pattern (pattern_at a.words.now a.at) c.enum_told-in-CutRows-1.given.1
 
-words_standard : (c : tie.After-enum-told3)
-    → let a = c.before.before.before.before.args in
+words_standard : (c : tie.In-StandardCones)
+    → let a = c.args in
     let p = pattern_at a.words.now a.at in
     cut_codes a.table a.first a.place.cone a.place.row a.place.pattern p ≡ standard_part (cut a.place.cone a.place.row a.place.pattern p)
 words_standard c =
-    let a = c.before.before.before.before.args in
-    cut_standard a.table a.first a.place.cone a.place.row a.place.pattern (pattern_at a.words.now a.at) c.enum-told3.given.1
+    let a = c.args in
+    cut_standard a.table a.first a.place.cone a.place.row a.place.pattern (pattern_at a.words.now a.at) c.enum_told-in-StandardCones-1.given.1
 
-words_compact : (c : tie.After-enum-told4)
-    → let a = c.before.before.before.before.args in
+words_compact : (c : tie.In-CompactCones)
+    → let a = c.args in
     let p = pattern_at a.words.now a.at in
     cut_codes a.table a.first a.place.cone a.place.row a.place.pattern p ≡ compact_part (cut a.place.cone a.place.row a.place.pattern p)
 words_compact c =
-    let a = c.before.before.before.before.args in
-    cut_compact a.table a.first a.place.cone a.place.row a.place.pattern (pattern_at a.words.now a.at) c.enum-told4.given.1
+    let a = c.args in
+    cut_compact a.table a.first a.place.cone a.place.row a.place.pattern (pattern_at a.words.now a.at) c.enum_told-in-CompactCones-1.given.1
 
-words-map : (c : tie.After-enum-told5)
-    → let a = c.before.before.before.before.args in
+words-map : (c : tie.In-ConeMap)
+    → let a = c.args in
     let p = pattern_at a.words.now a.at in
     cut_codes a.table a.first a.place.cone a.place.row a.place.pattern p ≡ map_words (map_part a.first (cut a.place.cone a.place.row a.place.pattern p))
 words-map c =
-    let a = c.before.before.before.before.args in
-    cut-map a.table a.first a.place.cone a.place.row a.place.pattern (pattern_at a.words.now a.at) c.enum-told5.given.1
+    let a = c.args in
+    cut-map a.table a.first a.place.cone a.place.row a.place.pattern (pattern_at a.words.now a.at) c.enum_told-in-ConeMap-1.given.1
 
-few : (c : tie.After-enum-told2)
-    → let a = c.before.before.before.before.args in
+few : (c : tie.In-CutRows)
+    → let a = c.args in
     a.first + block_rows (pattern_at a.words.now a.at) ≤ 262144
 few c =
     let s = c.before.before.before.before in
     let a = s.args in
-    subst (λ (x : Table). Few x (a.first + block_rows (pattern_at a.words.now a.at))) c.enum-told2.given.1 s.requires.1.0
+    subst (λ (x : Table). Few x (a.first + block_rows (pattern_at a.words.now a.at))) c.enum_told-in-CutRows-1.given.1 s.requires.1.0
 
-few-entries : (c : tie.After-enum-told5)
-    → let a = c.before.before.before.before.args in
+few-entries : (c : tie.In-ConeMap)
+    → let a = c.args in
     a.first + block_rows (pattern_at a.words.now a.at) ≤ 262144
 few-entries c =
     let s = c.before.before.before.before in
     let a = s.args in
-    subst (λ (x : Table). Few x (a.first + block_rows (pattern_at a.words.now a.at))) c.enum-told5.given.1 s.requires.1.0
+    subst (λ (x : Table). Few x (a.first + block_rows (pattern_at a.words.now a.at))) c.enum_told-in-ConeMap-1.given.1 s.requires.1.0
 
-enum_told : tie.Need-enum-told
-enum_told c = c.match.keys1
+enum_told : tie.Need-enum_told-1
+enum_told c = c.in-HRows.keys1
 
-standard-pattern-rows-requires : tie.Need-standard-pattern-rows-requires
+standard-pattern-rows-requires : tie.Need-standard_pattern_rows-requires
 standard-pattern-rows-requires c κs =
     let s = c.before.before.before.before.before in
     let a = s.args in
@@ -88,13 +88,13 @@ standard-pattern-rows-requires c κs =
     let ok = s.requires.0.0 in
     (ok, ((s.requires.0.1, s.requires.0.2), omega (arith, ap length (rows_h c.before), standard_rows-count p ok a.place.row, s.requires.1.1)))
 
-enum-told-2 : tie.Need-enum-told-2
-enum-told-2 c = c.match.keys2
+enum-told-2 : tie.Need-enum_told-in-CutRows
+enum-told-2 c = c.in-HRows.keys2
 
-cast-compact-pattern-rows : tie.Need-overflow-cast-compact-pattern-rows
+cast-compact-pattern-rows : tie.Need-overflow_cast-first
 cast-compact-pattern-rows c = omega (arith, few c)
 
-compact-pattern-rows-requires : tie.Need-compact-pattern-rows-requires
+compact-pattern-rows-requires : tie.Need-compact_pattern_rows-requires
 compact-pattern-rows-requires c κs =
     let s = c.before.before.before.before.before in
     let a = s.args in
@@ -102,10 +102,10 @@ compact-pattern-rows-requires c κs =
     let ok = s.requires.0.0 in
     (ok, ((s.requires.0.1, s.requires.0.2), (few c.before, omega (arith, ap length (rows_cut c.before), (length-map (pattern_rows p a.place.row a.first) cut_code ∙ rows-count p ok a.place.row a.first), s.requires.1.1))))
 
-enum-told-3 : tie.Need-enum-told-3
-enum-told-3 c = c.match.keys3
+enum-told-3 : tie.Need-enum_told-in-StandardCones
+enum-told-3 c = c.in-HRows.keys3
 
-pattern-cones-requires : tie.Need-pattern-cones-requires
+pattern-cones-requires : tie.Need-pattern_cones-requires
 pattern-cones-requires c κs =
     let s = c.before.before.before.before.before in
     let a = s.args in
@@ -113,10 +113,10 @@ pattern-cones-requires c κs =
     let ok = s.requires.0.0 in
     ((ok, s.requires.0.1), omega (arith, ap length (words_standard c.before), standard_words p a.place.cone a.place.row a.place.pattern, s.requires.1.1))
 
-enum-told-4 : tie.Need-enum-told-4
-enum-told-4 c = c.match.keys4
+enum-told-4 : tie.Need-enum_told-in-CompactCones
+enum-told-4 c = c.in-HRows.keys4
 
-pattern-cones-requires-2 : tie.Need-pattern-cones-requires-2
+pattern-cones-requires-2 : tie.Need-pattern_cones-requires-in-CompactCones
 pattern-cones-requires-2 c κs =
     let s = c.before.before.before.before.before in
     let a = s.args in
@@ -124,16 +124,16 @@ pattern-cones-requires-2 c κs =
     let ok = s.requires.0.0 in
     ((ok, s.requires.0.1), omega (arith, ap length (words_compact c.before), compact_words p a.place.cone a.place.row a.place.pattern, s.requires.1.1))
 
-enum-told-5 : tie.Need-enum-told-5
-enum-told-5 c = c.match.keys5
+enum-told-5 : tie.Need-enum_told-in-ConeMap
+enum-told-5 c = c.in-HRows.keys5
 
-cast-pattern-entries : tie.Need-overflow-cast-pattern-entries
-cast-pattern-entries c = omega (arith, c.before.before.before.before.before.requires.0.3)
+cast-pattern-entries : tie.Need-overflow_cast-place
+cast-pattern-entries c = omega (arith, c.requires.0.3)
 
-cast-pattern-entries-2 : tie.Need-overflow-cast-pattern-entries-2
+cast-pattern-entries-2 : tie.Need-overflow_cast-first-in-ConeMap
 cast-pattern-entries-2 c = omega (arith, few-entries c.before)
 
-pattern-entries-requires : tie.Need-pattern-entries-requires
+pattern-entries-requires : tie.Need-pattern_entries-requires
 pattern-entries-requires c κs =
     let n = c.before.before in
     let s = n.before.before.before.before in
@@ -141,62 +141,62 @@ pattern-entries-requires c κs =
     let p = pattern_at a.words.now a.at in
     ((s.requires.0.0, s.requires.0.1, few-entries n), omega (arith, ap length (words-map n), map-words p a.first a.place.cone a.place.row a.place.pattern, s.requires.1.1))
 
-same_length : tie.Need-same-length
-same_length c = c.before.before.standard-pattern-rows.auto.1.1.1.0
+same_length : tie.Need-shape_of-out-in-HRows
+same_length c = c.standard_pattern_rows.auto.out
 
-returns : tie.Need-returns
+returns : tie.Need-returns-in-HRows
 returns c =
-    let w = c.before.before.standard-pattern-rows in
+    let w = c.standard_pattern_rows in
     let s = c.before.before.before.before.before.before.before.before in
     let a = s.args in
     let p = pattern_at a.words.now a.at in
     let ok = s.requires.0.0 in
     renamed _ (standard_pattern_rows p a.place.row) (rows_h c.before.before.before.before) _ _ _ (w.ensures.0 ∙ sym (standard_rows-count p ok a.place.row)) w.ensures.1
 
-same-length-2 : tie.Need-same-length-2
-same-length-2 c = c.before.before.compact-pattern-rows.auto.1.1.1.1.0
+same-length-2 : tie.Need-shape_of-out-in-CutRows
+same-length-2 c = c.compact_pattern_rows.auto.out
 
-returns-2 : tie.Need-returns-2
+returns-2 : tie.Need-returns-in-CutRows
 returns-2 c =
-    let w = c.before.before.compact-pattern-rows in
+    let w = c.compact_pattern_rows in
     let s = c.before.before.before.before.before.before.before.before in
     let a = s.args in
     let p = pattern_at a.words.now a.at in
     let ok = s.requires.0.0 in
     renamed _ (map cut_code (pattern_rows p a.place.row a.first)) (rows_cut c.before.before.before.before) _ _ _ (w.ensures.0 ∙ sym ((length-map (pattern_rows p a.place.row a.first) cut_code ∙ rows-count p ok a.place.row a.first))) w.ensures.1
 
-same-length-3 : tie.Need-same-length-3
-same-length-3 c = c.before.before.pattern-cones.auto.1.1.1.0
+same-length-3 : tie.Need-shape_of-out-in-StandardCones
+same-length-3 c = c.pattern_cones.auto.out
 
-returns-3 : tie.Need-returns-3
+returns-3 : tie.Need-returns-in-StandardCones
 returns-3 c =
-    let w = c.before.before.pattern-cones in
+    let w = c.pattern_cones in
     let s = c.before.before.before.before.before.before.before.before in
     let a = s.args in
     let p = pattern_at a.words.now a.at in
     let ok = s.requires.0.0 in
     renamed _ (standard_part (cut a.place.cone a.place.row a.place.pattern p)) (words_standard c.before.before.before.before) _ _ _ (w.ensures.0 ∙ sym (standard_words p a.place.cone a.place.row a.place.pattern)) w.ensures.1
 
-same-length-4 : tie.Need-same-length-4
-same-length-4 c = c.before.before.pattern-cones2.auto.1.1.1.0
+same-length-4 : tie.Need-shape_of-out-in-CompactCones
+same-length-4 c = c.pattern_cones-in-CompactCones.auto.out
 
-returns-4 : tie.Need-returns-4
+returns-4 : tie.Need-returns-in-CompactCones
 returns-4 c =
-    let w = c.before.before.pattern-cones2 in
+    let w = c.pattern_cones-in-CompactCones in
     let s = c.before.before.before.before.before.before.before.before in
     let a = s.args in
     let p = pattern_at a.words.now a.at in
     let ok = s.requires.0.0 in
     renamed _ (compact_part (cut a.place.cone a.place.row a.place.pattern p)) (words_compact c.before.before.before.before) _ _ _ (w.ensures.0 ∙ sym (compact_words p a.place.cone a.place.row a.place.pattern)) w.ensures.1
 
-same-length-5 : tie.Need-same-length-5
-same-length-5 c = c.before.before.pattern-entries.auto.1.1.1.1.1.0
+same-length-5 : tie.Need-shape_of-out-in-ConeMap
+same-length-5 c = c.pattern_entries.auto.out
 
-returns-5 : tie.Need-returns-5
+returns-5 : tie.Need-returns-in-ConeMap
 returns-5 c =
-    let w = c.before.before.pattern-entries in
+    let w = c.pattern_entries in
     let n = c.before.before.before.before.before in
-    let a = n.before.before.before.before.args in
+    let a = n.args in
     let p = pattern_at a.words.now a.at in
     renamed _ (map_words (map_part a.first (cut a.place.cone a.place.row a.place.pattern p))) (words-map n) _ _ _
     (w.ensures.0 ∙ sym (map-words p a.first a.place.cone a.place.row a.place.pattern))

@@ -13,45 +13,45 @@ use Rattle.scalarmath.proofs.pair_back.Statement.{statement}
 use Rattle.scalarmath.proofs.pair_back.Tie as tie
 
 -- what holds after the checks, stated before the call: the definitions in the call's result are too large for `omega` to read
-within : (e : tie.Else2) → e.before.before.before.args.index ≤ 32895
+within : (e : tie.Else-out-lt2) → e.args.index ≤ 32895
 within e = omega arith
 
-room : (e : tie.Else2) → 2 ≤ length e.before.before.before.args.out.now
+room : (e : tie.Else-out-lt2) → 2 ≤ length e.args.out.now
 room e = omega arith
 
-returns : tie.Need-returns
-returns c = record { number = simp (lt-leb c.before.before.args.index 32895 (omega arith)); out = refl }
+returns : tie.Need-returns-then-index-gt-PLACE
+returns c = record { number = simp (lt-leb c.args.index 32895 (omega arith)); out = refl }
 
-returns-2 : tie.Need-returns-2
+returns-2 : tie.Need-returns-then-out-lt2
 returns-2 c =
     let s = c.before.before.before in
     record { number = simp (le-leb s.args.index 32895 (omega arith), lt-leb 2 (length s.args.out.now) (omega arith)); out = refl }
 
-upper-triangular-index-to-coord-requires : tie.Need-upper-triangular-index-to-coord-requires
+upper-triangular-index-to-coord-requires : tie.Need-upper_triangular_index_to_coord-at-requires
 upper-triangular-index-to-coord-requires c κs = within c
 
-slice-write-out : tie.Need-slice-write-out
+slice-write-out : tie.Need-bounds-out-0
 slice-write-out c = le_trans (lit≤ tt) (room c.before)
 
-slice-write-out-2 : tie.Need-slice-write-out-2
+slice-write-out-2 : tie.Need-bounds-out-1
 slice-write-out-2 c =
-    let out = c.before.before.before.before.args.out.now in
-    rw (length-set out 0 c.upper-triangular-index-to-coord.result.row) (room c.before)
+    let out = c.args.out.now in
+    rw (length-set out 0 c.upper_triangular_index_to_coord-at.result.row) (room c.before)
 
-same_length : tie.Need-same-length
+same_length : tie.Need-shape_of-out
 same_length c =
-    let out = c.before.before.before.before.args.out.now in
-    let at = c.upper-triangular-index-to-coord.result in
+    let out = c.args.out.now in
+    let at = c.upper_triangular_index_to_coord-at.result in
     length-set (set out 0 at.row) 1 at.col ∙ length-set out 0 at.row
 
-returns-3 : tie.Need-returns-3
+returns-3 : tie.Need-returns
 returns-3 c =
     let e = c.before in
     let s = e.before.before.before in
     let out = s.args.out.now in
     let row = index_row s.args.index in
     let column = index_column s.args.index in
-    let at = c.upper-triangular-index-to-coord.ensures in
+    let at = c.upper_triangular_index_to_coord-at.ensures in
     let stored : set (set out 0 row) 1 column ≡ written (row ∷ column ∷ []) out =
     ap (λ (l : List ℕ). set l 1 column) (set-written [] out row 0 refl (le_trans (lit≤ tt) (room e)))
     ∙ set-written (row ∷ []) out column 1 refl (room e) in record {
@@ -59,8 +59,8 @@ returns-3 c =
       out = ap₂ (λ (a b : ℕ). set (set out 0 a) 1 b) at.0 at.1 ∙ stored;
     }
 
-pub pair-back_spec : {M : Type 1} → statement M
-pair-back_spec =
+pub pair_back_spec : {M : Type 1} → statement M
+pair_back_spec =
     tie.close
     (tie.spec
     returns

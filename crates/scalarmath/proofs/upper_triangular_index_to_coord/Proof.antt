@@ -7,35 +7,35 @@ use Rattle.scalarmath.proofs.upper_triangular_index_to_coord.Statement.{statemen
 use Rattle.scalarmath.proofs.upper_triangular_index_to_coord.Tie as tie
 
 -- the column computed from the root is the column of the index
-found : (c : tie.After-isqrt) → AtColumn c.before.args.index (root_column c.isqrt.result)
-found c = root-column c.before.args.index c.isqrt.result c.before.requires c.isqrt.ensures.0 c.isqrt.ensures.1
+found : (c : tie.After-isqrt) → AtColumn c.args.index (root_column c.isqrt.result)
+found c = root-column c.args.index c.isqrt.result c.requires c.isqrt.ensures.0 c.isqrt.ensures.1
 
 positive : (c : tie.After-isqrt) → 0 < c.isqrt.result
-positive c = reaches_positive (8 * c.before.args.index + 1) c.isqrt.result (omega arith) c.isqrt.ensures.1
+positive c = reaches_positive (8 * c.args.index + 1) c.isqrt.result (omega arith) c.isqrt.ensures.1
 
-mul-isqrt : tie.Need-overflow-mul-isqrt
+mul-isqrt : tie.Need-overflow_mul-index
 mul-isqrt c = omega arith
 
-add-isqrt : tie.Need-overflow-add-isqrt
+add-isqrt : tie.Need-overflow_add-index
 add-isqrt c = omega arith
 
 isqrt-requires : tie.Need-isqrt-requires
 isqrt-requires c κs = search rules
 
-add-col : tie.Need-overflow-add-col
+add-col : tie.Need-overflow_add-col
 add-col c = omega (arith, (found c).small)
 
-sub-col : tie.Need-overflow-sub-col
+sub-col : tie.Need-overflow_sub-col
 sub-col c = omega (arith, positive c)
 
-triangular-number-requires : tie.Need-triangular-number-requires
+triangular-number-requires : tie.Need-triangular_number-requires
 triangular-number-requires c κs = omega (arith, (found c).small)
 
-sub-t7 : tie.Need-overflow-sub-t7
-sub-t7 c = omega (arith, c.triangular-number.ensures, (found c.before).starts)
+sub-t7 : tie.Need-overflow_sub-result
+sub-t7 c = omega (arith, c.triangular_number.ensures, (found c.before).starts)
 
 returns : tie.Need-returns
-returns c = (rw c.triangular-number.ensures (found c.before).row, (found c.before).column)
+returns c = (rw c.triangular_number.ensures (found c.before).row, (found c.before).column)
 
 pub upper_triangular_index_to_coord_spec : {M : Type 1} → statement M
 upper_triangular_index_to_coord_spec =

@@ -30,7 +30,7 @@ abbrev with_this : tie.Start → List Float → Problem
 with_this s b =
     let a = s.args in
     problem a.n a.m a.p_starts.now a.p_rows.now a.p_values.now a.q.now a.a_starts.now a.a_rows.now
-    a.a_values.now b a.cones.now a.alphas.now a.pattern-count a.words.now
+    a.a_values.now b a.cones.now a.alphas.now a.pattern_count a.words.now
 
 abbrev given : tie.Start → Problem
 given s = with_this s s.args.sides.now
@@ -39,28 +39,28 @@ given s = with_this s s.args.sides.now
 abbrev single : tie.Start → Problem
 single s = with_side (given s) s.args.sides.now 0
 
-abbrev start : tie.After-count-problem → tie.Start
+abbrev start : tie.After-count_problem-d → tie.Start
 start c = c.before.before.before.before.before.before.before.before.before.before.before.before.before.before
 
-first-number : (c : tie.After-count-problem) → c.count-problem.result.refusal ≡ problem_refusal (single (start c))
-first-number c = let s = start c in c.count-problem.ensures.0 ∙ ap (λ (b : List Float). problem_refusal (with_this s b)) s.pre.2
+first-number : (c : tie.After-count_problem-d) → c.count_problem-d.result.refusal ≡ problem_refusal (single (start c))
+first-number c = let s = start c in c.count_problem-d.ensures.0 ∙ ap (λ (b : List Float). problem_refusal (with_this s b)) s.pre.2
 
 -- the number of checks 1 to 7
-ordered : (c : tie.After-refuse-lengths)
+ordered : (c : tie.After-refuse_lengths-t)
     → let s = start c.before in
-    c.refuse-lengths.result ≡ sides_order (problem_refusal (single s)) s.args.m s.args.count (length s.args.sides.now)
+    c.refuse_lengths-t.result ≡ sides_order (problem_refusal (single s)) s.args.m s.args.count (length s.args.sides.now)
 ordered c =
     let a = (start c.before).args in
-    c.refuse-lengths.ensures
+    c.refuse_lengths-t.ensures
     ∙ ap (λ (r : ℕ). sides_order r a.m a.count (length a.sides.now)) (first-number c.before)
 
 -- checks 1 to 7 have passed
-passed : (c : tie.Else1)
+passed : (c : tie.Else-t-ne0)
     → let s = start c.before.before in
     sides_order (problem_refusal (single s)) s.args.m s.args.count (length s.args.sides.now) ≡ 0
-passed c = sym (ordered c.before) ∙ c.if1.false
+passed c = sym (ordered c.before) ∙ c.if-t-ne0.false
 
-both : (c : tie.Else1)
+both : (c : tie.Else-t-ne0)
     → let s = start c.before.before in
     (problem_refusal (single s) ≡ 0) × (length s.args.sides.now ≡ s.args.count * s.args.m)
 both c =
@@ -68,16 +68,16 @@ both c =
     let a = s.args in
     sides_passed (problem_refusal (single s)) a.m a.count (length a.sides.now) (passed c)
 
-checked : (c : tie.Else1) → Checked (single (start c.before.before))
+checked : (c : tie.Else-t-ne0) → Checked (single (start c.before.before))
 checked c = problem_checked (single (start c.before.before)) (both c).0
 
-counts : (c : tie.Else1) → Counts (layout (single (start c.before.before))) c.before.before.count-problem.result
-counts c = c.before.before.count-problem.ensures.1 (first-number c.before.before ∙ (both c).0)
+counts : (c : tie.Else-t-ne0) → Counts (layout (single (start c.before.before))) c.count_problem-d.result
+counts c = c.count_problem-d.ensures.1 (first-number c.before.before ∙ (both c).0)
 
 -- the number of checks 9 and 10 on the first side
-answered : (f : tie.After-refuse-first)
+answered : (f : tie.After-refuse_first-u)
     → let s = start f.before.before.before.before.before in
-    f.refuse-first.result ≡ first_failing (route_checks compact (single s))
+    f.refuse_first-u.result ≡ first_failing (route_checks compact (single s))
 answered f =
     let r = f.before in
     let v = r.before in
@@ -85,114 +85,114 @@ answered f =
     let s = start e.before.before in
     let a = s.args in
     let p = single s in
-    let d = e.before.before.count-problem.result in
+    let d = e.count_problem-d.result in
     let g = counts e in
-    f.refuse-first.ensures
+    f.refuse_first-u.ensures
     ∙ ap₂ or_else
-    (ap (λ (t : Bool). cond t 0 9) (v.sides-right.ensures.0 ∙ ap (λ (b : List Float). entries_right a.m a.a_rows.now b (layout p)) s.pre.2))
-    (r.rows-refusal.ensures ∙ counted_rows compact a.m (layout p) d.rows d.overlaps (g.0, g.1))
+    (ap (λ (t : Bool). cond t 0 9) (v.sides_right-c.ensures.0 ∙ ap (λ (b : List Float). entries_right a.m a.a_rows.now b (layout p)) s.pre.2))
+    (r.rows_refusal-rows_refused.ensures ∙ counted_rows compact a.m (layout p) d.rows d.overlaps (g.0, g.1))
     ∙ nine_ten (check9 compact p) (check10 compact a.m (layout p))
 
 -- the first side is accepted
-ok : (c : tie.Else2) → refusal compact (single (start c.before.before.before.before.before.before)) ≡ 0
+ok : (c : tie.Else-u-ne0) → refusal compact (single (start c.before.before.before.before.before.before)) ≡ 0
 ok c =
     let e = c.before.before.before.before in
     let s = start e.before.before in
-    accepted-first (given s) s.args.count s.args.sides.now s.pre.0 s.pre.1 (passed e) c.before.refuse-first.result (answered c.before) c.if2.false
+    accepted-first (given s) s.args.count s.args.sides.now s.pre.0 s.pre.1 (passed e) c.refuse_first-u.result (answered c.before) c.if-u-ne0.false
 
-fit : (k : tie.Else2)
+fit : (k : tie.Else-u-ne0)
     → let s = start k.before.before.before.before.before.before in
-    let d = k.before.before.before.before.before.before.count-problem.result in
+    let d = k.count_problem-d.result in
     Fitting compact s.args.n s.args.m (entries_kept compact s.args.n s.args.a_starts.now s.args.a_rows.now) d.rows d.overlaps d.cones
 fit k =
     let e = k.before.before.before.before in
-    let d = e.before.before.count-problem.result in
+    let d = e.count_problem-d.result in
     let g = counts e in
     counts_fit compact (single (start e.before.before)) (ok k) d.rows d.overlaps d.cones g.0 g.1 g.2
 
 -- the required lengths of the outputs of the cut with the first side
-needed : (c : tie.After-cut-needs)
+needed : (c : tie.After-cut_needs)
     → let s = start c.before.before.before.before.before.before.before.before in
-    c.cut-needs.new.1.1.1.1.1.1.1.1.1.0 ≡ sizes compact (single s)
+    c.cut_needs.new.out ≡ sizes compact (single s)
 needed c =
     let k = c.before.before in
     let e = k.before.before.before.before in
-    let d = e.before.before.count-problem.result in
+    let d = e.count_problem-d.result in
     let g = counts e in
-    sizes-written compact (single (start e.before.before)) (ok k) d.rows d.overlaps d.cones g.0 g.1 g.2 (replicate 11 0) c.cut-needs.ensures
+    sizes-written compact (single (start e.before.before)) (ok k) d.rows d.overlaps d.cones g.0 g.1 g.2 (replicate 11 0) c.cut_needs.ensures
 
-count-problem-requires : tie.Need-count-problem-requires
+count-problem-requires : tie.Need-count_problem-d-requires
 count-problem-requires c κs = tt
 
-refuse-lengths-requires : tie.Need-refuse-lengths-requires
+refuse-lengths-requires : tie.Need-refuse_lengths-t-requires
 refuse-lengths-requires c κs = (start c).requires.1
 
-refused-as-requires : tie.Need-refused-as-requires
+refused-as-requires : tie.Need-refused_as-requires
 refused-as-requires c κs = tt
 
-returns : tie.Need-returns
+returns : tie.Need-returns-then-t-ne0
 returns c =
     let k = c.before.before in
     let s = start k.before in
     let a = s.args in (
       c.IsRefused-as.ensures
-          ∙ stopped_early (given s) a.count a.sides.now s.pre.0 s.pre.1 a.rooms.now k.refuse-lengths.result (ordered k) c.before.if1.true,
-      λ z. absurd (c.before.if1.true (sym c.IsRefused-as.ensures ∙ z)),
+          ∙ stopped_early (given s) a.count a.sides.now s.pre.0 s.pre.1 a.rooms.now k.refuse_lengths-t.result (ordered k) c.if-t-ne0.true,
+      λ z. absurd (c.if-t-ne0.true (sym c.IsRefused-as.ensures ∙ z)),
     )
 
-sides-right-requires : tie.Need-sides-right-requires
+sides-right-requires : tie.Need-sides_right-c-requires
 sides-right-requires c κs =
     let s = start c.before.before in
     let p = single s in
     let w = checked c in
     (w.sound, (rows-below p w, ap length s.pre.2 ∙ w.length_b, omega (arith, (both c).1)))
 
-rows-refusal-requires : tie.Need-rows-refusal-requires
+rows-refusal-requires : tie.Need-rows_refusal-rows_refused-requires
 rows-refusal-requires c κs = tt
 
-refuse-first-requires : tie.Need-refuse-first-requires
+refuse-first-requires : tie.Need-refuse_first-u-requires
 refuse-first-requires c κs = tt
 
-refused-as-requires-2 : tie.Need-refused-as-requires-2
+refused-as-requires-2 : tie.Need-refused_as-requires-then-u-ne0
 refused-as-requires-2 c κs = tt
 
-returns-2 : tie.Need-returns-2
+returns-2 : tie.Need-returns-then-u-ne0
 returns-2 c =
     let f = c.before.before in
     let e = f.before.before.before in
     let s = start e.before.before in
     let a = s.args in (
-      c.refused-as2.ensures
-          ∙ stopped_late (given s) a.count a.sides.now s.pre.0 s.pre.1 (passed e) a.rooms.now f.refuse-first.result (answered f) c.before.if2.true,
-      λ z. absurd (c.before.if2.true (sym c.refused-as2.ensures ∙ z)),
+      c.refused_as-then-u-ne0.ensures
+          ∙ stopped_late (given s) a.count a.sides.now s.pre.0 s.pre.1 (passed e) a.rooms.now f.refuse_first-u.result (answered f) c.if-u-ne0.true,
+      λ z. absurd (c.if-u-ne0.true (sym c.refused_as-then-u-ne0.ensures ∙ z)),
     )
 
-slice-aggregate-cut-needs : tie.Need-slice-aggregate-cut-needs
+slice-aggregate-cut-needs : tie.Need-slice_bounds-cut_needs-end
 slice-aggregate-cut-needs c = search rules
 
-cut-needs-requires : tie.Need-cut-needs-requires
+cut-needs-requires : tie.Need-cut_needs-requires
 cut-needs-requires c κs =
     let k = c.before in
     let e = k.before.before.before.before in
     (lit≤ tt, (tables-few (single (start e.before.before)) (checked e), fit k))
 
-slice-aggregate-check-sides-rooms : tie.Need-slice-aggregate-check-sides-rooms
+slice-aggregate-check-sides-rooms : tie.Need-slice_bounds-check_sides_rooms-end
 slice-aggregate-check-sides-rooms c = search rules
 
-check-sides-rooms-requires : tie.Need-check-sides-rooms-requires
+check-sides-rooms-requires : tie.Need-check_sides_rooms-room-requires
 check-sides-rooms-requires c κs =
     let n = c.before.before in
     let k = n.before.before in
     let s = start k.before.before.before.before.before.before in
-    let d = k.before.before.before.before.before.before.count-problem.result in (
+    let d = k.count_problem-d.result in (
       subst (λ (ks : List ℕ). 8 ≤ length ks) (sym (needed n)) (lit≤ tt),
-      subst (λ (rows : ℕ). s.args.count * rows < 4294967296) (sym (ap (λ (ks : List ℕ). get_or ks 7 0) n.cut-needs.ensures)) (sides_few s.args.m s.args.count d.rows d.overlaps s.pre.1 (fit k).2),
+      subst (λ (rows : ℕ). s.args.count * rows < 4294967296) (sym (ap (λ (ks : List ℕ). get_or ks 7 0) n.cut_needs.ensures)) (sides_few s.args.m s.args.count d.rows d.overlaps s.pre.1 (fit k).2),
     )
 
-refuse-further-requires : tie.Need-refuse-further-requires
+refuse-further-requires : tie.Need-refuse_further-further-requires
 refuse-further-requires c κs = tt
 
-returns-3 : tie.Need-returns-3
+returns-3 : tie.Need-returns
 returns-3 c =
     let r = c.before.before in
     let n = r.before.before.before in
@@ -201,11 +201,11 @@ returns-3 c =
     let e = v.before in
     let s = start e.before.before in
     let a = s.args in (
-      c.refuse-further.ensures
+      c.refuse_further-further.ensures
           ∙ ap₂ or_else
-          (ap (λ (t : Bool). cond t 0 9) (v.sides-right.ensures.1 ∙ further_covers (given s) a.count a.sides.now))
-          r.check-sides-rooms.ensures
-          ∙ by-others (given s) a.count a.sides.now s.pre.0 s.pre.1 (passed e) k.before.refuse-first.result (answered k.before) k.if2.false n.cut-needs.new.1.1.1.1.1.1.1.1.1.0 a.rooms.now (needed n),
+          (ap (λ (t : Bool). cond t 0 9) (v.sides_right-c.ensures.1 ∙ further_covers (given s) a.count a.sides.now))
+          r.check_sides_rooms-room.ensures
+          ∙ by-others (given s) a.count a.sides.now s.pre.0 s.pre.1 (passed e) k.refuse_first-u.result (answered k.before) k.if-u-ne0.false n.cut_needs.new.out a.rooms.now (needed n),
       λ _. ((counts e).0, (counts e).1),
     )
 

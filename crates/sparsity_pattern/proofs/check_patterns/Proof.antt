@@ -25,34 +25,34 @@ tests s =
     let ps = patterns s.args.count ws in
     four_tests (ends_right (read_patterns s.args.count ws)) (origins_rise_from s.args.least ps) (all (names_its_cone (records s.args.cones.now)) ps) (orderings_right ps) _ refl
 
-ends : (c : tie.Else1) → let s = c.before.before.before.before in ends_right (read_patterns s.args.count s.args.words.now) ≡ true
-ends c = sym c.before.patterns-end.ensures ∙ not-false _ c.if1.false
+ends : (c : tie.Else-not-patterns_end) → let s = c.before.before.before.before in ends_right (read_patterns s.args.count s.args.words.now) ≡ true
+ends c = sym c.patterns_end.ensures ∙ not-false _ c.if-not-patterns_end.false-raw
 
-patterns-end-requires : tie.Need-patterns-end-requires
+patterns-end-requires : tie.Need-patterns_end-requires
 patterns-end-requires c κs = search rules
 
-returns : tie.Need-returns
-returns c = sym ((tests c.before.before.before.before).0 (sym c.before.patterns-end.ensures ∙ not-true _ c.if1.true))
+returns : tie.Need-returns-then-not-patterns_end
+returns c = sym ((tests c.before.before.before.before).0 (sym c.patterns_end.ensures ∙ not-true _ c.if-not-patterns_end.true-raw))
 
-origins-rise-requires : tie.Need-origins-rise-requires
+origins-rise-requires : tie.Need-origins_rise-requires
 origins-rise-requires c κs = ends c
 
-returns-2 : tie.Need-returns-2
-returns-2 c = let e = c.before.before in sym ((tests e.before.before.before.before).1 (ends e) (sym c.before.origins-rise.ensures ∙ not-true _ c.if2.true))
+returns-2 : tie.Need-returns-then-not-origins_rise
+returns-2 c = let e = c.before.before in sym ((tests e.before.before.before.before).1 (ends e) (sym c.origins_rise.ensures ∙ not-true _ c.if-not-origins_rise.true-raw))
 
-patterns-right-requires : tie.Need-patterns-right-requires
+patterns-right-requires : tie.Need-patterns_right-requires
 patterns-right-requires c κs = ends c.before.before
 
-returns-3 : tie.Need-returns-3
+returns-3 : tie.Need-returns
 returns-3 c =
     let o = c.before in
     let e = o.before.before in
     let s = e.before.before.before.before in
-    c.patterns-right.ensures ∙ all_both (names_its_cone (records s.args.cones.now)) (λ p. is_permutation p.ordering) (patterns s.args.count s.args.words.now)
-    ∙ sym ((tests s).2 (ends e) (sym o.before.origins-rise.ensures ∙ not-false _ o.if2.false))
+    c.patterns_right.ensures ∙ all_both (names_its_cone (records s.args.cones.now)) (λ p. is_permutation p.ordering) (patterns s.args.count s.args.words.now)
+    ∙ sym ((tests s).2 (ends e) (sym o.origins_rise.ensures ∙ not-false _ o.if-not-origins_rise.false-raw))
 
-pub check-patterns_spec : {M : Type 1} → statement M
-check-patterns_spec =
+pub check_patterns_spec : {M : Type 1} → statement M
+check_patterns_spec =
     tie.close
     (tie.spec
     patterns-end-requires

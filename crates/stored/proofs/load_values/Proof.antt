@@ -6,99 +6,99 @@ use borrow.Author.Rules.{rules}
 use Rattle.stored.proofs.load_values.Statement.{statement}
 use Rattle.stored.proofs.load_values.Tie as tie
 
-abbrev invariant-loop2 : tie.invariant-loop2
+abbrev invariant-loop2 : tie.invariant-loop-at
 invariant-loop2 fd words values₀ lists at₀ k end values at = (at ≤ 65536) × (length values ≡ length values₀)
 
-abbrev decreases-loop2 : tie.decreases-loop2
+abbrev decreases-loop2 : tie.decreases-loop-at
 decreases-loop2 fd words values₀ lists at₀ k end values at = end - at
 
-abbrev invariant-loop : tie.invariant-loop
+abbrev invariant-loop : tie.invariant-loop-k
 invariant-loop fd words₀ values₀ lists at₀ k₀ words values at k =
     (k ≤ 16 + lists) × (at ≤ 65536) × (length words ≡ length words₀) × (length values ≡ length values₀)
 
-abbrev decreases-loop : tie.decreases-loop
+abbrev decreases-loop : tie.decreases-loop-k
 decreases-loop fd words₀ values₀ lists at₀ k₀ words values at k = 16 + lists - k
 
-long : (l : tie.At-loop invariant-loop2 decreases-loop2 invariant-loop decreases-loop) → length l.loop.words ≡ length l.before.before.before.before.args.words.now
-long l = l.loop.invariant.2 ∙ length-set {A = ℕ} l.before.before.before.before.args.words.now 16 0
+long : (l : tie.At-loop-k invariant-loop2 decreases-loop2 invariant-loop decreases-loop) → length l.loop-k.words ≡ length l.args.words.now
+long l = l.loop-k.invariant.2 ∙ length-set {A = ℕ} l.args.words.now 16 0
 
 word-requires : tie.Need-word-requires invariant-loop2 decreases-loop2 invariant-loop decreases-loop
 word-requires c κs = search rules
 
-cast-lists : tie.Need-overflow-cast-lists invariant-loop2 decreases-loop2 invariant-loop decreases-loop
+cast-lists : tie.Need-overflow_cast-lists invariant-loop2 decreases-loop2 invariant-loop decreases-loop
 cast-lists c = search rules
 
-slice-write-words : tie.Need-slice-write-words invariant-loop2 decreases-loop2 invariant-loop decreases-loop
+slice-write-words : tie.Need-bounds-words-16 invariant-loop2 decreases-loop2 invariant-loop decreases-loop
 slice-write-words c = search rules
 
-loop-holds : tie.Need-loop-init invariant-loop2 decreases-loop2 invariant-loop decreases-loop
+loop-holds : tie.Need-loop-k-init invariant-loop2 decreases-loop2 invariant-loop decreases-loop
 loop-holds c = search rules
 
-add-loop : tie.Need-overflow-add-loop invariant-loop2 decreases-loop2 invariant-loop decreases-loop
+add-loop : tie.Need-overflow_add-lists invariant-loop2 decreases-loop2 invariant-loop decreases-loop
 add-loop c = search rules
 
-word-requires-2 : tie.Need-word-requires-2 invariant-loop2 decreases-loop2 invariant-loop decreases-loop
+word-requires-2 : tie.Need-word-requires-in-loop-k invariant-loop2 decreases-loop2 invariant-loop decreases-loop
 word-requires-2 c κs = search rules
 
-cast-least : tie.Need-overflow-cast-least invariant-loop2 decreases-loop2 invariant-loop decreases-loop
+cast-least : tie.Need-overflow_cast-word invariant-loop2 decreases-loop2 invariant-loop decreases-loop
 cast-least c = search rules
 
-add-least : tie.Need-overflow-add-least invariant-loop2 decreases-loop2 invariant-loop decreases-loop
+add-least : tie.Need-overflow_add-at invariant-loop2 decreases-loop2 invariant-loop decreases-loop
 add-least c = search rules
 
-least-requires : tie.Need-least-requires invariant-loop2 decreases-loop2 invariant-loop decreases-loop
+least-requires : tie.Need-least-end-requires invariant-loop2 decreases-loop2 invariant-loop decreases-loop
 least-requires c κs = search rules
 
-loop2-holds : tie.Need-loop2-init invariant-loop2 decreases-loop2 invariant-loop decreases-loop
+loop2-holds : tie.Need-loop-at-init invariant-loop2 decreases-loop2 invariant-loop decreases-loop
 loop2-holds c = search rules
 
 value-requires : tie.Need-value-requires invariant-loop2 decreases-loop2 invariant-loop decreases-loop
 value-requires c κs = search rules
 
-mul-values : tie.Need-overflow-mul-values invariant-loop2 decreases-loop2 invariant-loop decreases-loop
+mul-values : tie.Need-offset_bounds-values-at invariant-loop2 decreases-loop2 invariant-loop decreases-loop
 mul-values c = search rules
 
-slice-write-values : tie.Need-slice-write-values invariant-loop2 decreases-loop2 invariant-loop decreases-loop
+slice-write-values : tie.Need-bounds-values-at invariant-loop2 decreases-loop2 invariant-loop decreases-loop
 slice-write-values c = search rules
 
-add_at : tie.Need-overflow-add-at invariant-loop2 decreases-loop2 invariant-loop decreases-loop
+add_at : tie.Need-overflow_add-at-in-loop-at invariant-loop2 decreases-loop2 invariant-loop decreases-loop
 add_at c = search rules
 
-loop2-less : tie.Need-loop2-smaller invariant-loop2 decreases-loop2 invariant-loop decreases-loop
+loop2-less : tie.Need-loop-at-smaller invariant-loop2 decreases-loop2 invariant-loop decreases-loop
 loop2-less c = search rules
 
-loop2-again : tie.Need-loop2-preserved invariant-loop2 decreases-loop2 invariant-loop decreases-loop
+loop2-again : tie.Need-loop-at-preserved invariant-loop2 decreases-loop2 invariant-loop decreases-loop
 loop2-again c = search rules
 
-add-k : tie.Need-overflow-add-k invariant-loop2 decreases-loop2 invariant-loop decreases-loop
+add-k : tie.Need-overflow_add-k invariant-loop2 decreases-loop2 invariant-loop decreases-loop
 add-k c = search rules
 
-cast-words : tie.Need-overflow-cast-words invariant-loop2 decreases-loop2 invariant-loop decreases-loop
+cast-words : tie.Need-overflow_cast-words invariant-loop2 decreases-loop2 invariant-loop decreases-loop
 cast-words c = search rules
 
-mul_words : tie.Need-overflow-mul-words invariant-loop2 decreases-loop2 invariant-loop decreases-loop
+mul_words : tie.Need-offset_bounds-words-k invariant-loop2 decreases-loop2 invariant-loop decreases-loop
 mul_words c = search rules
 
-slice-write-words-2 : tie.Need-slice-write-words-2 invariant-loop2 decreases-loop2 invariant-loop decreases-loop
+slice-write-words-2 : tie.Need-bounds-words-k invariant-loop2 decreases-loop2 invariant-loop decreases-loop
 slice-write-words-2 c = omega (arith, long c.before.before.before.before.before)
 
-loop-less : tie.Need-loop-smaller invariant-loop2 decreases-loop2 invariant-loop decreases-loop
+loop-less : tie.Need-loop-k-smaller invariant-loop2 decreases-loop2 invariant-loop decreases-loop
 loop-less c = search rules
 
-loop-again : tie.Need-loop-preserved invariant-loop2 decreases-loop2 invariant-loop decreases-loop
+loop-again : tie.Need-loop-k-preserved invariant-loop2 decreases-loop2 invariant-loop decreases-loop
 loop-again c = search rules
 
-same_length : tie.Need-same-length invariant-loop2 decreases-loop2 invariant-loop decreases-loop
+same_length : tie.Need-shape_of-words invariant-loop2 decreases-loop2 invariant-loop decreases-loop
 same_length c = long c.before
 
-same-length-2 : tie.Need-same-length-2 invariant-loop2 decreases-loop2 invariant-loop decreases-loop
+same-length-2 : tie.Need-shape_of-values invariant-loop2 decreases-loop2 invariant-loop decreases-loop
 same-length-2 c = search rules
 
 returns : tie.Need-returns invariant-loop2 decreases-loop2 invariant-loop decreases-loop
-returns c = (long c.before, c.before.loop.invariant.3)
+returns c = (long c.before, c.loop-k.invariant.3)
 
-pub load-values_spec : {M : Type 1} → statement M
-load-values_spec =
+pub load_values_spec : {M : Type 1} → statement M
+load_values_spec =
     tie.close
     (tie.spec
     invariant-loop2

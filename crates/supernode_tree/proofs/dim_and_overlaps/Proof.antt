@@ -16,109 +16,109 @@ use native.Mathlib.Omega.{arith}
 use Rattle.supernode_tree.proofs.dim_and_overlaps.Statement.{statement}
 use Rattle.supernode_tree.proofs.dim_and_overlaps.Tie as tie
 
-abbrev invariant-loop : tie.invariant-loop
+abbrev invariant-loop : tie.invariant-loop-left
 invariant-loop words first count dim₀ overlaps₀ at₀ left₀ dim overlaps at left =
     Whole words at left × (all (block_at_most 256) (cliques_from words at left) ≡ true)
     × (dim + sum (map dim_of (cliques_from words at left)) ≡ sum (map dim_of (cliques_from words first count)))
     × (overlaps + sum (map overlaps_of (cliques_from words at left)) ≡ sum (map overlaps_of (cliques_from words first count)))
     × (dim + left * 32896 ≤ count * 32896) × (overlaps + left * 32896 ≤ count * 32896)
 
-abbrev decreases-loop : tie.decreases-loop
+abbrev decreases-loop : tie.decreases-loop-left
 decreases-loop words first count dim₀ overlaps₀ at₀ left₀ dim overlaps at left = left
 
 -- a clique was read
-module _ (c : tie.After-here invariant-loop decreases-loop) where
+module _ (c : tie.After-here-q invariant-loop decreases-loop) where
   first_of : let l = c.before.before in
-      let ws = l.before.before.args.words.now in
-      let q = c.here.result in
-      cliques_from ws l.loop.at l.loop.left ≡ clique_of ws q ∷ cliques_from ws q.next (l.loop.left - 1)
+      let ws = l.args.words.now in
+      let q = c.here-q.result in
+      cliques_from ws l.loop-left.at l.loop-left.left ≡ clique_of ws q ∷ cliques_from ws q.next (l.loop-left.left - 1)
   first_of =
       let l = c.before.before in
-      from_next l.before.before.args.words.now l.loop.at l.loop.left _ c.here.ensures.0 c.before.loop-test.true c.here.result refl l.loop.invariant.0
+      from_next l.args.words.now l.loop-left.at l.loop-left.left _ c.here-q.ensures.0 c.loop-left-test.true c.here-q.result refl l.loop-left.invariant.0
 
   next-whole : let l = c.before.before in
-      Whole l.before.before.args.words.now c.here.result.next (l.loop.left - 1)
+      Whole l.args.words.now c.here-q.result.next (l.loop-left.left - 1)
   next-whole =
       let l = c.before.before in
-      sym (whole-next l.before.before.args.words.now l.loop.at l.loop.left _ c.here.ensures.0 c.before.loop-test.true c.here.result refl) ∙ l.loop.invariant.0
+      sym (whole-next l.args.words.now l.loop-left.at l.loop-left.left _ c.here-q.ensures.0 c.loop-left-test.true c.here-q.result refl) ∙ l.loop-left.invariant.0
 
   -- the sizes of its block and separator
-  sizes : let ws = c.before.before.before.before.args.words.now in
-      let q = c.here.result in
+  sizes : let ws = c.args.words.now in
+      let q = c.here-q.result in
       (block_size (clique_of ws q) ≡ q.snode_count + q.separator_count) × (length (clique_of ws q).separator ≡ q.separator_count)
       × (q.snode_count + q.separator_count ≤ 256)
   sizes =
       let l = c.before.before in
-      let ws = l.before.before.args.words.now in
-      let q = c.here.result in
-      let inside = c.here.ensures.1 in
-      let e = block_size_lem ws l.loop.at q inside in
-      let small = (all_cons (block_at_most 256) (clique_of ws q) (cliques_from ws q.next (l.loop.left - 1)) _ first_of l.loop.invariant.1).0 in
-      (e, separator-size ws l.loop.at q inside, omega (arith, leb→le (block_size (clique_of ws q)) 256 (passes _ small)))
+      let ws = l.args.words.now in
+      let q = c.here-q.result in
+      let inside = c.here-q.ensures.1 in
+      let e = block_size_lem ws l.loop-left.at q inside in
+      let small = (all_cons (block_at_most 256) (clique_of ws q) (cliques_from ws q.next (l.loop-left.left - 1)) _ first_of l.loop-left.invariant.1).0 in
+      (e, separator-size ws l.loop-left.at q inside, omega (arith, leb→le (block_size (clique_of ws q)) 256 (passes _ small)))
 
 -- the rows of its block are at most 32896
-block-rows : (c : tie.After-triangular-number invariant-loop decreases-loop) → c.triangular-number.result ≤ 32896
-block-rows c = omega (arith, c.triangular-number.ensures, triangle-small c.before.get-nblk.result (omega (arith, sizes c.before.before, c.before.get-nblk.ensures)))
+block-rows : (c : tie.After-triangular_number invariant-loop decreases-loop) → c.triangular_number.result ≤ 32896
+block-rows c = omega (arith, c.triangular_number.ensures, triangle-small c.get_nblk.result (omega (arith, sizes c.before.before, c.get_nblk.ensures)))
 
-separator-rows : (c : tie.After-triangular-number2 invariant-loop decreases-loop) → c.triangular-number2.result ≤ 32896
+separator-rows : (c : tie.After-triangular_number-in-loop-left invariant-loop decreases-loop) → c.triangular_number-in-loop-left.result ≤ 32896
 separator-rows c =
     let k = c.before.before.before.before in
-    omega (arith, c.triangular-number2.ensures, triangle-small k.here.result.separator_count (omega (arith, sizes k)))
+    omega (arith, c.triangular_number-in-loop-left.ensures, triangle-small k.here-q.result.separator_count (omega (arith, sizes k)))
 
-loop-holds : tie.Need-loop-init invariant-loop decreases-loop
-loop-holds c = (c.before.requires.0, c.before.requires.1, omega arith, omega arith, omega arith, omega arith)
+loop-holds : tie.Need-loop-left-init invariant-loop decreases-loop
+loop-holds c = (c.requires.0, c.requires.1, omega arith, omega arith, omega arith, omega arith)
 
-here-requires : tie.Need-here-requires invariant-loop decreases-loop
+here-requires : tie.Need-here-q-requires invariant-loop decreases-loop
 here-requires c κs =
     let l = c.before in
-    first-whole l.before.before.args.words.now l.loop.at l.loop.left c.loop-test.true l.loop.invariant.0
+    first-whole l.args.words.now l.loop-left.at l.loop-left.left c.loop-left-test.true l.loop-left.invariant.0
 
-get-nblk-requires : tie.Need-get-nblk-requires invariant-loop decreases-loop
+get-nblk-requires : tie.Need-get_nblk-requires invariant-loop decreases-loop
 get-nblk-requires c κs = omega (arith, sizes c)
 
-cast-triangular-number : tie.Need-overflow-cast-triangular-number invariant-loop decreases-loop
-cast-triangular-number c = omega (arith, sizes c.before, c.get-nblk.ensures)
+cast-triangular-number : tie.Need-overflow_cast-get_nblk invariant-loop decreases-loop
+cast-triangular-number c = omega (arith, sizes c.before, c.get_nblk.ensures)
 
-triangular-number-requires : tie.Need-triangular-number-requires invariant-loop decreases-loop
-triangular-number-requires c κs = omega (arith, sizes c.before, c.get-nblk.ensures)
+triangular-number-requires : tie.Need-triangular_number-requires invariant-loop decreases-loop
+triangular-number-requires c κs = omega (arith, sizes c.before, c.get_nblk.ensures)
 
-cast-dim : tie.Need-overflow-cast-dim invariant-loop decreases-loop
+cast-dim : tie.Need-overflow_cast-dim invariant-loop decreases-loop
 cast-dim c = omega (arith, block-rows c)
 
-add-dim : tie.Need-overflow-add-dim invariant-loop decreases-loop
+add-dim : tie.Need-overflow_add-dim invariant-loop decreases-loop
 add-dim c = omega (arith, block-rows c)
 
-cast-triangular-number-2 : tie.Need-overflow-cast-triangular-number-2 invariant-loop decreases-loop
+cast-triangular-number-2 : tie.Need-overflow_cast-q invariant-loop decreases-loop
 cast-triangular-number-2 c = omega (arith, sizes c.before.before.before)
 
-triangular-number-requires-2 : tie.Need-triangular-number-requires-2 invariant-loop decreases-loop
+triangular-number-requires-2 : tie.Need-triangular_number-requires-in-loop-left invariant-loop decreases-loop
 triangular-number-requires-2 c κs = omega (arith, sizes c.before.before.before)
 
-cast-overlaps : tie.Need-overflow-cast-overlaps invariant-loop decreases-loop
+cast-overlaps : tie.Need-overflow_cast-overlaps invariant-loop decreases-loop
 cast-overlaps c = omega (arith, separator-rows c)
 
-add-overlaps : tie.Need-overflow-add-overlaps invariant-loop decreases-loop
+add-overlaps : tie.Need-overflow_add-overlaps invariant-loop decreases-loop
 add-overlaps c = omega (arith, separator-rows c)
 
-sub-left : tie.Need-overflow-sub-left invariant-loop decreases-loop
+sub-left : tie.Need-overflow_sub-left invariant-loop decreases-loop
 sub-left c = omega arith
 
-loop-less : tie.Need-loop-smaller invariant-loop decreases-loop
+loop-less : tie.Need-loop-left-smaller invariant-loop decreases-loop
 loop-less c = omega arith
 
-loop-again : tie.Need-loop-preserved invariant-loop decreases-loop
+loop-again : tie.Need-loop-left-preserved invariant-loop decreases-loop
 loop-again c =
     let t = c.before.before in
     let k = t.before.before in
     let l = k.before.before in
-    let ws = l.before.before.args.words.now in
-    let q = k.here.result in
-    let others = cliques_from ws q.next (l.loop.left - 1) in
-    let cs = cliques_from ws l.loop.at l.loop.left in (
+    let ws = l.args.words.now in
+    let q = k.here-q.result in
+    let others = cliques_from ws q.next (l.loop-left.left - 1) in
+    let cs = cliques_from ws l.loop-left.at l.loop-left.left in (
       next-whole k,
-      (all_cons (block_at_most 256) (clique_of ws q) others cs (first_of k) l.loop.invariant.1).1,
-      sum-cons dim_of (clique_of ws q) others cs l.loop.dim t.triangular-number.result _ (first_of k) (t.triangular-number.ensures ∙ ap triangle (t.before.get-nblk.ensures ∙ sym (sizes k).0)) l.loop.invariant.2,
-      sum-cons overlaps_of (clique_of ws q) others cs l.loop.overlaps c.triangular-number2.result _ (first_of k) (c.triangular-number2.ensures ∙ ap triangle (sym (sizes k).1)) l.loop.invariant.3,
+      (all_cons (block_at_most 256) (clique_of ws q) others cs (first_of k) l.loop-left.invariant.1).1,
+      sum-cons dim_of (clique_of ws q) others cs l.loop-left.dim t.triangular_number.result _ (first_of k) (t.triangular_number.ensures ∙ ap triangle (t.get_nblk.ensures ∙ sym (sizes k).0)) l.loop-left.invariant.2,
+      sum-cons overlaps_of (clique_of ws q) others cs l.loop-left.overlaps c.triangular_number-in-loop-left.result _ (first_of k) (c.triangular_number-in-loop-left.ensures ∙ ap triangle (sym (sizes k).1)) l.loop-left.invariant.3,
       omega (arith, block-rows t),
       omega (arith, separator-rows c),
     )
@@ -126,14 +126,14 @@ loop-again c =
 returns : tie.Need-returns invariant-loop decreases-loop
 returns c =
     let l = c.before in
-    let ws = l.before.before.args.words.now in
-    let e = from-none ws l.loop.at l.loop.left c.loop-test.false in (
-      sum-none dim_of (cliques_from ws l.loop.at l.loop.left) l.loop.dim _ e l.loop.invariant.2,
-      sum-none overlaps_of (cliques_from ws l.loop.at l.loop.left) l.loop.overlaps _ e l.loop.invariant.3,
+    let ws = l.args.words.now in
+    let e = from-none ws l.loop-left.at l.loop-left.left c.loop-left-test.false in (
+      sum-none dim_of (cliques_from ws l.loop-left.at l.loop-left.left) l.loop-left.dim _ e l.loop-left.invariant.2,
+      sum-none overlaps_of (cliques_from ws l.loop-left.at l.loop-left.left) l.loop-left.overlaps _ e l.loop-left.invariant.3,
     )
 
-pub dim-and-overlaps_spec : {M : Type 1} → statement M
-dim-and-overlaps_spec =
+pub dim_and_overlaps_spec : {M : Type 1} → statement M
+dim_and_overlaps_spec =
     tie.close
     (tie.spec
     invariant-loop

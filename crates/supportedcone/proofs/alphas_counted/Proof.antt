@@ -19,85 +19,85 @@ use borrow.Author.Rules.{rules}
 use Rattle.supportedcone.proofs.alphas_counted.Statement.{statement}
 use Rattle.supportedcone.proofs.alphas_counted.Tie as tie
 
-abbrev invariant-loop : tie.invariant-loop
+abbrev invariant-loop : tie.invariant-loop-i
 invariant-loop cones count records₀ next₀ i₀ next i =
     (i ≤ records₀) × (next ≡ sum (map alpha_count (take i (records cones)))) × (next ≤ count)
 
-abbrev decreases-loop : tie.decreases-loop
+abbrev decreases-loop : tie.decreases-loop-i
 decreases-loop cones count records₀ next₀ i₀ next i = records₀ - i
 
 -- the number of α values that the record takes
-counted : (c : tie.After-alpha-count invariant-loop decreases-loop) → let l = c.before.before.before.before.before.before in
+counted : (c : tie.After-alpha_count-taken invariant-loop decreases-loop) → let l = c.before.before.before.before.before.before in
     let s = l.before.before.before in
-    c.alpha-count.result ≡ alpha_count (record_at s.args.cones.now l.loop.i)
+    c.alpha_count-taken.result ≡ alpha_count (record_at s.args.cones.now l.loop-i.i)
 counted c =
     let a = c.before.before in
     let l = a.before.before.before.before in
     let s = l.before.before.before in
-    let r = record_at s.args.cones.now l.loop.i in
-    c.alpha-count.ensures ∙ ap alpha_count (told_is a.cone.given.0.0 r _ (ap told (sym a.cone.given.1) ∙ a.before.before.cone-at.ensures)).1
+    let r = record_at s.args.cones.now l.loop-i.i in
+    c.alpha_count-taken.ensures ∙ ap alpha_count (told_is a.cone-1.given.0.0 r _ (ap told (sym a.cone-1.given.1) ∙ a.cone_at.ensures)).1
 
-record-count-requires : tie.Need-record-count-requires invariant-loop decreases-loop
+record-count-requires : tie.Need-record_count-records-requires invariant-loop decreases-loop
 record-count-requires c κs = search rules
 
-loop-holds : tie.Need-loop-init invariant-loop decreases-loop
+loop-holds : tie.Need-loop-i-init invariant-loop decreases-loop
 loop-holds c = search rules
 
-cone-at-requires : tie.Need-cone-at-requires invariant-loop decreases-loop
+cone-at-requires : tie.Need-cone_at-requires invariant-loop decreases-loop
 cone-at-requires c κs = search rules
 
-enum-known-cone : tie.Need-enum-known-cone invariant-loop decreases-loop
+enum-known-cone : tie.Need-enum_known-cone invariant-loop decreases-loop
 enum-known-cone c = search rules
 
-enum_told : tie.Need-enum-told invariant-loop decreases-loop
+enum_told : tie.Need-enum_told-1 invariant-loop decreases-loop
 enum_told c = search rules
 
-returns : tie.Need-returns invariant-loop decreases-loop
+returns : tie.Need-returns-in_default invariant-loop decreases-loop
 returns c =
     let l = c.before.before.before.before in
     let s = l.before.before.before in
-    let bad = told_bad (record_at s.args.cones.now l.loop.i) _ (ap told (sym c.enum_told.given.1) ∙ c.before.before.cone-at.ensures) in
-    absurd (differ (reads (record_at s.args.cones.now l.loop.i)) (every_record reads s.args.cones.now l.loop.i s.requires (omega arith)) bad)
+    let bad = told_bad (record_at s.args.cones.now l.loop-i.i) _ (ap told (sym c.enum_told-1.given.1) ∙ c.cone_at.ensures) in
+    absurd (differ (reads (record_at s.args.cones.now l.loop-i.i)) (every_record reads s.args.cones.now l.loop-i.i s.requires (omega arith)) bad)
 
-alpha-count-requires : tie.Need-alpha-count-requires invariant-loop decreases-loop
+alpha-count-requires : tie.Need-alpha_count-taken-requires invariant-loop decreases-loop
 alpha-count-requires c κs = search rules
 
-cast-taken : tie.Need-overflow-cast-taken invariant-loop decreases-loop
+cast-taken : tie.Need-overflow_cast-taken invariant-loop decreases-loop
 cast-taken c = search rules
 
-sub-if1 : tie.Need-overflow-sub-if1 invariant-loop decreases-loop
+sub-if1 : tie.Need-overflow_sub-count invariant-loop decreases-loop
 sub-if1 c = search rules
 
-returns-2 : tie.Need-returns-2 invariant-loop decreases-loop
+returns-2 : tie.Need-returns-then-count-next invariant-loop decreases-loop
 returns-2 c =
     let a = c.before in
     let l = a.before.before.before.before.before.before in
     let s = l.before.before.before in
     let cs = records s.args.cones.now in
     sym (ne_eqb (sum (map alpha_count cs)) (length (unvalued s.args.count)) (λ e.
-    omega (arith, e, length-replicate s.args.count nan, counted a, total_more alpha_count cs l.loop.i no_cone (omega arith), total-le alpha_count cs (l.loop.i + 1))))
+    omega (arith, e, length-replicate s.args.count nan, counted a, total_more alpha_count cs l.loop-i.i no_cone (omega arith), total-le alpha_count cs (l.loop-i.i + 1))))
 
-add-next : tie.Need-overflow-add-next invariant-loop decreases-loop
+add-next : tie.Need-overflow_add-next invariant-loop decreases-loop
 add-next c = search rules
 
-add-i : tie.Need-overflow-add-i invariant-loop decreases-loop
+add-i : tie.Need-overflow_add-i invariant-loop decreases-loop
 add-i c = search rules
 
-loop-less : tie.Need-loop-smaller invariant-loop decreases-loop
+loop-less : tie.Need-loop-i-smaller invariant-loop decreases-loop
 loop-less c = search rules
 
-loop-again : tie.Need-loop-preserved invariant-loop decreases-loop
+loop-again : tie.Need-loop-i-preserved invariant-loop decreases-loop
 loop-again c =
     let a = c.before in
     let l = a.before.before.before.before.before.before in
     let s = l.before.before.before in
-    (omega arith, omega (arith, counted a, total_more alpha_count (records s.args.cones.now) l.loop.i no_cone (omega arith)), omega (arith, counted a))
+    (omega arith, omega (arith, counted a, total_more alpha_count (records s.args.cones.now) l.loop-i.i no_cone (omega arith)), omega (arith, counted a))
 
-returns-3 : tie.Need-returns-3 invariant-loop decreases-loop
+returns-3 : tie.Need-returns invariant-loop decreases-loop
 returns-3 c =
     let l = c.before in
     let s = l.before.before.before in
-    ap₂ eqb (l.loop.invariant.1 ∙ total-done alpha_count (records s.args.cones.now) l.loop.i (omega arith)) (sym (length-replicate s.args.count nan))
+    ap₂ eqb (l.loop-i.invariant.1 ∙ total-done alpha_count (records s.args.cones.now) l.loop-i.i (omega arith)) (sym (length-replicate s.args.count nan))
 
 pub alphas_counted_spec : {M : Type 1} → statement M
 alphas_counted_spec =

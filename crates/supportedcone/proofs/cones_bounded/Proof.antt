@@ -13,90 +13,90 @@ use borrow.Author.Rules.{rules}
 use Rattle.supportedcone.proofs.cones_bounded.Statement.{statement}
 use Rattle.supportedcone.proofs.cones_bounded.Tie as tie
 
-abbrev invariant-loop : tie.invariant-loop
+abbrev invariant-loop : tie.invariant-loop-i
 invariant-loop cones count i₀ i = (i ≤ count) × (cones_bounded cones ≡ all sizes_bounded (drop i (records cones)))
 
-abbrev decreases-loop : tie.decreases-loop
+abbrev decreases-loop : tie.decreases-loop-i
 decreases-loop cones count i₀ i = count - i
 
-room : (c : tie.In-loop invariant-loop decreases-loop)
-    → c.before.loop.i * 3 + 3 ≤ length c.before.before.before.before.before.args.cones.now
-room c = inside c.before.before.before.before.before.args.cones.now c.before.loop.i (omega arith)
+room : (c : tie.In-loop-i invariant-loop decreases-loop)
+    → c.loop-i.i * 3 + 3 ≤ length c.args.cones.now
+room c = inside c.args.cones.now c.loop-i.i (omega arith)
 
 -- the result of the test on record i
-tested : (c : tie.After-sizes-bounded invariant-loop decreases-loop) → let l = c.before.before.before.before.before in
-    c.sizes-bounded.result ≡ sizes_bounded (record_at l.before.before.before.before.args.cones.now l.loop.i)
+tested : (c : tie.After-sizes_bounded invariant-loop decreases-loop) → let l = c.before.before.before.before.before in
+    c.sizes_bounded.result ≡ sizes_bounded (record_at l.args.cones.now l.loop-i.i)
 tested c =
     let l = c.before.before.before.before.before in
-    c.sizes-bounded.ensures ∙ ap sizes_bounded (sym (record_in l.before.before.before.before.args.cones.now l.loop.i (omega arith)))
+    c.sizes_bounded.ensures ∙ ap sizes_bounded (sym (record_in l.args.cones.now l.loop-i.i (omega arith)))
 
-record-count-requires : tie.Need-record-count-requires invariant-loop decreases-loop
+record-count-requires : tie.Need-record_count-count-requires invariant-loop decreases-loop
 record-count-requires c κs = search rules
 
-returns : tie.Need-returns invariant-loop decreases-loop
-returns c = rw (lt-leb (length (records c.before.before.before.args.cones.now)) 1024 (omega arith))
+returns : tie.Need-returns-then-count-gt-CONES invariant-loop decreases-loop
+returns c = rw (lt-leb (length (records c.args.cones.now)) 1024 (omega arith))
 
-loop-holds : tie.Need-loop-init invariant-loop decreases-loop
+loop-holds : tie.Need-loop-i-init invariant-loop decreases-loop
 loop-holds c =
-    let ws = c.before.before.before.args.cones.now in
+    let ws = c.args.cones.now in
     (omega arith, rw (le-leb (length (records ws)) 1024 (omega arith)))
 
-mul_at : tie.Need-overflow-mul-at invariant-loop decreases-loop
+mul_at : tie.Need-overflow_mul-at invariant-loop decreases-loop
 mul_at c = omega (arith, room c)
 
-mul-sizes-bounded : tie.Need-overflow-mul-sizes-bounded invariant-loop decreases-loop
+mul-sizes-bounded : tie.Need-offset_bounds-cones-at invariant-loop decreases-loop
 mul-sizes-bounded c = omega (arith, room c)
 
-shared-slice-read-sizes-bounded : tie.Need-shared-slice-read-sizes-bounded invariant-loop decreases-loop
+shared-slice-read-sizes-bounded : tie.Need-bounds-cones-at invariant-loop decreases-loop
 shared-slice-read-sizes-bounded c = omega (arith, room c.before)
 
-add-sizes-bounded : tie.Need-overflow-add-sizes-bounded invariant-loop decreases-loop
+add-sizes-bounded : tie.Need-overflow_add-at invariant-loop decreases-loop
 add-sizes-bounded c = omega (arith, room c.before)
 
-mul-sizes-bounded-2 : tie.Need-overflow-mul-sizes-bounded-2 invariant-loop decreases-loop
+mul-sizes-bounded-2 : tie.Need-offset_bounds-cones-at-in-loop-i invariant-loop decreases-loop
 mul-sizes-bounded-2 c = omega (arith, room c.before)
 
-shared-slice-read-sizes-bounded-2 : tie.Need-shared-slice-read-sizes-bounded-2 invariant-loop decreases-loop
+shared-slice-read-sizes-bounded-2 : tie.Need-bounds-cones-at-in-loop-i invariant-loop decreases-loop
 shared-slice-read-sizes-bounded-2 c = omega (arith, room c.before.before)
 
-add-sizes-bounded-2 : tie.Need-overflow-add-sizes-bounded-2 invariant-loop decreases-loop
+add-sizes-bounded-2 : tie.Need-overflow_add-at-in-loop-i invariant-loop decreases-loop
 add-sizes-bounded-2 c = omega (arith, room c.before.before)
 
-mul-sizes-bounded-3 : tie.Need-overflow-mul-sizes-bounded-3 invariant-loop decreases-loop
+mul-sizes-bounded-3 : tie.Need-offset_bounds-cones-at-in-loop-i-2 invariant-loop decreases-loop
 mul-sizes-bounded-3 c = omega (arith, room c.before.before)
 
-shared-slice-read-sizes-bounded-3 : tie.Need-shared-slice-read-sizes-bounded-3 invariant-loop decreases-loop
+shared-slice-read-sizes-bounded-3 : tie.Need-bounds-cones-at-in-loop-i-2 invariant-loop decreases-loop
 shared-slice-read-sizes-bounded-3 c = omega (arith, room c.before.before.before)
 
-sizes-bounded-requires : tie.Need-sizes-bounded-requires invariant-loop decreases-loop
+sizes-bounded-requires : tie.Need-sizes_bounded-requires invariant-loop decreases-loop
 sizes-bounded-requires c κs = search rules
 
-returns-2 : tie.Need-returns-2 invariant-loop decreases-loop
+returns-2 : tie.Need-returns-then-not-sizes_bounded invariant-loop decreases-loop
 returns-2 c =
     let l = c.before.before.before.before.before.before in
-    let ws = l.before.before.before.before.args.cones.now in
-    sym (l.loop.invariant.1 ∙ all_fails sizes_bounded (records ws) l.loop.i no_cone (omega arith) (sym (tested c.before) ∙ not-true _ c.if2.true))
+    let ws = l.args.cones.now in
+    sym (l.loop-i.invariant.1 ∙ all_fails sizes_bounded (records ws) l.loop-i.i no_cone (omega arith) (sym (tested c.before) ∙ not-true _ c.if-not-sizes_bounded.true-raw))
 
-add-i : tie.Need-overflow-add-i invariant-loop decreases-loop
+add-i : tie.Need-overflow_add-i invariant-loop decreases-loop
 add-i c = omega arith
 
-loop-less : tie.Need-loop-smaller invariant-loop decreases-loop
+loop-less : tie.Need-loop-i-smaller invariant-loop decreases-loop
 loop-less c = omega arith
 
-loop-again : tie.Need-loop-preserved invariant-loop decreases-loop
+loop-again : tie.Need-loop-i-preserved invariant-loop decreases-loop
 loop-again c =
     let l = c.before.before.before.before.before.before in
-    let ws = l.before.before.before.before.args.cones.now in
-    (omega arith, l.loop.invariant.1 ∙ all-step sizes_bounded (records ws) l.loop.i no_cone (omega arith) (sym (tested c.before) ∙ not-false _ c.if2.false))
+    let ws = l.args.cones.now in
+    (omega arith, l.loop-i.invariant.1 ∙ all-step sizes_bounded (records ws) l.loop-i.i no_cone (omega arith) (sym (tested c.before) ∙ not-false _ c.if-not-sizes_bounded.false-raw))
 
-returns-3 : tie.Need-returns-3 invariant-loop decreases-loop
+returns-3 : tie.Need-returns invariant-loop decreases-loop
 returns-3 c =
     let l = c.before in
-    let ws = l.before.before.before.before.args.cones.now in
-    sym (l.loop.invariant.1 ∙ all_done sizes_bounded (records ws) l.loop.i (omega arith))
+    let ws = l.args.cones.now in
+    sym (l.loop-i.invariant.1 ∙ all_done sizes_bounded (records ws) l.loop-i.i (omega arith))
 
-pub cones-bounded_spec : {M : Type 1} → statement M
-cones-bounded_spec =
+pub cones_bounded_spec : {M : Type 1} → statement M
+cones_bounded_spec =
     tie.close
     (tie.spec
     invariant-loop

@@ -14,60 +14,60 @@ use Rattle.supportedcone.proofs.read_with_alpha.Statement.{statement}
 use Rattle.supportedcone.proofs.read_with_alpha.Tie as tie
 
 -- the exponent passed on: the first α value not yet used, or 0.0 if there is none
-first-left : (c : tie.Joined1) → c.if1.alpha ≡ get_or c.before.before.before.args.alphas.now 0 zero64
+first-left : (c : tie.Joined-alphas-gt0) → c.if-alphas-gt0.alpha ≡ get_or c.args.alphas.now 0 zero64
 unfolding of_bits
 first-left c =
-    let αs = c.before.before.before.args.alphas.now in
+    let αs = c.args.alphas.now in
     ⊎_elim
     (λ w. w.2 ∙ get_or_default αs 0 nan zero64 (omega (arith, w.0.taken)))
     (λ w. w.1 ∙ sym (get_or-eq_default αs zero64 {n = 0} (omega (arith, w.0.left))))
-    c.if1.branch
+    c.if-alphas-gt0.branch
 
 -- the cone read, as a result of reads_as
-is_told : (c : tie.After-known-told) → let j = c.before.before.before.before in
+is_told : (c : tie.In-Is) → let j = c.before.before.before.before in
     let s = j.before.before.before in
-    told (Is c.before.cone.given.0.0) ≡ reads_as (record_at s.args.cones.now s.args.i) j.if1.alpha
-is_told c = ap told (sym c.before.cone.given.1) ∙ c.before.before.before.cone-at.ensures
+    told (Is c.cone-1.given.0.0) ≡ reads_as (record_at s.args.cones.now s.args.i) j.if-alphas-gt0.alpha
+is_told c = ap told (sym c.cone-1.given.1) ∙ c.cone_at.ensures
 
-counted : (c : tie.After-alpha-count) → let s = c.before.before.before.before.before.before.before.before in
-    c.alpha-count.result ≡ alpha_count (record_at s.args.cones.now s.args.i)
+counted : (c : tie.After-alpha_count) → let s = c.before.before.before.before.before.before.before.before in
+    c.alpha_count.result ≡ alpha_count (record_at s.args.cones.now s.args.i)
 counted c =
     let k = c.before in
     let j = k.before.before.before.before in
     let s = j.before.before.before in
-    c.alpha-count.ensures ∙ ap alpha_count (told_is k.before.cone.given.0.0 (record_at s.args.cones.now s.args.i) j.if1.alpha (is_told k)).1
+    c.alpha_count.ensures ∙ ap alpha_count (told_is k.cone-1.given.0.0 (record_at s.args.cones.now s.args.i) j.if-alphas-gt0.alpha (is_told k)).1
 
-shared-slice-read-alpha : tie.Need-shared-slice-read-alpha
+shared-slice-read-alpha : tie.Need-bounds-alphas-0
 shared-slice-read-alpha c = omega arith
 
-cone-at-requires : tie.Need-cone-at-requires
+cone-at-requires : tie.Need-cone_at-requires
 cone-at-requires c κs = search rules
 
-enum-known-cone : tie.Need-enum-known-cone
+enum-known-cone : tie.Need-enum_known-cone
 enum-known-cone c = search rules
 
-enum_told : tie.Need-enum-told
+enum_told : tie.Need-enum_told-1
 enum_told c = search rules
 
-returns : tie.Need-returns
+returns : tie.Need-returns-in_default
 returns c =
     let j = c.before.before.before in
     let s = j.before.before.before in
     let r = record_at s.args.cones.now s.args.i in
-    sym (unread_with r s.args.alphas.now (told_bad r j.if1.alpha (ap told (sym c.enum_told.given.1) ∙ c.before.before.cone-at.ensures)))
+    sym (unread_with r s.args.alphas.now (told_bad r j.if-alphas-gt0.alpha (ap told (sym c.enum_told-1.given.1) ∙ c.cone_at.ensures)))
 
-alpha-count-requires : tie.Need-alpha-count-requires
+alpha-count-requires : tie.Need-alpha_count-requires
 alpha-count-requires c κs = search rules
 
-cast-if2 : tie.Need-overflow-cast-if2
+cast-if2 : tie.Need-overflow_cast-alpha_count
 cast-if2 c = omega arith
 
-returns-2 : tie.Need-returns-2
+returns-2 : tie.Need-returns-then-alphas-alpha_count
 returns-2 c =
     let s = c.before.before.before.before.before.before.before.before.before in
     sym (too_few (record_at s.args.cones.now s.args.i) s.args.alphas.now (omega (arith, counted c.before)))
 
-returns-3 : tie.Need-returns-3
+returns-3 : tie.Need-returns
 returns-3 c =
     let j = c.before.before.before.before.before.before in
     let s = j.before.before.before in

@@ -13,32 +13,32 @@ use borrow.Author.Rules.{rules}
 use Rattle.utils.proofs.permutation_by.Statement.{statement}
 use Rattle.utils.proofs.permutation_by.Tie as tie
 
-abbrev invariant-loop : tie.invariant-loop
+abbrev invariant-loop : tie.invariant-loop-n
 invariant-loop words marks₀ n low₀ marks low = (low ≤ length words) × (length marks ≡ length marks₀) × T (distinct (keep (λ x. ltb x low) words))
 
-abbrev decreases-loop : tie.decreases-loop
+abbrev decreases-loop : tie.decreases-loop-n
 decreases-loop words marks₀ n low₀ marks low = length words - low
 
 -- the number of marks is unchanged
-size : (m : tie.After-mark invariant-loop decreases-loop) → length m.mark.new.1.1.0 ≡ length m.before.before.before.before.before.before.loop.marks
-size m = m.mark.auto.1.1.0 ∙ m.before.before.before.before.clear.auto.0
+size : (m : tie.After-mark invariant-loop decreases-loop) → length m.mark.new.marks ≡ length m.loop-n.marks
+size m = m.mark.auto.marks ∙ m.clear.auto.marks
 
 -- the result of marking: whether the numbers of the window are duplicate-free
 once : (m : tie.After-mark invariant-loop decreases-loop) → let l = m.before.before.before.before.before.before in
-    m.mark.result ≡ distinct (keep (within l.loop.low (length l.loop.marks)) l.before.before.before.before.before.args.words.now)
+    m.mark.result ≡ distinct (keep (within l.loop-n.low (length l.loop-n.marks)) l.args.words.now)
 once m =
     let k = m.before.before.before.before in
     let l = k.before.before in
-    rw k.clear.auto.0 at (m.mark.ensures [] (rw k.clear.ensures (marked-none l.loop.low (length l.loop.marks))) tt).0
+    rw k.clear.auto.marks at (m.mark.ensures [] (rw k.clear.ensures (marked-none l.loop-n.low (length l.loop-n.marks))) tt).0
 
-all-below-requires : tie.Need-all-below-requires invariant-loop decreases-loop
+all-below-requires : tie.Need-all_below-requires invariant-loop decreases-loop
 all-below-requires c κs = search rules
 
-returns : tie.Need-returns invariant-loop decreases-loop
-returns c = sym (and-false _ _ (sym c.before.all-below.ensures ∙ not-true _ c.if1.true))
+returns : tie.Need-returns-then-not-all_below invariant-loop decreases-loop
+returns c = sym (and-false _ _ (sym c.all_below.ensures ∙ not-true _ c.if-not-all_below.true-raw))
 
-loop-holds : tie.Need-loop-init invariant-loop decreases-loop
-loop-holds c = (omega arith, refl, window_none c.before.before.before.before.args.words.now)
+loop-holds : tie.Need-loop-n-init invariant-loop decreases-loop
+loop-holds c = (omega arith, refl, window_none c.args.words.now)
 
 clear-requires : tie.Need-clear-requires invariant-loop decreases-loop
 clear-requires c κs = tt
@@ -46,50 +46,50 @@ clear-requires c κs = tt
 mark-requires : tie.Need-mark-requires invariant-loop decreases-loop
 mark-requires c κs = tt
 
-same_length : tie.Need-same-length invariant-loop decreases-loop
-same_length c = let m = c.before.before.before in size m ∙ m.before.before.before.before.before.before.loop.invariant.1
+same_length : tie.Need-shape_of-marks-then-not-mark invariant-loop decreases-loop
+same_length c = let m = c.before.before.before in size m ∙ m.loop-n.invariant.1
 
-returns-2 : tie.Need-returns-2 invariant-loop decreases-loop
+returns-2 : tie.Need-returns-then-not-mark invariant-loop decreases-loop
 returns-2 c =
     let m = c.before.before.before in
-    let ws = m.before.before.before.before.before.before.before.before.before.before.before.args.words.now in
-    sym (and_right (all (λ x. ltb x (length ws)) ws) (distinct ws) (repeats_within _ ws (sym (once m) ∙ not-true _ c.if2.true)))
+    let ws = m.args.words.now in
+    sym (and_right (all (λ x. ltb x (length ws)) ws) (distinct ws) (repeats_within _ ws (sym (once m) ∙ not-true _ c.if-not-mark.true-raw)))
 
-sub-if3 : tie.Need-overflow-sub-if3 invariant-loop decreases-loop
+sub-if3 : tie.Need-overflow_sub-n invariant-loop decreases-loop
 sub-if3 c = omega arith
 
-same-length-2 : tie.Need-same-length-2 invariant-loop decreases-loop
-same-length-2 c = let m = c.before.before.before.before in size m ∙ m.before.before.before.before.before.before.loop.invariant.1
+same-length-2 : tie.Need-shape_of-marks-then-n-low invariant-loop decreases-loop
+same-length-2 c = let m = c.before.before.before.before in size m ∙ m.loop-n.invariant.1
 
-returns-3 : tie.Need-returns-3 invariant-loop decreases-loop
+returns-3 : tie.Need-returns-then-n-low invariant-loop decreases-loop
 returns-3 c =
     let m = c.before.before.before.before in
     let l = m.before.before.before.before.before.before in
     let a = l.before.before in
-    let ws = a.before.before.before.args.words.now in
-    let all_in = sym a.all-below.ensures ∙ not-false _ l.before.if1.false in
+    let ws = a.args.words.now in
+    let all_in = sym a.all_below.ensures ∙ not-false _ l.if-not-all_below.false-raw in
     sym (and-true _ _ all_in
-    ∙ windows_all (length ws) (l.loop.low + length l.loop.marks) ws all_in (omega (arith, size m))
-    (window_more l.loop.low (length l.loop.marks) ws l.loop.invariant.2 (passes _ (sym (once m) ∙ not-false _ c.before.if2.false))))
+    ∙ windows_all (length ws) (l.loop-n.low + length l.loop-n.marks) ws all_in (omega (arith, size m))
+    (window_more l.loop-n.low (length l.loop-n.marks) ws l.loop-n.invariant.2 (passes _ (sym (once m) ∙ not-false _ c.if-not-mark.false-raw))))
 
-add_low : tie.Need-overflow-add-low invariant-loop decreases-loop
+add_low : tie.Need-overflow_add-low invariant-loop decreases-loop
 add_low c = omega arith
 
-loop-less : tie.Need-loop-smaller invariant-loop decreases-loop
+loop-less : tie.Need-loop-n-smaller invariant-loop decreases-loop
 loop-less c = omega arith
 
-loop-again : tie.Need-loop-preserved invariant-loop decreases-loop
+loop-again : tie.Need-loop-n-preserved invariant-loop decreases-loop
 loop-again c =
     let m = c.before.before.before.before in
     let l = m.before.before.before.before.before.before in
-    let ws = l.before.before.before.before.before.args.words.now in (
+    let ws = l.args.words.now in (
       omega (arith, size m),
-      size m ∙ l.loop.invariant.1,
-      rw (size m) (window_more l.loop.low (length l.loop.marks) ws l.loop.invariant.2 (passes _ (sym (once m) ∙ not-false _ c.before.if2.false))),
+      size m ∙ l.loop-n.invariant.1,
+      rw (size m) (window_more l.loop-n.low (length l.loop-n.marks) ws l.loop-n.invariant.2 (passes _ (sym (once m) ∙ not-false _ c.if-not-mark.false-raw))),
     )
 
-pub permutation-by_spec : {M : Type 1} → statement M
-permutation-by_spec =
+pub permutation_by_spec : {M : Type 1} → statement M
+permutation_by_spec =
     tie.close
     (tie.spec
     invariant-loop

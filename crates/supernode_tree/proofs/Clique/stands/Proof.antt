@@ -8,46 +8,46 @@ use Rattle.supernode_tree.proofs.Words.{clique-none, clique-stands}
 use Rattle.supernode_tree.proofs.Clique.stands.Statement.{statement}
 use Rattle.supernode_tree.proofs.Clique.stands.Tie as tie
 
-has-room-requires : tie.Need-has-room-requires
+has-room-requires : tie.Need-has_room-requires
 has-room-requires c κs = search rules
 
-returns : tie.Need-returns
+returns : tie.Need-returns-then-not-has_room
 returns c =
     let s = c.before.before.before in
-    sym (clique-none s.args.words.now s.args.at (sym c.before.has_room.ensures ∙ not-true _ c.if1.true))
+    sym (clique-none s.args.words.now s.args.at (sym c.has_room.ensures ∙ not-true _ c.if-not-has_room.true-raw))
 
 -- there are three words
-three : (c : tie.Else1) → let s = c.before.before.before in s.args.at + 3 ≤ length s.args.words.now
-three c = leb-true _ _ (sym c.before.has_room.ensures ∙ not-false _ c.if1.false)
+three : (c : tie.Else-not-has_room) → let s = c.before.before.before in s.args.at + 3 ≤ length s.args.words.now
+three c = leb-true _ _ (sym c.has_room.ensures ∙ not-false _ c.if-not-has_room.false-raw)
 
-add-has-room : tie.Need-overflow-add-has-room
+add-has-room : tie.Need-overflow_add-at
 add-has-room c = omega (arith, three c)
 
-add-word : tie.Need-overflow-add-word
+add-word : tie.Need-overflow_add-at-2
 add-word c = omega (arith, three c)
 
 word-requires : tie.Need-word-requires
 word-requires c κs = omega (arith, three c)
 
-add-word-2 : tie.Need-overflow-add-word-2
+add-word-2 : tie.Need-overflow_add-at-3
 add-word-2 c = omega (arith, three c.before)
 
 word-requires-2 : tie.Need-word-requires-2
 word-requires-2 c κs = omega (arith, three c.before)
 
-add-has-room-2 : tie.Need-overflow-add-has-room-2
-add-has-room-2 c = omega (arith, c.before.word.ensures.1, c.word2.ensures.1)
+add-has-room-2 : tie.Need-overflow_add-word
+add-has-room-2 c = omega (arith, c.word.ensures.1, c.word-2.ensures.1)
 
-has-room-requires-2 : tie.Need-has-room-requires-2
+has-room-requires-2 : tie.Need-has_room-requires-2
 has-room-requires-2 c κs = search rules
 
-returns-2 : tie.Need-returns-2
+returns-2 : tie.Need-returns
 returns-2 c =
     let b = c.before in
     let e = b.before.before in
     let s = e.before.before.before in
-    c.has-room2.ensures
-    ∙ clique-stands s.args.words.now s.args.at _ _ b.before.word.ensures.0 b.word2.ensures.0 (sym e.before.has_room.ensures ∙ not-false _ e.if1.false)
+    c.has_room-2.ensures
+    ∙ clique-stands s.args.words.now s.args.at _ _ b.word.ensures.0 b.word-2.ensures.0 (sym e.has_room.ensures ∙ not-false _ e.if-not-has_room.false-raw)
 
 pub stands_spec : {M : Type 1} → statement M
 stands_spec =

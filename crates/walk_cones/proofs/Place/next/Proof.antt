@@ -16,10 +16,10 @@ use Rattle.walk_cones.proofs.Place.next.Statement.{statement}
 use Rattle.walk_cones.proofs.Place.next.Tie as tie
 
 -- there is a record for the cone
-here : (c : tie.Else1) → let s = c.before.before.before in s.args.self.cone < length (records s.args.cones.now)
-here c = omega (arith, record_count_lem c.before.before.before.args.cones.now)
+here : (c : tie.Else-cones-i) → let s = c.before.before.before in s.args.self.cone < length (records s.args.cones.now)
+here c = omega (arith, record_count_lem c.args.cones.now)
 
-returns : tie.Need-returns
+returns : tie.Need-returns-then-cones-i
 returns c =
     let s = c.before.before.before in
     let cones = s.args.cones.now in
@@ -27,51 +27,51 @@ returns c =
     let none : length (records cones) ≤ p.cone = omega (arith, record_count_lem cones) in
     (ap (λ (cs : List Cone). parts_from p.cone p.row p.pattern cs (patterns_ahead s.args.words.now p)) (drop_of_length-le (records cones) none), tt)
 
-cone-rows-requires : tie.Need-cone-rows-requires
+cone-rows-requires : tie.Need-cone_rows-rows-requires
 cone-rows-requires c κs =
-    let h = c.before.before.before.requires in
+    let h = c.requires in
     (passed _ h.bounded, passed _ h.reads)
 
-fits : (c : tie.After-cone-rows) → let s = c.before.before.before.before in
-    s.args.self.row + c.cone-rows.result ≤ s.args.m
+fits : (c : tie.After-cone_rows-rows) → let s = c.before.before.before.before in
+    s.args.self.row + c.cone_rows-rows.result ≤ s.args.m
 fits c =
     let s = c.before.before.before.before in
-    omega (arith, row_fits s.args.m s.args.cones.now s.args.words.now s.args.self s.requires (here c.before), c.cone-rows.ensures)
+    omega (arith, row_fits s.args.m s.args.cones.now s.args.words.now s.args.self s.requires (here c.before), c.cone_rows-rows.ensures)
 
-add_row : tie.Need-overflow-add-row
-add_row c = omega (arith, fits c.before, c.before.before.before.before.before.requires.few)
+add_row : tie.Need-overflow_add-row
+add_row c = omega (arith, fits c.before, c.requires.few)
 
-inside : (c : tie.Then2) → let s = c.before.before.before.before.before.before.before in
+inside : (c : tie.Then-self-gt0) → let s = c.before.before.before.before.before.before.before in
     s.args.self.at + 3 ≤ length s.args.words.now
 inside c =
     let s = c.before.before.before.before.before.before.before in
-    head-inside s.args.m s.args.cones.now s.args.words.now s.args.self s.requires (here c.before.before.before.before) c.if2.true
+    head-inside s.args.m s.args.cones.now s.args.words.now s.args.self s.requires (here c.before.before.before.before) c.if-self-gt0.true
 
-mul-if3 : tie.Need-overflow-mul-if3
+mul-if3 : tie.Need-offset_bounds-words-at
 mul-if3 c = omega (arith, inside c)
 
-shared-slice-read-if3 : tie.Need-shared-slice-read-if3
+shared-slice-read-if3 : tie.Need-bounds-words-at
 shared-slice-read-if3 c = omega (arith, inside c.before)
 
-cast-if3 : tie.Need-overflow-cast-if3
-cast-if3 c = omega (arith, c.shared-slice-known3.given c.before.before.before.before.before.before.before.before.args.self.at)
+cast-if3 : tie.Need-overflow_cast-words
+cast-if3 c = omega (arith, c.shared_slice_known-then-self-gt0-1.given c.args.self.at)
 
-add-t17 : tie.Need-overflow-add-t17
+add-t17 : tie.Need-overflow_add-result
 add-t17 c = search rules
 
-add-t18 : tie.Need-overflow-add-t18
+add-t18 : tie.Need-overflow_add-result-then-words-at
 add-t18 c = let s = c.before.before.before.before.before.before.before.before.before.before in omega (arith, s.requires.numbered)
 
-sub-t19 : tie.Need-overflow-sub-t19
+sub-t19 : tie.Need-overflow_sub-result
 sub-t19 c = search rules
 
-pattern-next-requires : tie.Need-pattern-next-requires
+pattern-next-requires : tie.Need-pattern_next-requires
 pattern-next-requires c κs =
     let t = c.before.before.before.before in
     let s = t.before.before.before.before.before.before.before in
-    first_read s.args.m s.args.cones.now s.args.words.now s.args.self s.requires (here t.before.before.before.before) t.if2.true
+    first_read s.args.m s.args.cones.now s.args.words.now s.args.self s.requires (here t.before.before.before.before) t.if-self-gt0.true
 
-returns-2 : tie.Need-returns-2
+returns-2 : tie.Need-returns-then-words-at
 returns-2 c =
     let i = c.before.before.before in
     let t = i.before.before in
@@ -83,12 +83,12 @@ returns-2 c =
     let p = s.args.self in
     let h = s.requires in
     let l = here r.before in
-    let more = t.if2.true in
-    let rows = r.cone-rows.result in
-    let e = r.cone-rows.ensures in
-    let next = c.pattern-next.result in
-    let n = c.pattern-next.ensures in
-    let mine = i.if3.true in (
+    let more = t.if-self-gt0.true in
+    let rows = r.cone_rows-rows.result in
+    let e = r.cone_rows-rows.ensures in
+    let next = c.pattern_next.result in
+    let n = c.pattern_next.ensures in
+    let mine = i.if-words-at.true in (
       cut-ahead m cones words p h l more mine rows e next n,
       (
         first_read m cones words p h l more,
@@ -101,10 +101,10 @@ returns-2 c =
       ),
     )
 
-add-t9 : tie.Need-overflow-add-t9
+add-t9 : tie.Need-overflow_add-result-2
 add-t9 c = search rules
 
-returns-3 : tie.Need-returns-3
+returns-3 : tie.Need-returns
 returns-3 c =
     let r = c.before.before.before in
     let s = r.before.before.before.before in
@@ -114,10 +114,10 @@ returns-3 c =
     let p = s.args.self in
     let h = s.requires in
     let l = here r.before in
-    let rows = r.cone-rows.result in
-    let e = r.cone-rows.ensures in
+    let rows = r.cone_rows-rows.result in
+    let e = r.cone_rows-rows.ensures in
     let free : is_cut p.cone (patterns_ahead words p) ≡ false =
-    ⊎_elim (λ w. not_mine m cones words p h l (omega arith) w.2.left) (λ w. none_left m cones words p h l (omega arith)) c.if2.branch in (
+    ⊎_elim (λ w. not_mine m cones words p h l (omega arith) w.2.left) (λ w. none_left m cones words p h l (omega arith)) c.if-self-gt0.branch in (
       whole-ahead m cones words p h l rows e free,
       (
         e,

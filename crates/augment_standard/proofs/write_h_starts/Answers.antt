@@ -1,0 +1,27 @@
+use Prim.Native.Nat.{◌-◌, ◌+◌}
+use native.Mathlib.Omega.{arith}
+use mathlib.Core.Path.{◌≡◌, sym}
+use lib.ListN.{length-set}
+use Rattle.layout.proofs.Lists.Buffers.{set-written}
+use Rattle.augment_standard.specs.Beside.{h_starts}
+use Rattle.augment_standard.proofs.Columns.{length-h_starts, starts_more}
+use Rattle.augment_standard.proofs.write_h_starts.Goals as goal
+
+pub loop-i-preserved : goal.loop-i-preserved
+loop-i-preserved c =
+    let l = c.before in
+    let a = l.args in
+    let i = l.loop-i.i in (
+      omega arith,
+      omega arith,
+      simp length-set l.loop-i.invariant.2,
+      rw (l.loop-i.invariant.3, starts_more a.entries i l.loop-i.end l.loop-i.invariant.1)
+          (set-written (h_starts a.entries i) a.out.now (l.loop-i.end + 2) i (sym (length-h_starts a.entries i)) (omega arith)),
+    )
+
+
+pub shape_of-out : goal.shape_of-out
+shape_of-out c = c.loop-i.invariant.2
+
+pub returns : goal.returns
+returns c = let e : c.loop-i.i ≡ c.args.k = omega arith in rw e at c.loop-i.invariant.3

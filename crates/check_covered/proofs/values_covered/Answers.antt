@@ -1,0 +1,35 @@
+use Prim.Native.Nat.{◌+◌, ◌-◌}
+use mathlib.Core.Path.{sym, ap, ◌∙◌}
+use mathlib.Core.Bool.{Bool, false, ◌&&◌, and-true, and-false}
+use lib.ListN.{length, drop}
+use Rattle.layout.specs.General.Lists.{all, below}
+use Rattle.csc.proofs.Fronts.{below_step, below_fails, below-done}
+use native.Mathlib.Omega.{arith}
+use borrow.Author.Tests.{not-true, not-false}
+use Rattle.check_covered.proofs.values_covered.Invariants.{fine}
+use Rattle.check_covered.proofs.values_covered.Goals as goal
+use Rattle.check_covered.proofs.values_covered.Goals.{then-not-may_have, else-not-may_have}
+
+pub loop-i-preserved : goal.loop-i-preserved
+loop-i-preserved c =
+    let r = c.before in
+    let l = r.before.before.before.before in
+    let a = l.args in
+    let b = a.b.now in
+    let i = l.loop-i.i in
+    let right = fine a.covered.now b in
+    let left : Bool → Bool = λ h. l.loop-i.holds && h in
+    let next : Bool → Bool = λ h. h && all right (drop (i + 1) (below (length b))) in
+    elim c.if-not-may_have.branch [
+      | then-not-may_have w ↦ (omega arith, l.loop-i.invariant.1 ∙ ap left (below_fails right (length b) i (omega arith) (sym r.may_have.ensures ∙ not-true _ w.if-not-may_have.true)) ∙ and-false l.loop-i.holds ∙ ap next (sym w.holds-is))
+      | else-not-may_have w ↦ (omega arith, l.loop-i.invariant.1 ∙ ap left (below_step right (length b) i (omega arith) (sym r.may_have.ensures ∙ not-false _ w.if-not-may_have.false)) ∙ ap next (sym w.holds-is))
+    ]
+
+
+pub returns : goal.returns
+returns c =
+    let l = c.before in
+    let a = l.args in
+    let left : Bool → Bool = λ h. l.loop-i.holds && h in
+    sym (l.loop-i.invariant.1 ∙ ap left (below-done (fine a.covered.now a.b.now) (length a.b.now) l.loop-i.i c.loop-i-test.false) ∙ and-true l.loop-i.holds)
+

@@ -1,0 +1,23 @@
+use Prim.Native.Nat.{◌-◌}
+use native.Mathlib.Omega.{arith}
+use mathlib.Core.Path.{◌∙◌}
+use lib.ListN.{length-set}
+use lib.Ieee.{nan}
+use Rattle.layout.proofs.Lists.Buffers.{copy_more, copy_done}
+use Rattle.csc.proofs.copy_values.Goals as goal
+
+pub loop-i-preserved : goal.loop-i-preserved
+loop-i-preserved c =
+    let l = c.before.before in
+    let a = l.args in (
+      omega arith,
+      simp length-set l.loop-i.invariant.1,
+      rw l.loop-i.invariant.2 (copy_more a.src.now a.out.now l.loop-i.i nan (omega arith) l.requires),
+    )
+
+
+pub shape_of-out : goal.shape_of-out
+shape_of-out c = c.loop-i.invariant.1
+
+pub returns : goal.returns
+returns c = c.loop-i.invariant.2 ∙ copy_done c.args.src.now c.args.out.now c.loop-i.i c.loop-i-test.false

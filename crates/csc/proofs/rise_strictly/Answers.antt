@@ -1,0 +1,28 @@
+use Prim.Native.Nat.{◌-◌}
+use native.Mathlib.Omega.{arith}
+use mathlib.Core.Path.{sym, ◌∙◌}
+use borrow.Author.Tests.{lt-ltb, le-ltb}
+use lib.Dec.{ltb}
+use Rattle.csc.proofs.Fronts.{rises_chained, chain_step, chain_fails, chain_done}
+use Rattle.csc.proofs.rise_strictly.Goals as goal
+
+pub returns-then-rows-i : goal.returns-then-rows-i
+returns-then-rows-i c =
+    let l = c.before.before.before.before in
+    let rows = l.args.rows.now in
+    sym (rises_chained rows ∙ l.loop-i.invariant.1 ∙ chain_fails ltb rows l.loop-i.i (omega arith) (le-ltb _ _ c.if-rows-i.true))
+
+
+pub loop-i-preserved : goal.loop-i-preserved
+loop-i-preserved c =
+    let l = c.before.before.before.before in
+    let rows = l.args.rows.now in
+    (omega arith, l.loop-i.invariant.1 ∙ chain_step ltb rows l.loop-i.i (omega arith) (lt-ltb _ _ c.if-rows-i.false))
+
+
+pub returns : goal.returns
+returns c =
+    let l = c.before in
+    let rows = l.args.rows.now in
+    sym (rises_chained rows ∙ l.loop-i.invariant.1 ∙ chain_done ltb rows l.loop-i.i c.loop-i-test.false)
+

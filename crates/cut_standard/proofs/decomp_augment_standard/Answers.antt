@@ -1,0 +1,72 @@
+use Prim.Native.Nat.{ℕ}
+use mathlib.Core.Path.{ap}
+use mathlib.Core.List.{◌++◌}
+use lib.ListN.{replicate}
+use lib.Ieee.{of_bits}
+use Rattle.layout.specs.General.Floats.{zero64}
+use Rattle.layout.proofs.Checks.Accepted.{fits-u32}
+use Rattle.augment_standard.proofs.Constraints.{renamed, sound, few-entries, room-starts}
+use Rattle.cut_standard.proofs.Laws.{few-rows, few-ends, room-rows, room-values, room_b, starts_A, rows_A, values_A}
+use Rattle.cut_standard.proofs.decomp_augment_standard.Goals as goal
+
+pub overflow_cast-a_values : goal.overflow_cast-a_values
+overflow_cast-a_values c = fits-u32 _ (few-entries c.requires.accepted)
+
+pub write_starts-requires : goal.write_starts-requires
+write_starts-requires c =
+    let s = c.before.before.before.before.before.before.before.before.before.before.before.before in
+    let k = s.args.k in
+    (room-starts s.requires.accepted k _ s.requires.starts, few-ends s.requires.accepted k s.requires.added)
+
+
+pub standard_a_rows-requires : goal.standard_a_rows-requires
+standard_a_rows-requires c =
+    let s = c.before.before.before.before.before.before.before.before.before.before.before.before.before.before.before.before in
+    let k = s.args.k in
+    let e = s.requires.added in record { sound = sound s.requires.accepted; k_value = (e, few-rows s.requires.accepted k e, room-rows s.requires.accepted k e _ s.requires.rows) }
+
+pub write_values-requires : goal.write_values-requires
+write_values-requires c =
+    let s = c.before.before.before.before.before.before.before.before.before.before.before.before.before.before.before.before.before.before.before.before in
+    room-values s.requires.accepted s.args.k s.requires.added _ s.requires.values
+
+
+pub extend_values-requires : goal.extend_values-requires
+extend_values-requires c =
+    let s = c.before.before.before.before.before.before.before.before.before.before.before.before.before.before.before.before.before.before.before.before.before.before.before.before in
+    room_b s.requires.accepted s.args.k s.requires.added _ s.requires.slacks
+
+
+pub standard_cones-requires : goal.standard_cones-requires
+standard_cones-requires c =
+    let s = c.before.before.before.before.before.before.before.before.before.before.before.before.before.before.before.before.before.before.before.before.before.before.before.before.before.before.before.before in record { sound = sound s.requires.accepted; words_in_bounds = s.requires.cones }
+
+pub shape_of-a_starts_out : goal.shape_of-a_starts_out
+shape_of-a_starts_out c = c.write_starts.auto.out
+
+pub shape_of-a_rows_out : goal.shape_of-a_rows_out
+shape_of-a_rows_out c = c.standard_a_rows.auto.out
+
+pub shape_of-a_values_out : goal.shape_of-a_values_out
+shape_of-a_values_out c = c.write_values.auto.out
+
+pub shape_of-b_out : goal.shape_of-b_out
+shape_of-b_out c = c.extend_values.auto.out
+
+pub shape_of-cones_out : goal.shape_of-cones_out
+shape_of-cones_out c = c.standard_cones.auto.out
+
+pub returns : goal.returns
+unfolding of_bits
+returns c =
+    let s = c.before.before.before.before.before.before.before.before.before.before.before.before.before.before.before.before.before.before.before.before.before.before.before.before.before.before.before.before.before.before.before in
+    let a = s.args in
+    let h = s.requires.accepted in
+    let e = s.requires.added in record {
+      a_starts = renamed a.a_starts_out.now (starts_A h a.k e) c.write_starts.ensures;
+      a_rows = renamed a.a_rows_out.now (rows_A h) c.standard_a_rows.ensures;
+      a_values = renamed a.a_values_out.now (values_A h a.k e) c.write_values.ensures;
+      b = renamed a.b_out.now (ap (λ (j : ℕ). a.b.now ++ replicate j zero64) e) c.extend_values.ensures;
+      cones = c.standard_cones.ensures;
+    }
+

@@ -1,0 +1,33 @@
+use Rattle.layout.proofs.Files.FileWalks.{pairs-written}
+use Rattle.layout.specs.Files.FileWords.{pairs_of}
+use Rattle.layout.specs.General.Lists.{written}
+use lib.Seq.{take_all}
+use lib.ListN.{set, length-set}
+use mathlib.Core.Path.{ap, ap₂, ◌∙◌}
+use mathlib.Core.List.{List}
+use Prim.Native.Nat.{ℕ, ◌-◌, ◌*◌}
+use native.Mathlib.Omega.{arith}
+use Rattle.file_bytes.proofs.write_patterns.Goals as goal
+
+pub loop-i-preserved : goal.loop-i-preserved
+loop-i-preserved c =
+    let l = c.before.before.before.before in
+    let s = l.before.before.before in
+    let ws = s.args.words.now in (
+      omega arith,
+      simp length-set l.loop-i.invariant.1,
+      ap₂ (λ (o : List ℕ) (v : ℕ). set o l.loop-i.i v) l.loop-i.invariant.2 c.pattern.ensures
+          ∙ pairs-written ws s.args.out.now l.loop-i.i (omega arith) (omega arith),
+    )
+
+
+pub shape_of-out : goal.shape_of-out
+shape_of-out c = c.loop-i.invariant.1
+
+pub returns : goal.returns
+returns c =
+    let l = c.before in
+    let s = l.before.before.before in
+    l.loop-i.invariant.2
+    ∙ ap (λ (r : List ℕ). written (pairs_of r) s.args.out.now) (take_all (2 * l.loop-i.i) s.args.words.now (omega arith))
+

@@ -1,0 +1,11 @@
+use Prim.Native.Nat.{ℕ, ◌+◌}
+use mathlib.Core.Path.{ap, ◌∙◌}
+use Rattle.layout.specs.General.Lists.{part, written}
+use Rattle.file_tables.proofs.copy_table.Goals as goal
+
+pub returns : goal.returns
+returns c =
+    let s = c.before.before.before.before.before.before.before.before in
+    c.copy_numbers.ensures
+    ∙ ap (λ (a : ℕ). written (part a (a + s.args.count) s.args.words.now) s.args.out.now) c.start_of-at.ensures.0
+

@@ -1,0 +1,44 @@
+use Prim.Native.Nat.{◌+◌, ◌-◌, ◌*◌}
+use native.Mathlib.Omega.{arith}
+use mathlib.Core.Path.{◌≡◌, sym, ◌∙◌}
+use mathlib.Core.Bool.{true}
+use lib.ListN.{length}
+use lib.Dec.{ltb}
+use borrow.Author.Tests.{not-true, not-false}
+use Rattle.layout.specs.General.Lists.{all, distinct}
+use Rattle.layout.proofs.Lists.Tests.{passes, and-true, and-false, and_right}
+use Rattle.utils.proofs.Windows.{window_none, window_more, repeats_within, windows_all}
+use Rattle.inverse_marks.proofs.permutation_by_windows.Goals as goal
+
+pub returns-then-not-all_below : goal.returns-then-not-all_below
+returns-then-not-all_below c = sym (and-false _ _ (sym c.all_below.ensures ∙ not-true _ c.if-not-all_below.true-raw))
+
+pub loop-window-init : goal.loop-window-init
+loop-window-init c = (omega arith, window_none c.args.words.now)
+
+pub returns-then-not-distinct_within : goal.returns-then-not-distinct_within
+returns-then-not-distinct_within c =
+    let ws = c.args.words.now in
+    sym (and_right (all (λ x. ltb x (length ws)) ws) (distinct ws) (repeats_within _ ws (sym c.distinct_within.ensures ∙ not-true _ c.if-not-distinct_within.true-raw)))
+
+
+pub loop-window-preserved : goal.loop-window-preserved
+loop-window-preserved c =
+    let d = c.before in
+    let l = d.before.before in
+    let ws = l.args.words.now in
+    let k = l.loop-window.window in
+    let e : k * 8388608 + 8388608 ≡ (k + 1) * 8388608 = omega arith in (
+      omega arith,
+      rw e at (window_more (k * 8388608) 8388608 ws l.loop-window.invariant.1 (passes _ (sym d.distinct_within.ensures ∙ not-false _ c.if-not-distinct_within.false-raw))),
+    )
+
+
+pub returns : goal.returns
+returns c =
+    let l = c.before in
+    let a = l.before.before in
+    let ws = a.args.words.now in
+    let every : all (λ x. ltb x (length ws)) ws ≡ true = sym a.all_below.ensures ∙ not-false _ l.if-not-all_below.false-raw in
+    sym (and-true _ _ every ∙ windows_all (length ws) (l.loop-window.window * 8388608) ws every c.loop-window-test.false l.loop-window.invariant.1)
+

@@ -1,0 +1,48 @@
+use Prim.Native.Nat.{◌-◌, ◌<◌}
+use mathlib.Core.Path.{refl, sym, ◌∙◌}
+use mathlib.Core.Bool.{false}
+use lib.ListN.{length, get_or, length-set}
+use lib.Dec.{ltb}
+use Rattle.layout.proofs.Lists.Tests.{differ}
+use Rattle.layout.proofs.Lists.Walks.{all-step, all_fails, all_done}
+use Rattle.utils.proofs.Scattered.{scattered-step, scattered-done}
+use native.Mathlib.Omega.{arith}
+use borrow.Author.Tests.{lt-ltb, le-ltb}
+use Rattle.inverse_permutation.proofs.place.Goals as goal
+
+pub loop-k-init : goal.loop-k-init
+loop-k-init c = (omega arith, refl, refl, refl)
+
+pub overflow_cast-w : goal.overflow_cast-w
+overflow_cast-w c = omega (arith, c.shared_slice_known-1.given c.loop-k.k)
+
+pub shape_of-table-then-p-w : goal.shape_of-table-then-p-w
+shape_of-table-then-p-w c = c.loop-k.invariant.1
+
+pub returns-then-p-w : goal.returns-then-p-w
+returns-then-p-w c =
+    let l = c.before.before.before in
+    let p = l.args.p.now in
+    let k = l.loop-k.k in record { value = sym (l.loop-k.invariant.2 ∙ all_fails (λ x. ltb x (length p)) p k 0 (omega arith) (le-ltb (get_or p k 0) (length p) c.if-p-w.true)); table_after = λ z. absurd (differ false z refl) }
+
+pub loop-k-preserved : goal.loop-k-preserved
+loop-k-preserved c =
+    let l = c.before.before.before in
+    let p = l.args.p.now in
+    let k = l.loop-k.k in
+    let h : k < length p = omega arith in (
+      omega arith,
+      simp length-set l.loop-k.invariant.1,
+      l.loop-k.invariant.2 ∙ all-step (λ x. ltb x (length p)) p k 0 h (lt-ltb (get_or p k 0) (length p) (omega arith)),
+      sym (scattered-step p l.loop-k.table k h) ∙ l.loop-k.invariant.3,
+    )
+
+
+pub shape_of-table : goal.shape_of-table
+shape_of-table c = c.loop-k.invariant.1
+
+pub returns : goal.returns
+returns c =
+    let l = c.before in
+    let p = l.args.p.now in
+    let k = l.loop-k.k in record { value = sym (l.loop-k.invariant.2 ∙ all_done (λ x. ltb x (length p)) p k c.loop-k-test.false); table_after = λ _. sym (scattered-done p l.loop-k.table k c.loop-k-test.false) ∙ l.loop-k.invariant.3 }

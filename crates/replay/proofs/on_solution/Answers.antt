@@ -1,0 +1,16 @@
+use mathlib.Core.Path.{sym}
+use lib.ListN.{length-replicate}
+use lib.Ieee.{Float, binary64, of_bits}
+use Rattle.replay.proofs.on_solution.Goals as goal
+
+pub slice_bounds-values_room-end : goal.slice_bounds-values_room-end
+slice_bounds-values_room-end c = sym (length-replicate {A = Float} 4096 (of_bits binary64 0))
+
+pub slice_bounds-values_room-end-2 : goal.slice_bounds-values_room-end-2
+slice_bounds-values_room-end-2 c = sym (length-replicate {A = Float} 4096 (of_bits binary64 0))
+
+pub slice_bounds-values_room-end-3 : goal.slice_bounds-values_room-end-3
+slice_bounds-values_room-end-3 c = sym (length-replicate {A = Float} 4096 (of_bits binary64 0))
+
+pub slice_bounds-values_room-end-4 : goal.slice_bounds-values_room-end-4
+slice_bounds-values_room-end-4 c = sym (length-replicate {A = Float} 4096 (of_bits binary64 0))

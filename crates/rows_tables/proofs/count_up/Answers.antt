@@ -1,0 +1,28 @@
+use Prim.Native.Nat.{ℕ, ◌-◌, ◌+◌}
+use mathlib.Core.Path.{◌≡◌, ap, ◌∙◌}
+use mathlib.Core.List.{List}
+use lib.ListN.{set, length-set}
+use Rattle.layout.specs.General.Lists.{up_from, written}
+use Rattle.rows_tables.proofs.Laws.{count_more}
+use native.Mathlib.Omega.{arith}
+use Rattle.rows_tables.proofs.count_up.Goals as goal
+
+pub loop-i-preserved : goal.loop-i-preserved
+loop-i-preserved c =
+    let l = c.before in
+    let a = l.args in (
+      omega arith,
+      simp length-set l.loop-i.invariant.1,
+      ap (λ (o : List ℕ). set o l.loop-i.i (a.first + l.loop-i.i)) l.loop-i.invariant.2
+          ∙ count_more a.out.now a.first l.loop-i.i (omega arith),
+    )
+
+
+pub shape_of-out : goal.shape_of-out
+shape_of-out c = c.loop-i.invariant.1
+
+pub returns : goal.returns
+returns c =
+    let l = c.before in
+    let a = l.args in
+    let e : l.loop-i.i ≡ a.count = omega arith in record { value = e; out_after = l.loop-i.invariant.2 ∙ ap (λ (k : ℕ). written (up_from a.first k) a.out.now) e }

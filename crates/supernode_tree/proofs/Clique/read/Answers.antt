@@ -1,0 +1,13 @@
+use mathlib.Core.Path.{sym, ◌∙◌}
+use borrow.Author.Tests.{not-true, not-false}
+use Rattle.supernode_tree.proofs.Many.{not-whole}
+use Rattle.supernode_tree.proofs.Clique.read.Goals as goal
+
+pub returns-then-not-stands : goal.returns-then-not-stands
+returns-then-not-stands c = record { result_value = sym (not-whole _ (sym c.stands.ensures ∙ not-true _ c.if-not-stands.true-raw)); clique_inside = tt }
+
+pub here-requires : goal.here-requires
+here-requires c = sym c.stands.ensures ∙ not-false _ c.if-not-stands.false-raw
+
+pub returns : goal.returns
+returns c = (let it = c.here.ensures in record { result_value = it.0; clique_inside = it.1 })

@@ -1,0 +1,63 @@
+use Prim.Native.Nat.{ℕ, ◌-◌, ◌<◌}
+use native.Mathlib.Omega.{arith}
+use mathlib.Core.Path.{◌≡◌, refl, sym, ◌∙◌}
+use mathlib.Core.Bool.{true, false}
+use mathlib.Core.List.{[]}
+use lib.ListN.{length, take, get_or, length-set}
+use borrow.Author.Tests.{eq-eqb, ne_eqb, not-true, not-false}
+use Rattle.layout.specs.General.Lists.{has}
+use Rattle.layout.proofs.Lists.Tests.{differ}
+use Rattle.utils.proofs.Windows.{take_more}
+use Rattle.utils.proofs.Passed.{passed_none, passed_more, passed_all, out-refused, met_refused}
+use Rattle.utils.proofs.Scattered.{scattered-step, scattered-done}
+use Rattle.utils.proofs.Placed.{placed_none, placed_more}
+use Rattle.utils.proofs.invperm.Goals as goal
+
+pub loop-k-init : goal.loop-k-init
+loop-k-init c = (omega arith, refl, rw c.requires.table_value (placed_none 4294967295 (length c.args.table.now)), passed_none c.args.words.now, refl)
+
+pub overflow_cast-w : goal.overflow_cast-w
+overflow_cast-w c = omega (arith, c.shared_slice_known-1.given c.loop-k.k)
+
+pub shape_of-table-then-words-w : goal.shape_of-table-then-words-w
+shape_of-table-then-words-w c = c.loop-k.invariant.1
+
+pub returns-then-words-w : goal.returns-then-words-w
+returns-then-words-w c =
+    let l = c.before.before.before in record { value = sym (out-refused l.args.words.now l.loop-k.k (omega arith) (omega arith) l.loop-k.invariant.3); table_after = λ z. absurd (differ false z refl) }
+
+pub shape_of-table-then-table-w : goal.shape_of-table-then-table-w
+shape_of-table-then-table-w c = c.loop-k.invariant.1
+
+pub returns-then-table-w : goal.returns-then-table-w
+returns-then-table-w c =
+    let l = c.before.before.before.before.before in
+    let ws = l.args.words.now in
+    let k = l.loop-k.k in
+    let x : ℕ = get_or ws k 0 in
+    let met : has x (take k ws) ≡ true = not-false _ (sym (l.loop-k.invariant.2 x (omega arith)) ∙ ne_eqb (get_or l.loop-k.table x 0) 4294967295 c.if-table-w.true) in record { value = sym (met_refused ws k (omega arith) (omega arith) met); table_after = λ z. absurd (differ false z refl) }
+
+pub loop-k-preserved : goal.loop-k-preserved
+loop-k-preserved c =
+    let l = c.before.before.before.before.before in
+    let ws = l.args.words.now in
+    let k = l.loop-k.k in
+    let x : ℕ = get_or ws k 0 in
+    let h : k < length ws = omega arith in
+    let new : has x (take k ws) ≡ false = not-true _ (sym (l.loop-k.invariant.2 x (omega arith)) ∙ eq-eqb (get_or l.loop-k.table x 0) 4294967295 c.if-table-w.false) in (
+      omega arith,
+      simp length-set l.loop-k.invariant.1,
+      rw (take_more [] ws k h) (placed_more 4294967295 l.loop-k.table (take k ws) x k (omega arith) (λ e. omega arith) l.loop-k.invariant.2),
+      passed_more ws k h (omega arith) new l.loop-k.invariant.3,
+      sym (scattered-step ws l.loop-k.table k h) ∙ l.loop-k.invariant.4,
+    )
+
+
+pub shape_of-table : goal.shape_of-table
+shape_of-table c = c.loop-k.invariant.1
+
+pub returns : goal.returns
+returns c =
+    let l = c.before in
+    let ws = l.args.words.now in
+    let k = l.loop-k.k in record { value = sym (passed_all ws k c.loop-k-test.false l.loop-k.invariant.3); table_after = λ _. sym (scattered-done ws l.loop-k.table k c.loop-k-test.false) ∙ l.loop-k.invariant.4 }
