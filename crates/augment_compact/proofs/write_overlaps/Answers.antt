@@ -8,4 +8,4 @@ use Rattle.augment_compact.proofs.write_overlaps.Goals as goal
 pub returns : goal.returns
 unfolding of_bits neg
 returns c =
-    let s = c.before.before.before.before.before.before.before.before.before.before.before in record { behind = λ xs old e l f. written_after xs (tied_rows 0 s.args.codes.now) old s.args.count e l f c.write_overlap_rows.ensures; behind_2 = λ xs old e l f. written_after xs (pair_values minus_one64 one64 s.args.k) old s.args.count e l f c.write_pairs.ensures }
+    record { behind = λ xs old e l f. written_after xs (tied_rows 0 c.args.codes.now) old c.args.count e l f c.write_overlap_rows.ensures; behind_2 = λ xs old e l f. written_after xs (pair_values minus_one64 one64 c.args.k) old c.args.count e l f c.write_pairs.ensures }

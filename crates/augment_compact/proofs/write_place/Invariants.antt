@@ -8,7 +8,5 @@ abbrev pub invariant-loop-r : goal.invariant-loop-r
 invariant-loop-r l =
     (l.r ≤ length l.codes) × (length l.place ≡ length l.initial.place) × (row_table l.r (drop l.r l.codes) l.place ≡ row_table 0 l.codes l.initial.place)
 
-
 abbrev pub decreases-loop-r : goal.decreases-loop-r
 decreases-loop-r l = length l.codes - l.r
-

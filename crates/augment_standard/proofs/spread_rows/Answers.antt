@@ -12,22 +12,18 @@ bounds-out-t-in-loop-i c = simp length-set (omega arith)
 
 pub loop-i-preserved : goal.loop-i-preserved
 loop-i-preserved c =
-    let l = c.before.before in
-    let a = l.args in (
+    let a = c.args in (
       omega arith,
       omega arith,
-      simp length-set l.loop-i.invariant.2,
-      spread_more a.m a.k a.out.now l.requires.0 l.loop-i.i l.loop-i.t l.loop-i.out (omega arith) l.loop-i.invariant.1 l.loop-i.invariant.3,
+      simp length-set c.loop-i.invariant.2,
+      spread_more a.m a.k a.out.now c.requires.0 c.loop-i.i c.loop-i.t c.loop-i.out (omega arith) c.loop-i.invariant.1 c.loop-i.invariant.3,
     )
-
 
 pub shape_of-out : goal.shape_of-out
 shape_of-out c = c.loop-i.invariant.2
 
 pub returns : goal.returns
 returns c =
-    let s = c.before.before in
-    let a = s.args in
+    let a = c.args in
     c.loop-i.invariant.3
-    ∙ ap (λ (rows : List ℕ). written rows a.out.now) (spread_done a.m a.k a.out.now s.requires.0 c.loop-i.i c.loop-i-test.false)
-
+    ∙ ap (λ (rows : List ℕ). written rows a.out.now) (spread_done a.m a.k a.out.now c.requires.0 c.loop-i.i c.loop-i-test.false)

@@ -9,16 +9,14 @@ use Rattle.augment_standard.proofs.write_h_starts.Goals as goal
 
 pub loop-i-preserved : goal.loop-i-preserved
 loop-i-preserved c =
-    let l = c.before in
-    let a = l.args in
-    let i = l.loop-i.i in (
+    let a = c.args in
+    let i = c.loop-i.i in (
       omega arith,
       omega arith,
-      simp length-set l.loop-i.invariant.2,
-      rw (l.loop-i.invariant.3, starts_more a.entries i l.loop-i.end l.loop-i.invariant.1)
-          (set-written (h_starts a.entries i) a.out.now (l.loop-i.end + 2) i (sym (length-h_starts a.entries i)) (omega arith)),
+      simp length-set c.loop-i.invariant.2,
+      rw (c.loop-i.invariant.3, starts_more a.entries i c.loop-i.end c.loop-i.invariant.1)
+          (set-written (h_starts a.entries i) a.out.now (c.loop-i.end + 2) i (sym (length-h_starts a.entries i)) (omega arith)),
     )
-
 
 pub shape_of-out : goal.shape_of-out
 shape_of-out c = c.loop-i.invariant.2

@@ -4,13 +4,9 @@ use Rattle.augment_standard.specs.Beside.{h_starts}
 use Rattle.augment_standard.proofs.Columns.{length-h_starts}
 use lib.ListN.{length}
 use mathlib.Core.Path.{refl}
-
 use Rattle.augment_standard.proofs.write_starts.Goals as goal
 
 pub returns : goal.returns
 returns c =
-    let f = c.before.before in
-    let g = f.before.before.before.before in
-    let a = g.args in
-    written_after a.starts.now (h_starts a.entries a.k) a.out.now (length a.starts.now) refl (omega (arith, length-h_starts a.entries a.k)) g.copy_numbers.ensures f.write_h_starts.ensures
-
+    let a = c.args in
+    written_after a.starts.now (h_starts a.entries a.k) a.out.now (length a.starts.now) refl (omega (arith, length-h_starts a.entries a.k)) c.copy_numbers.ensures c.write_h_starts.ensures

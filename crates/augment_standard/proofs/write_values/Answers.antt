@@ -6,14 +6,10 @@ use Rattle.augment_standard.proofs.Columns.{length_pairs}
 use Rattle.layout.proofs.Lists.Buffers.{written_after}
 use lib.ListN.{length}
 use mathlib.Core.Path.{refl}
-
 use Rattle.augment_standard.proofs.write_values.Goals as goal
 
 pub returns : goal.returns
 unfolding of_bits neg
 returns c =
-    let f = c.before.before in
-    let g = f.before.before.before.before in
-    let a = g.args in
-    written_after a.values.now (pair_values one64 minus_one64 a.k) a.out.now (length a.values.now) refl (omega (arith, length_pairs one64 minus_one64 a.k)) g.copy_values.ensures f.write_pairs.ensures
-
+    let a = c.args in
+    written_after a.values.now (pair_values one64 minus_one64 a.k) a.out.now (length a.values.now) refl (omega (arith, length_pairs one64 minus_one64 a.k)) c.copy_values.ensures c.write_pairs.ensures

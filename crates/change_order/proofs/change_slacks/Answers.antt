@@ -11,12 +11,11 @@ use Rattle.change_order.proofs.change_slacks.Goals as goal
 
 pub move_parts-requires : goal.move_parts-requires
 move_parts-requires c =
-    let s = c.before.before.before.before.before.before.before.before.before.before in record { sound = s.requires.sound; words_in_bounds = (simp (length-take, length-drop) (omega (arith, s.requires.words_in_bounds.0)), simp (length-take, length-drop) (omega (arith, s.requires.words_in_bounds.1))); words_in_bounds_2 = s.requires.words_in_bounds_2 }
+    record { sound = c.requires.sound; words_in_bounds = (simp (length-take, length-drop) (omega (arith, c.requires.words_in_bounds.0)), simp (length-take, length-drop) (omega (arith, c.requires.words_in_bounds.1))); words_in_bounds_2 = c.requires.words_in_bounds_2 }
 
 pub returns : goal.returns
 returns c =
-    let w = c.before.before.before.before in
-    let a = w.args in
+    let a = c.args in
     let ps = joined_parts a.cones.now a.count a.words.now in
     let put : List Float → List Float → List Float = λ out vs. written (compact_order ps vs) out in
-    let done = w.move_parts.ensures in record { s_out_after = done.0 ∙ ap (put a.s_out.now) (rest-whole a.m a.s.now); z_out_after = done.1 ∙ ap (put a.z_out.now) (rest-whole a.m a.z.now) }
+    let done = c.move_parts.ensures in record { s_out_after = done.0 ∙ ap (put a.s_out.now) (rest-whole a.m a.s.now); z_out_after = done.1 ∙ ap (put a.z_out.now) (rest-whole a.m a.z.now) }

@@ -6,15 +6,11 @@ use Rattle.change_order.proofs.change_x.Goals as goal
 
 pub slice_bounds-extend_values-end : goal.slice_bounds-extend_values-end
 slice_bounds-extend_values-end c =
-    let s = c.before.before.before.before in
-    sym (length-take-le s.args.n s.args.x.now (omega arith))
-
+    sym (length-take-le c.args.n c.args.x.now (omega arith))
 
 pub extend_values-requires : goal.extend_values-requires
 extend_values-requires c =
-    let s = c.before.before.before.before in
-    omega (arith, length-take-le s.args.n s.args.x.now (omega arith))
-
+    omega (arith, length-take-le c.args.n c.args.x.now (omega arith))
 
 pub returns : goal.returns
 unfolding of_bits

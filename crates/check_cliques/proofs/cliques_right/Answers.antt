@@ -3,7 +3,7 @@ use lib.ListN.{drop}
 use Rattle.check_cliques.proofs.cliques_right.Goals as goal
 
 pub here-p-requires : goal.here-p-requires
-here-p-requires c = let s = c.before in head_of_whole (drop s.args.at s.args.words.now) s.requires.0
+here-p-requires c = head_of_whole (drop c.args.at c.args.words.now) c.requires.0
 
 pub few_cliques_right-requires : goal.few_cliques_right-requires
 few_cliques_right-requires c = c.requires

@@ -17,32 +17,25 @@ loop-j-init c = (omega arith, refl, refl)
 
 pub mark_column-requires : goal.mark_column-requires
 mark_column-requires c =
-    let i = c.before in
-    let l = i.before in
-    let s = l.before.before.before in record { j_in_bounds = (i.loop-j-test.true, s.requires.0); block_fits = (s.requires.1 l.loop-j.j i.loop-j-test.true, rw l.loop-j.invariant.1 (s.requires.2 l.loop-j.j i.loop-j-test.true)) }
+    record { j_in_bounds = (c.loop-j-test.true, c.requires.0); block_fits = (c.requires.1 c.loop-j.j c.loop-j-test.true, rw c.loop-j.invariant.1 (c.requires.2 c.loop-j.j c.loop-j-test.true)) }
 
 pub loop-j-preserved : goal.loop-j-preserved
 loop-j-preserved c =
-    let r = c.before.before in
-    let l = r.before.before.before in
-    let a = l.args in
+    let a = c.args in
     let f = pair_row a.base in
     let vs = a.vertices.now in (
       omega arith,
-      r.mark_column.auto.covered ∙ l.loop-j.invariant.1,
-      r.mark_column.ensures ∙ ap (marked true (map f (column_pairs vs l.loop-j.j))) l.loop-j.invariant.2
-          ∙ sym (marked_append true (columns_below f vs l.loop-j.j) (map f (column_pairs vs l.loop-j.j)) a.covered.now)
-          ∙ ap (λ (os : List ℕ). marked true os a.covered.now) (sym (columns_more f vs l.loop-j.j)),
+      c.mark_column.auto.covered ∙ c.loop-j.invariant.1,
+      c.mark_column.ensures ∙ ap (marked true (map f (column_pairs vs c.loop-j.j))) c.loop-j.invariant.2
+          ∙ sym (marked_append true (columns_below f vs c.loop-j.j) (map f (column_pairs vs c.loop-j.j)) a.covered.now)
+          ∙ ap (λ (os : List ℕ). marked true os a.covered.now) (sym (columns_more f vs c.loop-j.j)),
     )
-
 
 pub shape_of-covered : goal.shape_of-covered
 shape_of-covered c = c.loop-j.invariant.1
 
 pub returns : goal.returns
 returns c =
-    let l = c.before in
-    let a = l.args in
-    let e : l.loop-j.j ≡ length a.vertices.now = omega arith in
-    l.loop-j.invariant.2 ∙ ap (λ (n : ℕ). marked true (columns_below (pair_row a.base) a.vertices.now n) a.covered.now) e
-
+    let a = c.args in
+    let e : c.loop-j.j ≡ length a.vertices.now = omega arith in
+    c.loop-j.invariant.2 ∙ ap (λ (n : ℕ). marked true (columns_below (pair_row a.base) a.vertices.now n) a.covered.now) e

@@ -11,7 +11,5 @@ abbrev pub invariant-loop-j : goal.invariant-loop-j
 invariant-loop-j l =
     (l.j ≤ length l.vertices) × (length l.covered ≡ length l.initial.covered) × (l.covered ≡ marked true (columns_below (pair_row l.base) l.vertices l.j) l.initial.covered)
 
-
 abbrev pub decreases-loop-j : goal.decreases-loop-j
 decreases-loop-j l = length l.vertices - l.j
-

@@ -14,7 +14,5 @@ invariant-loop-c l =
     (l.c ≤ length l.offsets) × (length l.covered ≡ length l.initial.covered)
     × (marked true (join f (reverse (take l.c l.offsets))) l.covered ≡ marked true (join f (reverse l.offsets)) l.initial.covered)
 
-
 abbrev pub decreases-loop-c : goal.decreases-loop-c
 decreases-loop-c l = l.c
-

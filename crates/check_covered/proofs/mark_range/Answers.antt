@@ -11,15 +11,12 @@ loop-i-init c = (omega arith, refl, range_start c.args.first c.args.count c.args
 
 pub loop-i-preserved : goal.loop-i-preserved
 loop-i-preserved c =
-    let l = c.before in (
+    (
       omega arith,
-      simp length-set l.loop-i.invariant.1,
-      sym (range_step l.args.first l.args.count l.loop-i.i l.loop-i.covered c.loop-i-test.true) ∙ l.loop-i.invariant.2,
+      simp length-set c.loop-i.invariant.1,
+      sym (range_step c.args.first c.args.count c.loop-i.i c.loop-i.covered c.loop-i-test.true) ∙ c.loop-i.invariant.2,
     )
-
 
 pub returns : goal.returns
 returns c =
-    let l = c.before in
-    sym (range_done l.args.first l.args.count l.loop-i.i l.loop-i.covered c.loop-i-test.false) ∙ l.loop-i.invariant.2
-
+    sym (range_done c.args.first c.args.count c.loop-i.i c.loop-i.covered c.loop-i-test.false) ∙ c.loop-i.invariant.2

@@ -11,7 +11,5 @@ invariant-loop-i l =
     (l.i ≤ l.count) × (length l.covered ≡ length l.initial.covered)
     × (marked true (up_from (l.first + l.i) (l.count - l.i)) l.covered ≡ marked true (up_from l.first l.count) l.initial.covered)
 
-
 abbrev pub decreases-loop-i : goal.decreases-loop-i
 decreases-loop-i l = l.count - l.i
-

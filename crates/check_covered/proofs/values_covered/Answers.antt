@@ -12,24 +12,19 @@ use Rattle.check_covered.proofs.values_covered.Goals.{then-not-may_have, else-no
 
 pub loop-i-preserved : goal.loop-i-preserved
 loop-i-preserved c =
-    let r = c.before in
-    let l = r.before.before.before.before in
-    let a = l.args in
+    let a = c.args in
     let b = a.b.now in
-    let i = l.loop-i.i in
+    let i = c.loop-i.i in
     let right = fine a.covered.now b in
-    let left : Bool → Bool = λ h. l.loop-i.holds && h in
+    let left : Bool → Bool = λ h. c.loop-i.holds && h in
     let next : Bool → Bool = λ h. h && all right (drop (i + 1) (below (length b))) in
     elim c.if-not-may_have.branch [
-      | then-not-may_have w ↦ (omega arith, l.loop-i.invariant.1 ∙ ap left (below_fails right (length b) i (omega arith) (sym r.may_have.ensures ∙ not-true _ w.if-not-may_have.true)) ∙ and-false l.loop-i.holds ∙ ap next (sym w.holds-is))
-      | else-not-may_have w ↦ (omega arith, l.loop-i.invariant.1 ∙ ap left (below_step right (length b) i (omega arith) (sym r.may_have.ensures ∙ not-false _ w.if-not-may_have.false)) ∙ ap next (sym w.holds-is))
+      | then-not-may_have w ↦ (omega arith, c.loop-i.invariant.1 ∙ ap left (below_fails right (length b) i (omega arith) (sym c.may_have.ensures ∙ not-true _ w.if-not-may_have.true)) ∙ and-false c.loop-i.holds ∙ ap next (sym w.holds-is))
+      | else-not-may_have w ↦ (omega arith, c.loop-i.invariant.1 ∙ ap left (below_step right (length b) i (omega arith) (sym c.may_have.ensures ∙ not-false _ w.if-not-may_have.false)) ∙ ap next (sym w.holds-is))
     ]
-
 
 pub returns : goal.returns
 returns c =
-    let l = c.before in
-    let a = l.args in
-    let left : Bool → Bool = λ h. l.loop-i.holds && h in
-    sym (l.loop-i.invariant.1 ∙ ap left (below-done (fine a.covered.now a.b.now) (length a.b.now) l.loop-i.i c.loop-i-test.false) ∙ and-true l.loop-i.holds)
-
+    let a = c.args in
+    let left : Bool → Bool = λ h. c.loop-i.holds && h in
+    sym (c.loop-i.invariant.1 ∙ ap left (below-done (fine a.covered.now a.b.now) (length a.b.now) c.loop-i.i c.loop-i-test.false) ∙ and-true c.loop-i.holds)

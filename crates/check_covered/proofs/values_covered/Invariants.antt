@@ -17,7 +17,5 @@ fine covered b r = eq (get_or b r nan) zero64 || get_or covered r false
 abbrev pub invariant-loop-i : goal.invariant-loop-i
 invariant-loop-i l = (l.i ≤ length l.b) × (values_marked l.covered l.b ≡ (l.holds && all (fine l.covered l.b) (drop l.i (below (length l.b)))))
 
-
 abbrev pub decreases-loop-i : goal.decreases-loop-i
 decreases-loop-i l = length l.b - l.i
-

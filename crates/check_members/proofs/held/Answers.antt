@@ -43,41 +43,30 @@ loop-j-smaller c = omega (arith, c.if-ms-j.false)
 
 pub loop-j-preserved : goal.loop-j-preserved
 loop-j-preserved c =
-    let l = c.before.before.before in
-    let w = l.before.before.before in
-    let ms = w.args.ms.now in
-    (one_more c.if-ms-j.false, λ z. l.loop-j.invariant.1 z ∙ has-step _ ms l.loop-j.j c.if-ms-j.false c.if-x-ms.false, l.loop-j.invariant.2)
-
+    let ms = c.args.ms.now in
+    (one_more c.if-ms-j.false, λ z. c.loop-j.invariant.1 z ∙ has-step _ ms c.loop-j.j c.if-ms-j.false c.if-x-ms.false, c.loop-j.invariant.2)
 
 pub walk-smaller : goal.walk-smaller
 walk-smaller c = one_less c.walk-test.true
 
 pub walk-preserved : goal.walk-preserved
 walk-preserved c =
-    let l = c.before.before.before in
-    let w = l.before.before.before in
-    let us = w.args.us.now in
-    let ms = w.args.ms.now in (
-      one_more l.walk-test.true,
+    let us = c.args.us.now in
+    let ms = c.args.ms.now in (
+      one_more c.walk-test.true,
       one_more c.if-ms-j.false,
-      w.walk.invariant.2 ∙ all-step (λ u. has u ms) us w.walk.i 0 l.walk-test.true (found _ ms l.loop-j.j c.if-ms-j.false c.if-x-ms.true),
-      l.loop-j.invariant.2,
+      c.walk.invariant.2 ∙ all-step (λ u. has u ms) us c.walk.i 0 c.walk-test.true (found _ ms c.loop-j.j c.if-ms-j.false c.if-x-ms.true),
+      c.loop-j.invariant.2,
     )
-
 
 pub returns-after-walk : goal.returns-after-walk
 returns-after-walk c =
-    let w = c.before in
-    let us = w.args.us.now in
-    let ms = w.args.ms.now in
-    w.walk.invariant.3 ∙ sym (w.walk.invariant.2 ∙ all_done (λ u. has u ms) us w.walk.i c.walk-test.false)
-
+    let us = c.args.us.now in
+    let ms = c.args.ms.now in
+    c.walk.invariant.3 ∙ sym (c.walk.invariant.2 ∙ all_done (λ u. has u ms) us c.walk.i c.walk-test.false)
 
 pub returns-then-around : goal.returns-then-around
 returns-then-around c =
-    let l = c.before.before in
-    let w = l.before.before.before in
-    let us = w.args.us.now in
-    let ms = w.args.ms.now in
-    sym (w.walk.invariant.2 ∙ all_fails (λ u. has u ms) us w.walk.i 0 l.walk-test.true (l.loop-j.invariant.1 c.if-around.true ∙ has_nowhere _ ms l.loop-j.j c.if-ms-j.true))
-
+    let us = c.args.us.now in
+    let ms = c.args.ms.now in
+    sym (c.walk.invariant.2 ∙ all_fails (λ u. has u ms) us c.walk.i 0 c.walk-test.true (c.loop-j.invariant.1 c.if-around.true ∙ has_nowhere _ ms c.loop-j.j c.if-ms-j.true))

@@ -8,15 +8,11 @@ use Rattle.check_members.proofs.held.Given as goal
 abbrev pub invariant-loop-j : goal.invariant-loop-j
 invariant-loop-j l = (l.j ≤ length l.ms) × (l.around ≡ true → has l.x l.ms ≡ has l.x (drop l.j l.ms)) × (l.ok ≡ true)
 
-
 abbrev pub decreases-loop-j : goal.decreases-loop-j
 decreases-loop-j l = cond l.around 0 (length l.ms + 1) + (length l.ms - l.j)
-
 
 abbrev pub invariant-walk : goal.invariant-walk
 invariant-walk l = (l.i ≤ length l.us) × (l.j ≤ length l.ms) × (all (λ u. has u l.ms) l.us ≡ all (λ u. has u l.ms) (drop l.i l.us)) × (l.ok ≡ true)
 
-
 abbrev pub decreases-walk : goal.decreases-walk
 decreases-walk l = length l.us - l.i
-

@@ -9,20 +9,14 @@ loop-i-init c = (omega arith, refl)
 
 pub returns-then-stands_from : goal.returns-then-stands_from
 returns-then-stands_from c =
-    let l = c.before.before.before.before in
-    let a = l.args.a.now in
-    sym (l.loop-i.invariant.1 ∙ distinct-not a l.loop-i.i (omega arith) (sym c.stands_from.ensures ∙ c.if-stands_from.true))
-
+    let a = c.args.a.now in
+    sym (c.loop-i.invariant.1 ∙ distinct-not a c.loop-i.i (omega arith) (sym c.stands_from.ensures ∙ c.if-stands_from.true))
 
 pub loop-i-preserved : goal.loop-i-preserved
 loop-i-preserved c =
-    let l = c.before.before.before.before in
-    let a = l.args.a.now in
-    (omega arith, l.loop-i.invariant.1 ∙ distinct-step a l.loop-i.i (omega arith) (sym c.stands_from.ensures ∙ c.if-stands_from.false))
-
+    let a = c.args.a.now in
+    (omega arith, c.loop-i.invariant.1 ∙ distinct-step a c.loop-i.i (omega arith) (sym c.stands_from.ensures ∙ c.if-stands_from.false))
 
 pub returns : goal.returns
 returns c =
-    let l = c.before in
-    sym (l.loop-i.invariant.1 ∙ distinct-done l.args.a.now l.loop-i.i c.loop-i-test.false)
-
+    sym (c.loop-i.invariant.1 ∙ distinct-done c.args.a.now c.loop-i.i c.loop-i-test.false)

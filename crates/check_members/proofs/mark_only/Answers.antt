@@ -14,9 +14,7 @@ use Rattle.check_members.proofs.mark_only.Goals as goal
 
 pub loop-i-init : goal.loop-i-init
 loop-i-init c =
-    let s = c.before.before.before.before.before.before in
-    (omega arith, refl, rw c.clear.ensures (marked-none s.args.low (length s.args.marks.now)))
-
+    (omega arith, refl, rw c.clear.ensures (marked-none c.args.low (length c.args.marks.now)))
 
 pub bounds-words-i : goal.bounds-words-i
 bounds-words-i c = c.loop-i-test.true
@@ -29,32 +27,26 @@ loop-i-smaller-then-x-low c = one_less c.loop-i-test.true
 
 pub loop-i-preserved-then-x-low : goal.loop-i-preserved-then-x-low
 loop-i-preserved-then-x-low c =
-    let l = c.before.before.before in
-    let s = l.before.before.before.before.before.before.before in
-    let ws = s.args.words.now in
-    let i = l.loop-i.i in
+    let ws = c.args.words.now in
+    let i = c.loop-i.i in
     let h = c.loop-i-test.true in (
       one_more h,
-      l.loop-i.invariant.1,
-      subst (Marked s.args.low l.loop-i.marks) (sym (take_more [] ws i h)) (marked-out s.args.low l.loop-i.marks (take i ws) (get_or ws i 0) (inl c.if-x-low.true) l.loop-i.invariant.2),
+      c.loop-i.invariant.1,
+      subst (Marked c.args.low c.loop-i.marks) (sym (take_more [] ws i h)) (marked-out c.args.low c.loop-i.marks (take i ws) (get_or ws i 0) (inl c.if-x-low.true) c.loop-i.invariant.2),
     )
-
 
 pub loop-i-smaller-then-marks-v : goal.loop-i-smaller-then-marks-v
 loop-i-smaller-then-marks-v c = one_less c.loop-i-test.true
 
 pub loop-i-preserved-then-marks-v : goal.loop-i-preserved-then-marks-v
 loop-i-preserved-then-marks-v c =
-    let l = c.before.before.before.before in
-    let s = l.before.before.before.before.before.before.before in
-    let ws = s.args.words.now in
-    let i = l.loop-i.i in
+    let ws = c.args.words.now in
+    let i = c.loop-i.i in
     let h = c.loop-i-test.true in (
       one_more h,
-      l.loop-i.invariant.1,
-      subst (Marked s.args.low l.loop-i.marks) (sym (take_more [] ws i h)) (marked-out s.args.low l.loop-i.marks (take i ws) (get_or ws i 0) (inr (past_window c.if-x-low.false c.if-marks-v.true)) l.loop-i.invariant.2),
+      c.loop-i.invariant.1,
+      subst (Marked c.args.low c.loop-i.marks) (sym (take_more [] ws i h)) (marked-out c.args.low c.loop-i.marks (take i ws) (get_or ws i 0) (inr (past_window c.if-x-low.false c.if-marks-v.true)) c.loop-i.invariant.2),
     )
-
 
 pub bounds-marks-v : goal.bounds-marks-v
 bounds-marks-v c = c.if-marks-v.false
@@ -64,22 +56,17 @@ loop-i-smaller c = one_less c.loop-i-test.true
 
 pub loop-i-preserved : goal.loop-i-preserved
 loop-i-preserved c =
-    let l = c.before.before.before.before in
-    let s = l.before.before.before.before.before.before.before in
-    let ws = s.args.words.now in
-    let low = s.args.low in
-    let i = l.loop-i.i in
+    let ws = c.args.words.now in
+    let low = c.args.low in
+    let i = c.loop-i.i in
     let x : ℕ = get_or ws i 0 in
     let h = c.loop-i-test.true in (
       one_more h,
-      length-set l.loop-i.marks (x - low) true ∙ l.loop-i.invariant.1,
-      subst (Marked low (set l.loop-i.marks (x - low) true)) (sym (take_more [] ws i h)) (marked_in low l.loop-i.marks (take i ws) x (x - low) (sym (in_window c.if-x-low.false)) c.if-marks-v.false l.loop-i.invariant.2),
+      length-set c.loop-i.marks (x - low) true ∙ c.loop-i.invariant.1,
+      subst (Marked low (set c.loop-i.marks (x - low) true)) (sym (take_more [] ws i h)) (marked_in low c.loop-i.marks (take i ws) x (x - low) (sym (in_window c.if-x-low.false)) c.if-marks-v.false c.loop-i.invariant.2),
     )
-
 
 pub returns : goal.returns
 returns c =
-    let l = c.before in
-    let ws = l.args.words.now in
-    rw (take_all l.loop-i.i ws c.loop-i-test.false) at l.loop-i.invariant.2
-
+    let ws = c.args.words.now in
+    rw (take_all c.loop-i.i ws c.loop-i-test.false) at c.loop-i.invariant.2

@@ -15,6 +15,4 @@ once_in_by-requires c = record { us_value = sym c.all_below.ensures ∙ not-fals
 
 pub returns : goal.returns
 returns c =
-    let b = c.before.before.before in
-    c.once_in_by.ensures ∙ sym (and-true _ _ (sym b.all_below.ensures ∙ not-false _ b.if-not-all_below.false-raw))
-
+    c.once_in_by.ensures ∙ sym (and-true _ _ (sym c.all_below.ensures ∙ not-false _ c.if-not-all_below.false-raw))

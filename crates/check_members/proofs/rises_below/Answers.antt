@@ -16,17 +16,13 @@ overflow_cast-v c = omega (arith, c.shared_slice_known-1.given c.loop-i.i)
 
 pub returns-then-v-least : goal.returns-then-v-least
 returns-then-v-least c =
-    let l = c.before.before.before in
-    let s = l.args in
-    sym (l.loop-i.invariant.1 ∙ rises_falls l.loop-i.least s.n s.us.now l.loop-i.i c.loop-i-test.true c.if-v-least.true)
-
+    let s = c.args in
+    sym (c.loop-i.invariant.1 ∙ rises_falls c.loop-i.least s.n s.us.now c.loop-i.i c.loop-i-test.true c.if-v-least.true)
 
 pub returns-then-n-v : goal.returns-then-n-v
 returns-then-n-v c =
-    let l = c.before.before.before.before in
-    let s = l.args in
-    sym (l.loop-i.invariant.1 ∙ rises_above l.loop-i.least s.n s.us.now l.loop-i.i c.loop-i-test.true c.if-n-v.true)
-
+    let s = c.args in
+    sym (c.loop-i.invariant.1 ∙ rises_above c.loop-i.least s.n s.us.now c.loop-i.i c.loop-i-test.true c.if-n-v.true)
 
 pub overflow_add-least : goal.overflow_add-least
 overflow_add-least c = omega (arith, c.shared_slice_known-1.given c.loop-i.i)
@@ -36,14 +32,10 @@ loop-i-smaller c = one_less c.loop-i-test.true
 
 pub loop-i-preserved : goal.loop-i-preserved
 loop-i-preserved c =
-    let l = c.before.before.before.before in
-    let s = l.args in
-    (one_more c.loop-i-test.true, l.loop-i.invariant.1 ∙ rises-step l.loop-i.least s.n s.us.now l.loop-i.i c.loop-i-test.true c.if-v-least.false c.if-n-v.false)
-
+    let s = c.args in
+    (one_more c.loop-i-test.true, c.loop-i.invariant.1 ∙ rises-step c.loop-i.least s.n s.us.now c.loop-i.i c.loop-i-test.true c.if-v-least.false c.if-n-v.false)
 
 pub returns : goal.returns
 returns c =
-    let l = c.before in
-    let s = l.args in
-    sym (l.loop-i.invariant.1 ∙ rises-done l.loop-i.least s.n s.us.now l.loop-i.i c.loop-i-test.false)
-
+    let s = c.args in
+    sym (c.loop-i.invariant.1 ∙ rises-done c.loop-i.least s.n s.us.now c.loop-i.i c.loop-i-test.false)

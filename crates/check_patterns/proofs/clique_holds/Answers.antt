@@ -14,7 +14,6 @@ returns-in_default c =
     let s = c.args in
     ap (clique_right s.count s.c) (ap (clique_read s.words.now) (sym c.enum_told-1.given.1) ∙ c.read.ensures.result_value)
 
-
 pub returns-then-q-eq0 : goal.returns-then-q-eq0
 returns-then-q-eq0 c =
     let g = c.q-1.given in
@@ -24,7 +23,6 @@ returns-then-q-eq0 c =
     let ws = s.words.now in
     sym (clique_is ws s.at s.c s.count q (clique-found ws s.at _ q r.ensures.result_value g.1) (subst (CliqueInside (length ws) s.at) g.1 r.ensures.clique_inside)
     ∙ and-false _ _ (ap not (eq-eqb q.snode_count 0 c.if-q-eq0.true)))
-
 
 pub parent_right-requires : goal.parent_right-requires
 parent_right-requires c = c.requires
@@ -38,4 +36,3 @@ returns c =
     let ws = s.words.now in
     c.parent_right.ensures ∙ sym (clique_is ws s.at s.c s.count q (clique-found ws s.at _ q r.ensures.result_value g.1) (subst (CliqueInside (length ws) s.at) g.1 r.ensures.clique_inside)
     ∙ and-true _ _ (ap not (ne_eqb q.snode_count 0 c.if-q-eq0.false)))
-

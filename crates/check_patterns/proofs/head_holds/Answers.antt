@@ -10,7 +10,6 @@ returns-in_default c =
     let s = c.args in
     ap (head_right s.cones.now s.least) (ap (pattern_read s.words.now) (sym c.enum_told-1.given.1) ∙ c.read.ensures.result_value)
 
-
 pub returns-then-p-least : goal.returns-then-p-least
 returns-then-p-least c =
     let g = c.p-1.given in
@@ -19,7 +18,6 @@ returns-then-p-least c =
     let ws = s.words.now in
     let e = head-found ws s.at _ p c.read.ensures.result_value g.1 in
     sym (ap (head_right s.cones.now s.least) e ∙ rw (lt-leb s.least p.orig_index c.if-p-least.true))
-
 
 pub returns-then-p-eq0 : goal.returns-then-p-eq0
 returns-then-p-eq0 c =
@@ -30,7 +28,6 @@ returns-then-p-eq0 c =
     let e = head-found ws s.at _ p c.read.ensures.result_value g.1 in
     sym (ap (head_right s.cones.now s.least) e ∙ rw (le-leb s.least p.orig_index c.if-p-least.false, eq-eqb p.clique_count 0 c.if-p-eq0.true))
 
-
 pub returns-then-p-gt-PSD_SIZE : goal.returns-then-p-gt-PSD_SIZE
 returns-then-p-gt-PSD_SIZE c =
     let g = c.p-1.given in
@@ -39,7 +36,6 @@ returns-then-p-gt-PSD_SIZE c =
     let ws = s.words.now in
     let e = head-found ws s.at _ p c.read.ensures.result_value g.1 in
     sym (ap (head_right s.cones.now s.least) e ∙ rw (le-leb s.least p.orig_index c.if-p-least.false, ne_eqb p.clique_count 0 c.if-p-eq0.false, lt-leb p.clique_count 256 c.if-p-gt-PSD_SIZE.true))
-
 
 pub returns-then-p-gt-VERTICES : goal.returns-then-p-gt-VERTICES
 returns-then-p-gt-VERTICES c =
@@ -50,7 +46,6 @@ returns-then-p-gt-VERTICES c =
     let e = head-found ws s.at _ p c.read.ensures.result_value g.1 in
     sym (ap (head_right s.cones.now s.least) e ∙ rw (le-leb s.least p.orig_index c.if-p-least.false, ne_eqb p.clique_count 0 c.if-p-eq0.false, le-leb p.clique_count 256 c.if-p-gt-PSD_SIZE.false, lt-leb p.vertex_count 256 c.if-p-gt-VERTICES.true))
 
-
 pub returns : goal.returns
 returns c =
     let g = c.p-1.given in
@@ -60,4 +55,3 @@ returns c =
     let e = head-found ws s.at _ p c.read.ensures.result_value g.1 in
     c.is_psd_of.ensures
     ∙ sym (ap (head_right s.cones.now s.least) e ∙ rw (le-leb s.least p.orig_index c.if-p-least.false, ne_eqb p.clique_count 0 c.if-p-eq0.false, le-leb p.clique_count 256 c.if-p-gt-PSD_SIZE.false, le-leb p.vertex_count 256 c.if-p-gt-VERTICES.false))
-

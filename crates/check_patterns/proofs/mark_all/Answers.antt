@@ -16,7 +16,6 @@ loop-i-init c =
     let s = c.args in
     (le_refl s.a, c.requires.0, refl, λ met m. subst (Met s.b s.n s.marks.now) (part_none met s.words.now s.a) m)
 
-
 pub bounds-words-i : goal.bounds-words-i
 bounds-words-i c = le_trans c.loop-i-test.true c.requires.1
 
@@ -28,13 +27,10 @@ shape_of-marks-then-n-x c = c.loop-i.invariant.2
 
 pub returns-then-n-x : goal.returns-then-n-x
 returns-then-n-x c =
-    let l = c.before.before.before in
-    let s = l.before in
     λ met m. (
-      part-not-once s.args.n met s.args.words.now s.args.a s.args.e l.loop-i.i l.loop-i.invariant.0 c.loop-i-test.true s.requires.1 (inl c.if-n-x.true),
+      part-not-once c.args.n met c.args.words.now c.args.a c.args.e c.loop-i.i c.loop-i.invariant.0 c.loop-i-test.true c.requires.1 (inl c.if-n-x.true),
       λ z. absurd (differ false z refl),
     )
-
 
 pub bounds-marks-x : goal.bounds-marks-x
 bounds-marks-x c = omega (arith, c.if-n-x.false, c.requires.2, c.loop-i.invariant.2)
@@ -44,15 +40,12 @@ shape_of-marks-then-marks-x c = c.loop-i.invariant.2
 
 pub returns-then-marks-x : goal.returns-then-marks-x
 returns-then-marks-x c =
-    let l = c.before.before.before.before.before in
-    let s = l.before in
-    let ws = s.args.words.now in
+    let ws = c.args.words.now in
     λ met m. (
-      part-not-once s.args.n met ws s.args.a s.args.e l.loop-i.i l.loop-i.invariant.0 c.loop-i-test.true s.requires.1
-          (inr (met_has s.args.b s.args.n l.loop-i.marks (met ++ take (l.loop-i.i - s.args.a) (drop s.args.a ws)) _ (l.loop-i.invariant.3 met m) c.if-n-x.false (beq_same _ _ c.if-marks-x.true))),
+      part-not-once c.args.n met ws c.args.a c.args.e c.loop-i.i c.loop-i.invariant.0 c.loop-i-test.true c.requires.1
+          (inr (met_has c.args.b c.args.n c.loop-i.marks (met ++ take (c.loop-i.i - c.args.a) (drop c.args.a ws)) _ (c.loop-i.invariant.3 met m) c.if-n-x.false (beq_same _ _ c.if-marks-x.true))),
       λ z. absurd (differ false z refl),
     )
-
 
 pub bounds-marks-x-in-loop-i : goal.bounds-marks-x-in-loop-i
 bounds-marks-x-in-loop-i c = omega (arith, c.if-n-x.false, c.requires.2, c.loop-i.invariant.2)
@@ -62,29 +55,24 @@ loop-i-smaller c = omega (arith, c.loop-i-test.true)
 
 pub loop-i-preserved : goal.loop-i-preserved
 loop-i-preserved c =
-    let l = c.before.before.before.before.before in
-    let s = l.before in
-    let ws = s.args.words.now in
-    let i = l.loop-i.i in
+    let ws = c.args.words.now in
+    let i = c.loop-i.i in
     let x = get_or ws i 0 in (
-      le_trans l.loop-i.invariant.0 (omega arith),
+      le_trans c.loop-i.invariant.0 (omega arith),
       omega (arith, c.loop-i-test.true),
-      length-set l.loop-i.marks x s.args.b ∙ l.loop-i.invariant.2,
-      λ met m. subst (Met s.args.b s.args.n _) (sym (part_more met ws s.args.a i l.loop-i.invariant.0 (le_trans c.loop-i-test.true s.requires.1)))
-          (met_more s.args.b s.args.n l.loop-i.marks (met ++ take (i - s.args.a) (drop s.args.a ws)) x (le_trans s.requires.2 (le_of_eq (sym l.loop-i.invariant.2))) c.if-n-x.false
-          (beq_differ _ _ c.if-marks-x.false) (l.loop-i.invariant.3 met m)),
+      length-set c.loop-i.marks x c.args.b ∙ c.loop-i.invariant.2,
+      λ met m. subst (Met c.args.b c.args.n _) (sym (part_more met ws c.args.a i c.loop-i.invariant.0 (le_trans c.loop-i-test.true c.requires.1)))
+          (met_more c.args.b c.args.n c.loop-i.marks (met ++ take (i - c.args.a) (drop c.args.a ws)) x (le_trans c.requires.2 (le_of_eq (sym c.loop-i.invariant.2))) c.if-n-x.false
+          (beq_differ _ _ c.if-marks-x.false) (c.loop-i.invariant.3 met m)),
     )
-
 
 pub shape_of-marks : goal.shape_of-marks
 shape_of-marks c = c.loop-i.invariant.2
 
 pub returns : goal.returns
 returns c =
-    let l = c.before in
-    let s = l.args in
-    let e : l.loop-i.i ≡ s.e = omega (arith, c.loop-i-test.false, l.loop-i.invariant.1) in
+    let s = c.args in
+    let e : c.loop-i.i ≡ s.e = omega (arith, c.loop-i-test.false, c.loop-i.invariant.1) in
     λ met m.
-    let all = subst (λ (i : ℕ). Met s.b s.n l.loop-i.marks (met ++ take (i - s.a) (drop s.a s.words.now))) e (l.loop-i.invariant.3 met m) in
-    (sym (met_once s.b s.n l.loop-i.marks (met ++ take (s.e - s.a) (drop s.a s.words.now)) all), λ _. all)
-
+    let all = subst (λ (i : ℕ). Met s.b s.n c.loop-i.marks (met ++ take (i - s.a) (drop s.a s.words.now))) e (c.loop-i.invariant.3 met m) in
+    (sym (met_once s.b s.n c.loop-i.marks (met ++ take (s.e - s.a) (drop s.a s.words.now)) all), λ _. all)

@@ -36,4 +36,3 @@ returns c =
     λ met m.
     let met-too = subst (λ (us : List ℕ). AddsOnce false s.p.vertex_count s.marks.now us c.mark_all.new.marks c.mark_all.result) part c.mark_all.ensures met m in
     (met-too.0 ∙ sym (and-true _ _ (sym c.clique_holds.ensures ∙ not-false _ c.if-not-clique_holds.false-raw)), met-too.1)
-

@@ -21,9 +21,8 @@ overflow_add-result-2 c = omega (arith, c.rows-2.ensures.1, c.requires.dim_bound
 
 pub returns : goal.returns
 returns c =
-    let s = c.before.before.before.before.before in (
+    (
       refl,
-      ap (λ (i : ℕ). s.args.b.dim + i) (c.rows.ensures.0 ∙ ap triangle c.get_nblk.ensures),
-      ap (λ (i : ℕ). s.args.b.overlaps + i) c.rows-2.ensures.0,
+      ap (λ (i : ℕ). c.args.b.dim + i) (c.rows.ensures.0 ∙ ap triangle c.get_nblk.ensures),
+      ap (λ (i : ℕ). c.args.b.overlaps + i) c.rows-2.ensures.0,
     )
-

@@ -15,10 +15,8 @@ returns-then-route-eq-STANDARD c =
     let a = c.args in
     sym (ap (λ (x : Route). rows_fit x a.m a.rows a.overlaps) (route_standard a.route c.if-route-eq-STANDARD.true))
 
-
 pub returns : goal.returns
 returns c =
     let a = c.args in
     sym (ap (λ (x : Route). rows_fit x a.m a.rows a.overlaps) (route_compact a.route c.if-route-eq-STANDARD.false)
     ∙ rw (le-leb a.rows 262144 c.if-rows-gt-AUGMENTED_ROWS.false))
-

@@ -8,9 +8,7 @@ bounds-out-9 c = simp length-set (omega (arith, c.requires.1, c.copy.auto.1.0))
 
 pub returns-then-number-lt10 : goal.returns-then-number-lt10
 returns-then-number-lt10 c =
-    let s = c.before.before.before.before.before.before.before in
-    digit_written s.args.number s.args.out.now c.if-number-lt10.true s.requires.1 c.copy.ensures.1
-
+    digit_written c.args.number c.args.out.now c.if-number-lt10.true c.requires.1 c.copy.ensures.1
 
 pub bounds-out-9-2 : goal.bounds-out-9-2
 bounds-out-9-2 c = simp length-set (omega (arith, c.requires.1, c.copy.auto.1.0))
@@ -20,6 +18,4 @@ bounds-out-10 c = simp length-set (omega (arith, c.requires.1, c.copy.auto.1.0))
 
 pub returns : goal.returns
 returns c =
-    let s = c.before.before.before.before.before.before.before in
-    digits_written s.args.number s.args.out.now c.if-number-lt10.false s.requires.1 c.copy.ensures.1
-
+    digits_written c.args.number c.args.out.now c.if-number-lt10.false c.requires.1 c.copy.ensures.1

@@ -6,8 +6,6 @@ use Rattle.compact_tables.proofs.extend_numbers.Goals as goal
 
 pub returns : goal.returns
 returns c =
-    let s = c.before.before.before.before.before.before.before.before.before.before in
-    let a = s.args in
+    let a = c.args in
     written_after a.src.now (replicate a.k a.v) a.out.now (length a.src.now) refl
-    (omega (arith, s.requires, length-replicate a.k a.v)) c.copy_numbers.ensures c.fill_numbers.ensures
-
+    (omega (arith, c.requires, length-replicate a.k a.v)) c.copy_numbers.ensures c.fill_numbers.ensures

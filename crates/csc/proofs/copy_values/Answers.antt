@@ -8,13 +8,11 @@ use Rattle.csc.proofs.copy_values.Goals as goal
 
 pub loop-i-preserved : goal.loop-i-preserved
 loop-i-preserved c =
-    let l = c.before.before in
-    let a = l.args in (
+    let a = c.args in (
       omega arith,
-      simp length-set l.loop-i.invariant.1,
-      rw l.loop-i.invariant.2 (copy_more a.src.now a.out.now l.loop-i.i nan (omega arith) l.requires),
+      simp length-set c.loop-i.invariant.1,
+      rw c.loop-i.invariant.2 (copy_more a.src.now a.out.now c.loop-i.i nan (omega arith) c.requires),
     )
-
 
 pub shape_of-out : goal.shape_of-out
 shape_of-out c = c.loop-i.invariant.1

@@ -13,20 +13,15 @@ returns-then-rows-eq0 c =
     let none : length rows ≡ 0 = c.if-rows-eq0.true in
     omega (arith, runs-few rows)
 
-
 pub loop-i-preserved : goal.loop-i-preserved
 loop-i-preserved c =
-    let l = c.before.before.before.before in
-    let rows = l.args.rows.now in
-    let i = l.loop-i.i in
+    let rows = c.args.rows.now in
+    let i = c.loop-i.i in
     elim c.if-rows-i.branch [
-      | then-rows-i w ↦ (omega arith, omega (arith, w.count-is, l.loop-i.invariant.1), omega (arith, w.count-is, l.loop-i.invariant.2, runs_apart rows i (omega arith) w.if-rows-i.true))
-      | else-rows-i w ↦ (omega arith, omega (arith, w.count-is, l.loop-i.invariant.1), omega (arith, w.count-is, l.loop-i.invariant.2, runs_same rows i (omega arith) w.if-rows-i.false))
+      | then-rows-i w ↦ (omega arith, omega (arith, w.count-is, c.loop-i.invariant.1), omega (arith, w.count-is, c.loop-i.invariant.2, runs_apart rows i (omega arith) w.if-rows-i.true))
+      | else-rows-i w ↦ (omega arith, omega (arith, w.count-is, c.loop-i.invariant.1), omega (arith, w.count-is, c.loop-i.invariant.2, runs_same rows i (omega arith) w.if-rows-i.false))
     ]
-
 
 pub returns : goal.returns
 returns c =
-    let l = c.before in
-    omega (arith, l.loop-i.invariant.2, runs_last l.args.rows.now l.loop-i.i l.loop-i.invariant.0 c.loop-i-test.false)
-
+    omega (arith, c.loop-i.invariant.2, runs_last c.args.rows.now c.loop-i.i c.loop-i.invariant.0 c.loop-i-test.false)

@@ -2,14 +2,10 @@ use native.Mathlib.Omega.{arith}
 use lib.ListN.{replicate, length-replicate, length}
 use Rattle.layout.proofs.Lists.Buffers.{written_after}
 use mathlib.Core.Path.{refl}
-
 use Rattle.csc.proofs.extend_values.Goals as goal
 
 pub returns : goal.returns
 returns c =
-    let f = c.before.before in
-    let g = f.before.before.before.before in
-    let a = g.args in
+    let a = c.args in
     written_after a.src.now (replicate a.k a.v) a.out.now (length a.src.now) refl (omega (arith, length-replicate a.k a.v))
-    g.copy_values.ensures f.fill_values.ensures
-
+    c.copy_values.ensures c.fill_values.ensures

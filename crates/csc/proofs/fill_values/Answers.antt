@@ -7,13 +7,11 @@ use Rattle.csc.proofs.fill_values.Goals as goal
 
 pub loop-i-preserved : goal.loop-i-preserved
 loop-i-preserved c =
-    let l = c.before in
-    let a = l.args in (
+    let a = c.args in (
       omega arith,
-      simp length-set l.loop-i.invariant.1,
-      rw l.loop-i.invariant.2 (fill_more a.out.now l.loop-i.i a.v (omega arith)),
+      simp length-set c.loop-i.invariant.1,
+      rw c.loop-i.invariant.2 (fill_more a.out.now c.loop-i.i a.v (omega arith)),
     )
-
 
 pub shape_of-out : goal.shape_of-out
 shape_of-out c = c.loop-i.invariant.1

@@ -7,22 +7,16 @@ use Rattle.csc.proofs.first_place.Goals as goal
 
 pub loop-first-preserved : goal.loop-first-preserved
 loop-first-preserved c =
-    let l = c.before.before.before.before in
-    let rows = l.args.rows.now in
-    (omega arith, l.loop-first.invariant.1 ∙ first_step rows l.loop-first.first (l.loop-first.first - 1) (omega arith) c.if-rows-first.false)
-
+    let rows = c.args.rows.now in
+    (omega arith, c.loop-first.invariant.1 ∙ first_step rows c.loop-first.first (c.loop-first.first - 1) (omega arith) c.if-rows-first.false)
 
 pub returns-after-loop-first : goal.returns-after-loop-first
 returns-after-loop-first c =
-    let l = c.before in
-    let rows = l.args.rows.now in
-    let none : l.loop-first.first ≡ 0 = omega (arith, c.loop-first-test.false) in
-    sym (l.loop-first.invariant.1 ∙ ap (run_first rows) none ∙ sym none)
-
+    let rows = c.args.rows.now in
+    let none : c.loop-first.first ≡ 0 = omega (arith, c.loop-first-test.false) in
+    sym (c.loop-first.invariant.1 ∙ ap (run_first rows) none ∙ sym none)
 
 pub returns-then-rows-first : goal.returns-then-rows-first
 returns-then-rows-first c =
-    let l = c.before.before.before.before in
-    let rows = l.args.rows.now in
-    sym (l.loop-first.invariant.1 ∙ first_done rows l.loop-first.first (l.loop-first.first - 1) (omega arith) c.if-rows-first.true)
-
+    let rows = c.args.rows.now in
+    sym (c.loop-first.invariant.1 ∙ first_done rows c.loop-first.first (c.loop-first.first - 1) (omega arith) c.if-rows-first.true)

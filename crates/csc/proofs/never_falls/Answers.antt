@@ -11,21 +11,17 @@ use Rattle.csc.proofs.never_falls.Goals.{then-xs-i, else-xs-i}
 
 pub loop-i-preserved : goal.loop-i-preserved
 loop-i-preserved c =
-    let l = c.before.before.before.before in
-    let xs = l.args.xs.now in
-    let i = l.loop-i.i in
-    let left : Bool → Bool = λ b. l.loop-i.holds && b in
+    let xs = c.args.xs.now in
+    let i = c.loop-i.i in
+    let left : Bool → Bool = λ b. c.loop-i.holds && b in
     let next : Bool → Bool = λ b. b && chained leb (drop (i + 1) xs) in
     elim c.if-xs-i.branch [
-      | then-xs-i w ↦ (omega arith, l.loop-i.invariant.1 ∙ ap left (chain_fails leb xs i (omega arith) (lt-leb _ _ w.if-xs-i.true)) ∙ and-false l.loop-i.holds ∙ ap next (sym w.holds-is))
-      | else-xs-i w ↦ (omega arith, l.loop-i.invariant.1 ∙ ap left (chain_step leb xs i (omega arith) (le-leb _ _ w.if-xs-i.false)) ∙ ap next (sym w.holds-is))
+      | then-xs-i w ↦ (omega arith, c.loop-i.invariant.1 ∙ ap left (chain_fails leb xs i (omega arith) (lt-leb _ _ w.if-xs-i.true)) ∙ and-false c.loop-i.holds ∙ ap next (sym w.holds-is))
+      | else-xs-i w ↦ (omega arith, c.loop-i.invariant.1 ∙ ap left (chain_step leb xs i (omega arith) (le-leb _ _ w.if-xs-i.false)) ∙ ap next (sym w.holds-is))
     ]
-
 
 pub returns : goal.returns
 returns c =
-    let l = c.before in
-    let xs = l.args.xs.now in
-    let left : Bool → Bool = λ b. l.loop-i.holds && b in
-    sym (falls_chained xs ∙ l.loop-i.invariant.1 ∙ ap left (chain_done leb xs l.loop-i.i c.loop-i-test.false) ∙ and-true l.loop-i.holds)
-
+    let xs = c.args.xs.now in
+    let left : Bool → Bool = λ b. c.loop-i.holds && b in
+    sym (falls_chained xs ∙ c.loop-i.invariant.1 ∙ ap left (chain_done leb xs c.loop-i.i c.loop-i-test.false) ∙ and-true c.loop-i.holds)

@@ -10,7 +10,5 @@ use Rattle.csc.proofs.never_falls.Given as goal
 abbrev pub invariant-loop-i : goal.invariant-loop-i
 invariant-loop-i l = (l.i ≤ length l.xs) × (chained leb l.xs ≡ (l.holds && chained leb (drop l.i l.xs)))
 
-
 abbrev pub decreases-loop-i : goal.decreases-loop-i
 decreases-loop-i l = length l.xs - l.i
-

@@ -8,21 +8,15 @@ use Rattle.csc.proofs.rise_strictly.Goals as goal
 
 pub returns-then-rows-i : goal.returns-then-rows-i
 returns-then-rows-i c =
-    let l = c.before.before.before.before in
-    let rows = l.args.rows.now in
-    sym (rises_chained rows ∙ l.loop-i.invariant.1 ∙ chain_fails ltb rows l.loop-i.i (omega arith) (le-ltb _ _ c.if-rows-i.true))
-
+    let rows = c.args.rows.now in
+    sym (rises_chained rows ∙ c.loop-i.invariant.1 ∙ chain_fails ltb rows c.loop-i.i (omega arith) (le-ltb _ _ c.if-rows-i.true))
 
 pub loop-i-preserved : goal.loop-i-preserved
 loop-i-preserved c =
-    let l = c.before.before.before.before in
-    let rows = l.args.rows.now in
-    (omega arith, l.loop-i.invariant.1 ∙ chain_step ltb rows l.loop-i.i (omega arith) (lt-ltb _ _ c.if-rows-i.false))
-
+    let rows = c.args.rows.now in
+    (omega arith, c.loop-i.invariant.1 ∙ chain_step ltb rows c.loop-i.i (omega arith) (lt-ltb _ _ c.if-rows-i.false))
 
 pub returns : goal.returns
 returns c =
-    let l = c.before in
-    let rows = l.args.rows.now in
-    sym (rises_chained rows ∙ l.loop-i.invariant.1 ∙ chain_done ltb rows l.loop-i.i c.loop-i-test.false)
-
+    let rows = c.args.rows.now in
+    sym (rises_chained rows ∙ c.loop-i.invariant.1 ∙ chain_done ltb rows c.loop-i.i c.loop-i-test.false)

@@ -9,7 +9,6 @@ returns-then-rows-eq0 c =
     let a = c.args in
     sym (empty_passes rises refl a.m a.n a.starts.now a.rows.now c.if-rows-eq0.true)
 
-
 pub returns-then-not-all_below : goal.returns-then-not-all_below
 returns-then-not-all_below c = rw (sym c.all_below.ensures ∙ not-true _ c.if-not-all_below.true-raw)
 

@@ -45,7 +45,7 @@ returns-then-m-gt2048 c = c.with_large_tables-then-m-gt2048.ensures
 
 pub with_small_tables-requires : goal.with_small_tables-requires
 with_small_tables-requires c =
-    let s = c.before.before.before.before.before.before.before.before.before.before.before.before.before.before.before.before.before.before.before in record { fact = s.requires.fact; movable_sides = s.requires.movable_sides; rows_bound = (c.if-rows-gt2048.false, c.if-m-gt2048.false) }
+    record { fact = c.requires.fact; movable_sides = c.requires.movable_sides; rows_bound = (c.if-rows-gt2048.false, c.if-m-gt2048.false) }
 
 pub shape_of-a_starts_out : goal.shape_of-a_starts_out
 shape_of-a_starts_out c = c.with_small_tables.auto.a_starts_out

@@ -14,32 +14,25 @@ overflow_cast-a_values c = fits-u32 _ (few-entries c.requires.accepted)
 
 pub write_starts-requires : goal.write_starts-requires
 write_starts-requires c =
-    let s = c.before.before.before.before.before.before.before.before.before.before.before.before in
-    let k = s.args.k in
-    (room-starts s.requires.accepted k _ s.requires.starts, few-ends s.requires.accepted k s.requires.added)
-
+    let k = c.args.k in
+    (room-starts c.requires.accepted k _ c.requires.starts, few-ends c.requires.accepted k c.requires.added)
 
 pub standard_a_rows-requires : goal.standard_a_rows-requires
 standard_a_rows-requires c =
-    let s = c.before.before.before.before.before.before.before.before.before.before.before.before.before.before.before.before in
-    let k = s.args.k in
-    let e = s.requires.added in record { sound = sound s.requires.accepted; k_value = (e, few-rows s.requires.accepted k e, room-rows s.requires.accepted k e _ s.requires.rows) }
+    let k = c.args.k in
+    let e = c.requires.added in record { sound = sound c.requires.accepted; k_value = (e, few-rows c.requires.accepted k e, room-rows c.requires.accepted k e _ c.requires.rows) }
 
 pub write_values-requires : goal.write_values-requires
 write_values-requires c =
-    let s = c.before.before.before.before.before.before.before.before.before.before.before.before.before.before.before.before.before.before.before.before in
-    room-values s.requires.accepted s.args.k s.requires.added _ s.requires.values
-
+    room-values c.requires.accepted c.args.k c.requires.added _ c.requires.values
 
 pub extend_values-requires : goal.extend_values-requires
 extend_values-requires c =
-    let s = c.before.before.before.before.before.before.before.before.before.before.before.before.before.before.before.before.before.before.before.before.before.before.before.before in
-    room_b s.requires.accepted s.args.k s.requires.added _ s.requires.slacks
-
+    room_b c.requires.accepted c.args.k c.requires.added _ c.requires.slacks
 
 pub standard_cones-requires : goal.standard_cones-requires
 standard_cones-requires c =
-    let s = c.before.before.before.before.before.before.before.before.before.before.before.before.before.before.before.before.before.before.before.before.before.before.before.before.before.before.before.before in record { sound = sound s.requires.accepted; words_in_bounds = s.requires.cones }
+    record { sound = sound c.requires.accepted; words_in_bounds = c.requires.cones }
 
 pub shape_of-a_starts_out : goal.shape_of-a_starts_out
 shape_of-a_starts_out c = c.write_starts.auto.out
@@ -59,14 +52,12 @@ shape_of-cones_out c = c.standard_cones.auto.out
 pub returns : goal.returns
 unfolding of_bits
 returns c =
-    let s = c.before.before.before.before.before.before.before.before.before.before.before.before.before.before.before.before.before.before.before.before.before.before.before.before.before.before.before.before.before.before.before in
-    let a = s.args in
-    let h = s.requires.accepted in
-    let e = s.requires.added in record {
+    let a = c.args in
+    let h = c.requires.accepted in
+    let e = c.requires.added in record {
       a_starts = renamed a.a_starts_out.now (starts_A h a.k e) c.write_starts.ensures;
       a_rows = renamed a.a_rows_out.now (rows_A h) c.standard_a_rows.ensures;
       a_values = renamed a.a_values_out.now (values_A h a.k e) c.write_values.ensures;
       b = renamed a.b_out.now (ap (λ (j : ℕ). a.b.now ++ replicate j zero64) e) c.extend_values.ensures;
       cones = c.standard_cones.ensures;
     }
-

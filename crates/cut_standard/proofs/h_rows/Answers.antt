@@ -8,15 +8,11 @@ use Rattle.cut_standard.proofs.h_rows.Goals as goal
 
 pub write_table-requires : goal.write_table-requires
 write_table-requires c =
-    let s = c.before.before.before.before in record { sound = s.requires.sound; few = tt; words_in_bounds = omega (arith, rows-count s.requires.sound, length_tail s.args.out.now s.args.k, s.requires.k_value) }
+    record { sound = c.requires.sound; few = tt; words_in_bounds = omega (arith, rows-count c.requires.sound, length_tail c.args.out.now c.args.k, c.requires.k_value) }
 
 pub returns : goal.returns
 returns c =
-    let f = c.before.before in
-    let g = f.before.before.before.before in
-    let s = g.before.before.before.before.before in
-    let a = s.args in
+    let a = c.args in
     let os = standard_rows (joined_parts a.cones.now a.count a.words.now) in
-    f.spread_rows.ensures
-    ∙ spread_in_place a.m a.k os a.out.now (omega (arith, rows-count s.requires.sound, s.requires.k_value.0)) s.requires.k_value.2 g.write_table.ensures.out_after
-
+    c.spread_rows.ensures
+    ∙ spread_in_place a.m a.k os a.out.now (omega (arith, rows-count c.requires.sound, c.requires.k_value.0)) c.requires.k_value.2 c.write_table.ensures.out_after

@@ -7,20 +7,14 @@ use Rattle.augment_standard.proofs.Columns.{length-h_rows}
 use Rattle.cut_standard.proofs.Laws.{rows-count}
 use lib.ListN.{length}
 use mathlib.Core.Path.{refl}
-
 use Rattle.cut_standard.proofs.standard_a_rows.Goals as goal
 
 pub h_rows-requires : goal.h_rows-requires
 h_rows-requires c =
-    let g = c.before.before.before in
-    let s = g.before.before.before.before.before.before in record { sound = s.requires.sound; k_value = (s.requires.k_value.0, s.requires.k_value.1, omega (arith, s.requires.k_value.2, length_tail g.copy_numbers.new.out (length s.args.a_rows.now), g.copy_numbers.auto.out)) }
+    record { sound = c.requires.sound; k_value = (c.requires.k_value.0, c.requires.k_value.1, omega (arith, c.requires.k_value.2, length_tail c.copy_numbers.new.out (length c.args.a_rows.now), c.copy_numbers.auto.out)) }
 
 pub returns : goal.returns
 returns c =
-    let f = c.before.before in
-    let g = f.before.before.before.before in
-    let s = g.before.before.before.before.before.before in
-    let a = s.args in
+    let a = c.args in
     let os = standard_rows (joined_parts a.cones.now a.count a.words.now) in
-    written_after a.a_rows.now (h_rows a.m os) a.out.now (length a.a_rows.now) refl (omega (arith, length-h_rows a.m os, rows-count s.requires.sound, s.requires.k_value)) g.copy_numbers.ensures f.h_rows.ensures
-
+    written_after a.a_rows.now (h_rows a.m os) a.out.now (length a.a_rows.now) refl (omega (arith, length-h_rows a.m os, rows-count c.requires.sound, c.requires.k_value)) c.copy_numbers.ensures c.h_rows.ensures

@@ -5,7 +5,7 @@ use Rattle.cut_standard.proofs.write_objective.Goals as goal
 
 pub extend_starts-requires : goal.extend_starts-requires
 extend_starts-requires c =
-    let s = c.before.before.before.before.before.before.before.before.before.before.before in record { t = s.requires.right; k_in_bounds = s.requires.starts }
+    record { t = c.requires.right; k_in_bounds = c.requires.starts }
 
 pub copy_numbers-requires : goal.copy_numbers-requires
 copy_numbers-requires c = c.requires.rows

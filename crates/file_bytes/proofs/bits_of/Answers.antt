@@ -10,6 +10,5 @@ returns-then-x c =
     let x = c.args.x in
     sym (ap (to_bits binary64) (nan_is x (subst T (sym (sym (ne_self x) ∙ c.if-x.true)) tt)) ∙ nan_pattern)
 
-
 pub float_to_bits-result : goal.float_to_bits-result
 float_to_bits-result c = rw (sym (ne_self c.args.x) ∙ c.if-x.false) tt

@@ -20,10 +20,8 @@ returns-then-pattern-gt-INFINITY c =
     subst T (sym (nan_bits_above binary64 n) ∙ nan_bits_is binary64 n) (lt→ltb 9218868437227405312 (n % 9223372036854775808) c.if-pattern-gt-INFINITY.true) in
     zero_over ∙ sym (nan_is (of_bits binary64 n) above)
 
-
 pub float_from_bits-result : goal.float_from_bits-result
 float_from_bits-result c =
     let n = c.args.pattern in
     let below : nan_bits binary64 n ≡ false = nan_bits_above binary64 n ∙ le-ltb 9218868437227405312 (n % 9223372036854775808) c.if-pattern-gt-INFINITY.false in
     subst (λ (b : Bool). T (not b)) (sym below) tt
-

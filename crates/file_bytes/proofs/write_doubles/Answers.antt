@@ -11,28 +11,20 @@ overflow_cast-v-in-loop-i c = omega (arith, c.shared_slice_known-in-loop-i-1.giv
 
 pub loop-i-preserved : goal.loop-i-preserved
 loop-i-preserved c =
-    let p = c.before.before.before.before.before.before in
-    let q = c.before.before in
-    let l = c.before.before.before.before.before.before.before.before.before.before in
-    let s = l.before.before.before in
-    let vs = s.args.values.now in
-    let i = l.loop-i.i in
+    let vs = c.args.values.now in
+    let i = c.loop-i.i in
     let v = get_or vs i 0 in (
       omega arith,
-      q.put_word-in-loop-i.auto.out ∙ p.put_word.auto.out ∙ l.loop-i.invariant.1,
-      q.put_word-in-loop-i.ensures
+      c.put_word-in-loop-i.auto.out ∙ c.put_word.auto.out ∙ c.loop-i.invariant.1,
+      c.put_word-in-loop-i.ensures
           ∙ ap (λ (o : List ℕ). put_word o (8 * i + 4) (v / 4294967296))
-          (p.put_word.ensures ∙ ap (λ (o : List ℕ). put_word o (8 * i) (v % 4294967296)) l.loop-i.invariant.2)
-          ∙ halves_written vs s.args.out.now i (omega arith) s.requires,
+          (c.put_word.ensures ∙ ap (λ (o : List ℕ). put_word o (8 * i) (v % 4294967296)) c.loop-i.invariant.2)
+          ∙ halves_written vs c.args.out.now i (omega arith) c.requires,
     )
-
 
 pub shape_of-out : goal.shape_of-out
 shape_of-out c = c.loop-i.invariant.1
 
 pub returns : goal.returns
 returns c =
-    let l = c.before in
-    let s = l.before.before.before in
-    l.loop-i.invariant.2 ∙ halves_done s.args.values.now s.args.out.now l.loop-i.i c.loop-i-test.false
-
+    c.loop-i.invariant.2 ∙ halves_done c.args.values.now c.args.out.now c.loop-i.i c.loop-i-test.false

@@ -11,25 +11,19 @@ use Rattle.file_bytes.proofs.write_floats.Goals as goal
 
 pub loop-i-preserved : goal.loop-i-preserved
 loop-i-preserved c =
-    let l = c.before.before.before in
-    let s = l.before.before.before in
-    let xs = s.args.patterns.now in
+    let xs = c.args.patterns.now in
     let long = length-map xs (of_bits binary64) in (
       omega arith,
-      simp length-set l.loop-i.invariant.1,
-      ap₂ (λ (o : List Float) (v : Float). set o l.loop-i.i v) l.loop-i.invariant.2
-          (c.float_of.ensures ∙ sym (get_or_map (of_bits binary64) xs l.loop-i.i 0 nan (omega arith)))
-          ∙ copy_more (floats xs) s.args.out.now l.loop-i.i nan (omega arith) (omega arith),
+      simp length-set c.loop-i.invariant.1,
+      ap₂ (λ (o : List Float) (v : Float). set o c.loop-i.i v) c.loop-i.invariant.2
+          (c.float_of.ensures ∙ sym (get_or_map (of_bits binary64) xs c.loop-i.i 0 nan (omega arith)))
+          ∙ copy_more (floats xs) c.args.out.now c.loop-i.i nan (omega arith) (omega arith),
     )
-
 
 pub shape_of-out : goal.shape_of-out
 shape_of-out c = c.loop-i.invariant.1
 
 pub returns : goal.returns
 returns c =
-    let l = c.before in
-    let s = l.before.before.before in
-    let long = length-map s.args.patterns.now (of_bits binary64) in
-    l.loop-i.invariant.2 ∙ copy_done (floats s.args.patterns.now) s.args.out.now l.loop-i.i (omega arith)
-
+    let long = length-map c.args.patterns.now (of_bits binary64) in
+    c.loop-i.invariant.2 ∙ copy_done (floats c.args.patterns.now) c.args.out.now c.loop-i.i (omega arith)

@@ -11,23 +11,17 @@ use Rattle.file_bytes.proofs.write_patterns.Goals as goal
 
 pub loop-i-preserved : goal.loop-i-preserved
 loop-i-preserved c =
-    let l = c.before.before.before.before in
-    let s = l.before.before.before in
-    let ws = s.args.words.now in (
+    let ws = c.args.words.now in (
       omega arith,
-      simp length-set l.loop-i.invariant.1,
-      ap₂ (λ (o : List ℕ) (v : ℕ). set o l.loop-i.i v) l.loop-i.invariant.2 c.pattern.ensures
-          ∙ pairs-written ws s.args.out.now l.loop-i.i (omega arith) (omega arith),
+      simp length-set c.loop-i.invariant.1,
+      ap₂ (λ (o : List ℕ) (v : ℕ). set o c.loop-i.i v) c.loop-i.invariant.2 c.pattern.ensures
+          ∙ pairs-written ws c.args.out.now c.loop-i.i (omega arith) (omega arith),
     )
-
 
 pub shape_of-out : goal.shape_of-out
 shape_of-out c = c.loop-i.invariant.1
 
 pub returns : goal.returns
 returns c =
-    let l = c.before in
-    let s = l.before.before.before in
-    l.loop-i.invariant.2
-    ∙ ap (λ (r : List ℕ). written (pairs_of r) s.args.out.now) (take_all (2 * l.loop-i.i) s.args.words.now (omega arith))
-
+    c.loop-i.invariant.2
+    ∙ ap (λ (r : List ℕ). written (pairs_of r) c.args.out.now) (take_all (2 * c.loop-i.i) c.args.words.now (omega arith))

@@ -11,25 +11,18 @@ use Rattle.file_bytes.proofs.write_words.Goals as goal
 
 pub loop-i-preserved : goal.loop-i-preserved
 loop-i-preserved c =
-    let p = c.before.before in
-    let l = c.before.before.before.before.before.before in
-    let s = l.before.before.before in
-    let ws = s.args.words.now in
-    let i = l.loop-i.i in (
+    let ws = c.args.words.now in
+    let i = c.loop-i.i in (
       omega arith,
-      p.put_word.auto.out ∙ l.loop-i.invariant.1,
-      p.put_word.ensures ∙ ap (λ (o : List ℕ). put_word o (4 * i) (get_or ws i 0)) l.loop-i.invariant.2
-          ∙ bytes_written ws s.args.out.now i (omega arith) s.requires,
+      c.put_word.auto.out ∙ c.loop-i.invariant.1,
+      c.put_word.ensures ∙ ap (λ (o : List ℕ). put_word o (4 * i) (get_or ws i 0)) c.loop-i.invariant.2
+          ∙ bytes_written ws c.args.out.now i (omega arith) c.requires,
     )
-
 
 pub shape_of-out : goal.shape_of-out
 shape_of-out c = c.loop-i.invariant.1
 
 pub returns : goal.returns
 returns c =
-    let l = c.before in
-    let s = l.before.before.before in
-    l.loop-i.invariant.2
-    ∙ ap (λ (r : List ℕ). written (table_bytes 4 r) s.args.out.now) (take_all l.loop-i.i s.args.words.now c.loop-i-test.false)
-
+    c.loop-i.invariant.2
+    ∙ ap (λ (r : List ℕ). written (table_bytes 4 r) c.args.out.now) (take_all c.loop-i.i c.args.words.now c.loop-i-test.false)

@@ -8,7 +8,5 @@ use Rattle.file_bytes.proofs.write_words.Given as goal
 abbrev pub invariant-loop-i : goal.invariant-loop-i
 invariant-loop-i l = (l.i ≤ length l.words) × (length l.out ≡ length l.initial.out) × (l.out ≡ written (table_bytes 4 (take l.i l.words)) l.initial.out)
 
-
 abbrev pub decreases-loop-i : goal.decreases-loop-i
 decreases-loop-i l = length l.words - l.i
-

@@ -7,12 +7,8 @@ returns-then-a c = sym (gap_none c.args.a c.args.words.now c.if-a.true)
 
 pub returns-then-words-a : goal.returns-then-words-a
 returns-then-words-a c =
-    let s = c.before.before in
-    sym (gap_outside s.args.a s.args.words.now c.if-words-a.true)
-
+    sym (gap_outside c.args.a c.args.words.now c.if-words-a.true)
 
 pub returns : goal.returns
 returns c =
-    let s = c.before.before.before in
-    sym (gap_one s.args.a s.args.words.now s.requires.0 c.if-a.false c.if-words-a.false)
-
+    sym (gap_one c.args.a c.args.words.now c.requires.0 c.if-a.false c.if-words-a.false)

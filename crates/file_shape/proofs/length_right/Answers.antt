@@ -11,24 +11,18 @@ use Rattle.file_shape.proofs.length_right.Goals as goal
 
 pub returns-then-words-bytes : goal.returns-then-words-bytes
 returns-then-words-bytes c =
-    let s = c.before.before in
-    let ws = s.args.words.now in
-    sym (failed (words_length_right ws s.args.bytes) (λ h. c.if-words-bytes.true (words_long ws s.args.bytes h).0))
-
+    let ws = c.args.words.now in
+    sym (failed (words_length_right ws c.args.bytes) (λ h. c.if-words-bytes.true (words_long ws c.args.bytes h).0))
 
 pub returns-then-words-lt-WORDS : goal.returns-then-words-lt-WORDS
 returns-then-words-lt-WORDS c =
-    let s = c.before.before.before in
-    let ws = s.args.words.now in
-    sym (failed (words_length_right ws s.args.bytes) (λ h. absurd (omega (arith, c.if-words-lt-WORDS.true, (words_long ws s.args.bytes h).1))))
-
+    let ws = c.args.words.now in
+    sym (failed (words_length_right ws c.args.bytes) (λ h. absurd (omega (arith, c.if-words-lt-WORDS.true, (words_long ws c.args.bytes h).1))))
 
 pub returns : goal.returns
 returns c =
-    let s = c.before.before.before.before in
-    let ws = s.args.words.now in
-    let n = s.args.bytes in
+    let ws = c.args.words.now in
+    let n = c.args.bytes in
     ap (λ (k : ℕ). eqb k n) c.count_at-said.ensures.0
     ∙ sym (ap₂ (λ (x y : Bool). x && y && eqb (get_or ws 19 0) n) (passed (eqb (length ws) (n / 4)) ((eqb_iff (length ws) (n / 4)).1 c.if-words-bytes.false))
     (passed (leb 20 (length ws)) ((leb_iff 20 (length ws)).1 c.if-words-lt-WORDS.false)))
-

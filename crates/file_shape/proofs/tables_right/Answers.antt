@@ -20,43 +20,35 @@ loop-i-init c = (omega arith, refl, omega arith, tables-walk c.args.words.now c.
 
 pub returns-then-count_at-up : goal.returns-then-count_at-up
 returns-then-count_at-up c =
-    let l = c.before.before.before in
-    let ws = l.args.words.now in
+    let ws = c.args.words.now in
     let ks = table_sizes (counts_in ws) in
-    sym (l.loop-i.invariant.3 ∙ stands_elsewhere l.loop-i.a ks ws l.loop-i.i c.loop-i-test.true (λ e. c.if-count_at-up.true (c.count_at.ensures.0 ∙ e)))
-
+    sym (c.loop-i.invariant.3 ∙ stands_elsewhere c.loop-i.a ks ws c.loop-i.i c.loop-i-test.true (λ e. c.if-count_at-up.true (c.count_at.ensures.0 ∙ e)))
 
 pub gap_zero-requires : goal.gap_zero-requires
 gap_zero-requires c = (c.loop-i.invariant.1, omega arith)
 
 pub returns-then-not-gap_zero : goal.returns-then-not-gap_zero
 returns-then-not-gap_zero c =
-    let l = c.before.before.before.before.before in
-    let ws = l.args.words.now in
+    let ws = c.args.words.now in
     let ks = table_sizes (counts_in ws) in
-    sym (l.loop-i.invariant.3 ∙ stands_gap l.loop-i.a ks ws l.loop-i.i c.loop-i-test.true (sym c.gap_zero.ensures ∙ not-true c.gap_zero.result c.if-not-gap_zero.true-raw))
-
+    sym (c.loop-i.invariant.3 ∙ stands_gap c.loop-i.a ks ws c.loop-i.i c.loop-i-test.true (sym c.gap_zero.ensures ∙ not-true c.gap_zero.result c.if-not-gap_zero.true-raw))
 
 pub loop-i-preserved : goal.loop-i-preserved
 loop-i-preserved c =
-    let l = c.before.before.before.before.before.before in
-    let ws = l.args.words.now in
+    let ws = c.args.words.now in
     let ks = table_sizes (counts_in ws) in
     let size = c.table_size.ensures.0 in
     let here = sym c.count_at.ensures.0 ∙ c.if-count_at-up.false in
     let zero = sym c.gap_zero.ensures ∙ not-false c.gap_zero.result c.if-not-gap_zero.false-raw in (
       omega arith,
-      fours l.loop-i.a c.table_size.result size (size_fours (counts_in ws) l.loop-i.i),
+      fours c.loop-i.a c.table_size.result size (size_fours (counts_in ws) c.loop-i.i),
       omega (arith, c.table_size.ensures.1),
-      l.loop-i.invariant.3 ∙ stands-next l.loop-i.a ks ws l.loop-i.i c.loop-i-test.true here zero
-          ∙ ap (λ (k : ℕ). stands_from (aligned l.loop-i.a + k) (drop (l.loop-i.i + 1) ks) (8 + (l.loop-i.i + 1)) ws) (sym size),
+      c.loop-i.invariant.3 ∙ stands-next c.loop-i.a ks ws c.loop-i.i c.loop-i-test.true here zero
+          ∙ ap (λ (k : ℕ). stands_from (aligned c.loop-i.a + k) (drop (c.loop-i.i + 1) ks) (8 + (c.loop-i.i + 1)) ws) (sym size),
     )
-
 
 pub returns : goal.returns
 returns c =
-    let l = c.before.before in
-    let ws = l.args.words.now in
+    let ws = c.args.words.now in
     let ks = table_sizes (counts_in ws) in
-    ap (λ (k : ℕ). eqb k l.loop-i.a) c.count_at-2.ensures.0 ∙ sym (l.loop-i.invariant.3 ∙ stands-done l.loop-i.a ks ws l.loop-i.i (omega arith))
-
+    ap (λ (k : ℕ). eqb k c.loop-i.a) c.count_at-2.ensures.0 ∙ sym (c.loop-i.invariant.3 ∙ stands-done c.loop-i.a ks ws c.loop-i.i (omega arith))

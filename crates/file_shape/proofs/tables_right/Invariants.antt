@@ -11,7 +11,5 @@ invariant-loop-i l =
     (l.i ≤ 11) × (l.a ≡ 4 * (l.a / 4)) × (l.a ≤ 80 + 68719476743 * l.i)
     × (word_tables_right l.words ≡ stands_from l.a (drop l.i (table_sizes (counts_in l.words))) (8 + l.i) l.words)
 
-
 abbrev pub decreases-loop-i : goal.decreases-loop-i
 decreases-loop-i l = 11 - l.i
-

@@ -6,7 +6,5 @@ use Rattle.file_tables.proofs.copy_patterns.Goals as goal
 
 pub returns : goal.returns
 returns c =
-    let s = c.before.before.before.before.before.before.before.before in
     c.write_patterns.ensures
-    ∙ ap (λ (a : ℕ). written (pairs_of (part a (a + 2 * s.args.count) s.args.words.now)) s.args.out.now) c.start_of-at.ensures.0
-
+    ∙ ap (λ (a : ℕ). written (pairs_of (part a (a + 2 * c.args.count) c.args.words.now)) c.args.out.now) c.start_of-at.ensures.0

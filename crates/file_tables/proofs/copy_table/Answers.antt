@@ -5,7 +5,5 @@ use Rattle.file_tables.proofs.copy_table.Goals as goal
 
 pub returns : goal.returns
 returns c =
-    let s = c.before.before.before.before.before.before.before.before in
     c.copy_numbers.ensures
-    ∙ ap (λ (a : ℕ). written (part a (a + s.args.count) s.args.words.now) s.args.out.now) c.start_of-at.ensures.0
-
+    ∙ ap (λ (a : ℕ). written (part a (a + c.args.count) c.args.words.now) c.args.out.now) c.start_of-at.ensures.0

@@ -8,22 +8,16 @@ use Rattle.file_tables.proofs.end_of.Goals as goal
 
 pub loop-i-preserved : goal.loop-i-preserved
 loop-i-preserved c =
-    let l = c.before.before in
-    let s = l.before.before in
-    let ks = products widths s.args.lengths.now in
-    let many = length-products widths s.args.lengths.now s.requires in
+    let ks = products widths c.args.lengths.now in
+    let many = length-products widths c.args.lengths.now c.requires in
     let r = c.next_end-end.ensures in (
       omega arith,
       omega (arith, r.1),
-      ap (λ (e : ℕ). end_from e (drop (l.loop-i.i + 1) ks)) r.0 ∙ sym (end_step l.loop-i.end ks l.loop-i.i (omega (arith, many))) ∙ l.loop-i.invariant.2,
+      ap (λ (e : ℕ). end_from e (drop (c.loop-i.i + 1) ks)) r.0 ∙ sym (end_step c.loop-i.end ks c.loop-i.i (omega (arith, many))) ∙ c.loop-i.invariant.2,
     )
-
 
 pub returns : goal.returns
 returns c =
-    let l = c.before in
-    let s = l.before.before in
-    let ks = products widths s.args.lengths.now in
-    let many = length-products widths s.args.lengths.now s.requires in
-    (sym (end_done l.loop-i.end ks l.loop-i.i (omega (arith, many))) ∙ l.loop-i.invariant.2, omega arith)
-
+    let ks = products widths c.args.lengths.now in
+    let many = length-products widths c.args.lengths.now c.requires in
+    (sym (end_done c.loop-i.end ks c.loop-i.i (omega (arith, many))) ∙ c.loop-i.invariant.2, omega arith)

@@ -8,7 +8,5 @@ abbrev pub invariant-loop-i : goal.invariant-loop-i
 invariant-loop-i l =
     (l.i ≤ 11) × (l.end ≤ 80 + 34359738375 * l.i) × (end_from l.end (drop l.i (products widths l.lengths)) ≡ end_from 80 (products widths l.lengths))
 
-
 abbrev pub decreases-loop-i : goal.decreases-loop-i
 decreases-loop-i l = 11 - l.i
-

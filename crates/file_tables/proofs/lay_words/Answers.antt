@@ -13,18 +13,13 @@ use Rattle.file_tables.proofs.lay_words.Goals as goal
 
 pub write_words-requires : goal.write_words-requires
 write_words-requires c =
-    let z = c.before.before.before in
-    let s = z.before.before.before.before in
-    let a = s.args.end in
-    omega (arith, length_tail z.write_zeros.new.out (aligned a - a), z.write_zeros.auto.out, length-table 4 s.args.words.now, s.requires.1, aligned_up a)
-
+    let a = c.args.end in
+    omega (arith, length_tail c.write_zeros.new.out (aligned a - a), c.write_zeros.auto.out, length-table 4 c.args.words.now, c.requires.1, aligned_up a)
 
 pub returns : goal.returns
 returns c =
-    let z = c.before.before.before.before.before.before in
-    let s = z.before.before.before.before in
-    let a = s.args.end in
-    let t = table_bytes 4 s.args.words.now in
-    let gap : List ℕ = replicate (aligned a - a) 0 in record { value = ap (λ (k : ℕ). aligned a + k) (sym (length-table 4 s.args.words.now)); out_after = written_after gap t s.args.out.now (aligned a - a) (sym (length-replicate {A = ℕ} (aligned a - a) 0))
-          (omega (arith, length-replicate {A = ℕ} (aligned a - a) 0, aligned_up a, s.requires.1)) z.write_zeros.ensures c.write_words.ensures
-          ∙ ap (λ (l : List ℕ). written (gap ++ l) s.args.out.now) (sym (append-nil t)) }
+    let a = c.args.end in
+    let t = table_bytes 4 c.args.words.now in
+    let gap : List ℕ = replicate (aligned a - a) 0 in record { value = ap (λ (k : ℕ). aligned a + k) (sym (length-table 4 c.args.words.now)); out_after = written_after gap t c.args.out.now (aligned a - a) (sym (length-replicate {A = ℕ} (aligned a - a) 0))
+          (omega (arith, length-replicate {A = ℕ} (aligned a - a) 0, aligned_up a, c.requires.1)) c.write_zeros.ensures c.write_words.ensures
+          ∙ ap (λ (l : List ℕ). written (gap ++ l) c.args.out.now) (sym (append-nil t)) }

@@ -10,11 +10,8 @@ use Rattle.file_tables.proofs.write_header.Goals as goal
 
 pub returns : goal.returns
 returns c =
-    let n = c.before.before.before.before.before.before in
-    let s = n.before.before.before.before.before in
-    let ks = products widths s.args.lengths.now in
+    let ks = products widths c.args.lengths.now in
     let os : List ℕ = offsets_from 80 ks ++ (end_from 80 ks ∷ []) in
     let many : length os ≡ 12 =
-    length-append (offsets_from 80 ks) (end_from 80 ks ∷ []) ∙ ap (λ (k : ℕ). k + 1) (length_offsets 80 ks ∙ length-products widths s.args.lengths.now s.requires.1) in
-    written_after s.args.counts.now os s.args.out.now 8 (sym s.requires.0) (omega (arith, many)) n.copy_numbers.ensures c.write_offsets.ensures
-
+    length-append (offsets_from 80 ks) (end_from 80 ks ∷ []) ∙ ap (λ (k : ℕ). k + 1) (length_offsets 80 ks ∙ length-products widths c.args.lengths.now c.requires.1) in
+    written_after c.args.counts.now os c.args.out.now 8 (sym c.requires.0) (omega (arith, many)) c.copy_numbers.ensures c.write_offsets.ensures

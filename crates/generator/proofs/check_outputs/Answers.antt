@@ -7,7 +7,5 @@ use Rattle.generator.proofs.check_outputs.Goals as goal
 
 pub returns : goal.returns
 returns c =
-    let l = c.before.before.before in
-    let a = l.args in
-    c.check_rooms.ensures ∙ ap (λ (ks : List ℕ). cond (roomy ks a.rooms.now) 0 11) l.write_lengths.ensures
-
+    let a = c.args in
+    c.check_rooms.ensures ∙ ap (λ (ks : List ℕ). cond (roomy ks a.rooms.now) 0 11) c.write_lengths.ensures

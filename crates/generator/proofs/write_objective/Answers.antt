@@ -9,6 +9,4 @@ use Rattle.generator.proofs.write_objective.Goals as goal
 pub returns : goal.returns
 unfolding of_bits
 returns c =
-    let f = c.before.before in
-    let g = f.before.before.before.before in
-    let a = g.args in record { p_starts_out_after = g.fill_numbers.ensures ∙ ap (λ (k : ℕ). written (replicate k 0) a.p_starts_out.now) (add-one a.n); q_out_after = f.fill_values.ensures }
+    let a = c.args in record { p_starts_out_after = c.fill_numbers.ensures ∙ ap (λ (k : ℕ). written (replicate k 0) a.p_starts_out.now) (add-one a.n); q_out_after = c.fill_values.ensures }

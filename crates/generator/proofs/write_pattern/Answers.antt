@@ -9,18 +9,11 @@ use Rattle.generator.proofs.write_pattern.Goals as goal
 
 pub write_words-requires : goal.write_words-requires
 write_words-requires c =
-    let d = c.before.before.before.before in
-    let s = d.before.before.before.before in
-    let size : length d.draw_ordering.new.out ≡ length s.args.ordering.now = d.draw_ordering.auto.out in
-    subst (λ (k : ℕ). (s.args.w < k) × (k ≤ 64) × (3 + k + (k - s.args.w) * (s.args.w + 4) ≤ length s.args.out.now)) (sym size) s.requires
-
+    let size : length c.draw_ordering.new.out ≡ length c.args.ordering.now = c.draw_ordering.auto.out in
+    subst (λ (k : ℕ). (c.args.w < k) × (k ≤ 64) × (3 + k + (k - c.args.w) * (c.args.w + 4) ≤ length c.args.out.now)) (sym size) c.requires
 
 pub returns : goal.returns
 returns c =
-    let w = c.before.before in
-    let d = w.before.before.before.before.before in
-    let s = d.before.before.before.before in
-    let size : length d.draw_ordering.new.out ≡ length s.args.ordering.now = d.draw_ordering.auto.out in
-    w.write_words.ensures
-    ∙ ap₂ (λ (os : List ℕ) (k : ℕ). written (pattern_words_of (band os k s.args.w)) s.args.out.now) d.draw_ordering.ensures.out_after size
-
+    let size : length c.draw_ordering.new.out ≡ length c.args.ordering.now = c.draw_ordering.auto.out in
+    c.write_words.ensures
+    ∙ ap₂ (λ (os : List ℕ) (k : ℕ). written (pattern_words_of (band os k c.args.w)) c.args.out.now) c.draw_ordering.ensures.out_after size

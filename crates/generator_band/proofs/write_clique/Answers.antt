@@ -9,9 +9,6 @@ use Rattle.generator_band.proofs.write_clique.Goals as goal
 
 pub returns : goal.returns
 returns c =
-    let t = c.before.before in
-    let u = t.before.before.before.before in
-    let a = u.args in
+    let a = c.args in
     written_after (a.parent ∷ a.snode ∷ a.separator ∷ []) (up_from a.first (a.snode + a.separator)) a.out.now 3 refl
-    (omega (arith, length-up_from a.first (a.snode + a.separator))) u.copy_numbers.ensures t.write_members.ensures
-
+    (omega (arith, length-up_from a.first (a.snode + a.separator))) c.copy_numbers.ensures c.write_members.ensures

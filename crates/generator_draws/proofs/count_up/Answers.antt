@@ -11,23 +11,19 @@ use Rattle.generator_draws.proofs.count_up.Goals as goal
 
 pub loop-i-preserved : goal.loop-i-preserved
 loop-i-preserved c =
-    let l = c.before in
-    let old = l.args.out.now in
-    let i = l.loop-i.i in (
+    let old = c.args.out.now in
+    let i = c.loop-i.i in (
       omega arith,
-      simp length-set l.loop-i.invariant.1,
-      rw l.loop-i.invariant.2 (set-written (below i) old i i (sym (length-below i)) (omega arith)
+      simp length-set c.loop-i.invariant.1,
+      rw c.loop-i.invariant.2 (set-written (below i) old i i (sym (length-below i)) (omega arith)
           ∙ ap (λ (xs : List ℕ). written xs old) (sym (below_more i))),
     )
-
 
 pub shape_of-out : goal.shape_of-out
 shape_of-out c = c.loop-i.invariant.1
 
 pub returns : goal.returns
 returns c =
-    let l = c.before in
-    let old = l.args.out.now in
-    let e : l.loop-i.i ≡ length old = omega arith in
-    l.loop-i.invariant.2 ∙ written-whole (below l.loop-i.i) old (sym e ∙ sym (length-below l.loop-i.i)) ∙ ap below e
-
+    let old = c.args.out.now in
+    let e : c.loop-i.i ≡ length old = omega arith in
+    c.loop-i.invariant.2 ∙ written-whole (below c.loop-i.i) old (sym e ∙ sym (length-below c.loop-i.i)) ∙ ap below e

@@ -28,4 +28,3 @@ returns c =
     let d = c.args.d in
     let e : to_z w32 (d % 201) ≡ pos (d % 201) = to_z_pos w32 (omega (arith, low d)) in
     ap (of_int binary64) (to_z-of_z (fits (d % 201) (low d)) ∙ ap (λ (z : ℤ). z -ℤ pos 100) e)
-

@@ -9,7 +9,5 @@ invariant-loop-done l =
     (1 ≤ l.done) × (l.done ≤ length l.initial.out) × (length l.out ≡ length l.initial.out)
     × (draws (l.count - l.done) l.s ≡ draws (l.count - 1) l.seed) × (exchanges (l.count - l.done) l.s l.out ≡ exchanges (l.count - 1) l.seed l.initial.out)
 
-
 abbrev pub decreases-loop-done : goal.decreases-loop-done
 decreases-loop-done l = l.count - l.done
-

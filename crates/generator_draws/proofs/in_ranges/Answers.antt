@@ -19,7 +19,6 @@ returns-then-w-lt1 c =
       lt-leb _ _ c.if-w-lt1.true,
     )
 
-
 pub returns-then-v-w : goal.returns-then-v-w
 returns-then-v-w c =
     simp (
@@ -29,7 +28,6 @@ returns-then-v-w c =
       le-leb _ _ c.if-w-lt1.false,
       le-ltb _ _ c.if-v-w.true,
     )
-
 
 pub returns-then-n-lt1 : goal.returns-then-n-lt1
 returns-then-n-lt1 c =
@@ -42,7 +40,6 @@ returns-then-n-lt1 c =
       lt-leb _ _ c.if-n-lt1.true,
     )
 
-
 pub returns : goal.returns
 returns c =
     simp (
@@ -53,4 +50,3 @@ returns c =
       lt-ltb _ _ c.if-v-w.false,
       le-leb _ _ c.if-n-lt1.false,
     )
-

@@ -21,24 +21,17 @@ returns-then-not-distinct_within c =
     let ws = c.args.words.now in
     sym (and_right (all (λ x. ltb x (length ws)) ws) (distinct ws) (repeats_within _ ws (sym c.distinct_within.ensures ∙ not-true _ c.if-not-distinct_within.true-raw)))
 
-
 pub loop-window-preserved : goal.loop-window-preserved
 loop-window-preserved c =
-    let d = c.before in
-    let l = d.before.before in
-    let ws = l.args.words.now in
-    let k = l.loop-window.window in
+    let ws = c.args.words.now in
+    let k = c.loop-window.window in
     let e : k * 8388608 + 8388608 ≡ (k + 1) * 8388608 = omega arith in (
       omega arith,
-      rw e at (window_more (k * 8388608) 8388608 ws l.loop-window.invariant.1 (passes _ (sym d.distinct_within.ensures ∙ not-false _ c.if-not-distinct_within.false-raw))),
+      rw e at (window_more (k * 8388608) 8388608 ws c.loop-window.invariant.1 (passes _ (sym c.distinct_within.ensures ∙ not-false _ c.if-not-distinct_within.false-raw))),
     )
-
 
 pub returns : goal.returns
 returns c =
-    let l = c.before in
-    let a = l.before.before in
-    let ws = a.args.words.now in
-    let every : all (λ x. ltb x (length ws)) ws ≡ true = sym a.all_below.ensures ∙ not-false _ l.if-not-all_below.false-raw in
-    sym (and-true _ _ every ∙ windows_all (length ws) (l.loop-window.window * 8388608) ws every c.loop-window-test.false l.loop-window.invariant.1)
-
+    let ws = c.args.words.now in
+    let every : all (λ x. ltb x (length ws)) ws ≡ true = sym c.all_below.ensures ∙ not-false _ c.if-not-all_below.false-raw in
+    sym (and-true _ _ every ∙ windows_all (length ws) (c.loop-window.window * 8388608) ws every c.loop-window-test.false c.loop-window.invariant.1)

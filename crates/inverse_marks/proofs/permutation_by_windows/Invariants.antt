@@ -8,7 +8,5 @@ abbrev pub invariant-loop-window : goal.invariant-loop-window
 invariant-loop-window l =
     (l.window * 8388608 < length l.words + 8388608) × T (distinct (keep (λ x. ltb x (l.window * 8388608)) l.words))
 
-
 abbrev pub decreases-loop-window : goal.decreases-loop-window
 decreases-loop-window l = length l.words + 8388608 - l.window * 8388608
-

@@ -12,20 +12,16 @@ use Rattle.inverse_permutation.proofs.all_placed.Goals.{then-table-i, else-table
 
 pub loop-i-preserved : goal.loop-i-preserved
 loop-i-preserved c =
-    let l = c.before.before.before in
-    let table = l.args.table.now in
-    let i = l.loop-i.i in
-    let left : Bool → Bool = λ b. l.loop-i.placed && b in
+    let table = c.args.table.now in
+    let i = c.loop-i.i in
+    let left : Bool → Bool = λ b. c.loop-i.placed && b in
     let next : Bool → Bool = λ b. b && all written_at (drop (i + 1) table) in
     elim c.if-table-i.branch [
-      | then-table-i w ↦ (omega arith, l.loop-i.invariant.1 ∙ ap left (all_fails written_at table i 0 (omega arith) (ap not (eq-eqb _ _ w.if-table-i.true))) ∙ and-false l.loop-i.placed ∙ ap next (sym w.placed-is))
-      | else-table-i w ↦ (omega arith, l.loop-i.invariant.1 ∙ ap left (all-step written_at table i 0 (omega arith) (ap not (ne_eqb _ _ w.if-table-i.false))) ∙ ap next (sym w.placed-is))
+      | then-table-i w ↦ (omega arith, c.loop-i.invariant.1 ∙ ap left (all_fails written_at table i 0 (omega arith) (ap not (eq-eqb _ _ w.if-table-i.true))) ∙ and-false c.loop-i.placed ∙ ap next (sym w.placed-is))
+      | else-table-i w ↦ (omega arith, c.loop-i.invariant.1 ∙ ap left (all-step written_at table i 0 (omega arith) (ap not (ne_eqb _ _ w.if-table-i.false))) ∙ ap next (sym w.placed-is))
     ]
-
 
 pub returns : goal.returns
 returns c =
-    let l = c.before in
-    let left : Bool → Bool = λ b. l.loop-i.placed && b in
-    sym (l.loop-i.invariant.1 ∙ ap left (all_done written_at l.args.table.now l.loop-i.i c.loop-i-test.false) ∙ and-true l.loop-i.placed)
-
+    let left : Bool → Bool = λ b. c.loop-i.placed && b in
+    sym (c.loop-i.invariant.1 ∙ ap left (all_done written_at c.args.table.now c.loop-i.i c.loop-i-test.false) ∙ and-true c.loop-i.placed)

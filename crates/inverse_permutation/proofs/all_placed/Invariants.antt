@@ -13,7 +13,5 @@ written_at x = not (eqb x 4294967295)
 abbrev pub invariant-loop-i : goal.invariant-loop-i
 invariant-loop-i l = (l.i ≤ length l.table) × (all written_at l.table ≡ (l.placed && all written_at (drop l.i l.table)))
 
-
 abbrev pub decreases-loop-i : goal.decreases-loop-i
 decreases-loop-i l = length l.table - l.i
-

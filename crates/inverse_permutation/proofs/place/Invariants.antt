@@ -12,7 +12,5 @@ invariant-loop-k l =
     (l.k ≤ length l.p) × (length l.table ≡ length l.initial.table) × (all (λ x. ltb x (length l.p)) l.p ≡ all (λ x. ltb x (length l.p)) (drop l.k l.p))
     × (scattered l.k (drop l.k l.p) l.table ≡ scattered 0 l.p l.initial.table)
 
-
 abbrev pub decreases-loop-k : goal.decreases-loop-k
 decreases-loop-k l = length l.p - l.k
-

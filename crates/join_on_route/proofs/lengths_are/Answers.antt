@@ -11,4 +11,3 @@ pub returns : goal.returns
 returns c =
     let a = c.args in
     rw (eq-eqb a.x a.columns c.if-x-columns.false, eq-eqb a.s a.rows c.if-s-rows.false)
-

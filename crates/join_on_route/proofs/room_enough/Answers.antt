@@ -17,4 +17,3 @@ pub returns : goal.returns
 returns c =
     simp (le-leb _ _ c.if-x-n.false, le-leb _ _ c.if-s-m.false, le-leb _ _ c.if-z-m.false)
     (sym (and-true (leb 2 c.args.scalars)))
-

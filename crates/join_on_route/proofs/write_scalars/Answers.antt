@@ -8,4 +8,3 @@ pub returns : goal.returns
 returns c =
     let a = c.args in
     two_more [] a.out.now a.scalars.tau a.scalars.kappa 0 refl (omega arith)
-

@@ -5,12 +5,8 @@ use Rattle.join_rows.proofs.copy_x.Goals as goal
 
 pub slice_bounds-copy_values-end : goal.slice_bounds-copy_values-end
 slice_bounds-copy_values-end c =
-    let s = c.before.before.before.before in
-    sym (length-take-le s.args.n s.args.x.now (omega arith))
-
+    sym (length-take-le c.args.n c.args.x.now (omega arith))
 
 pub copy_values-requires : goal.copy_values-requires
 copy_values-requires c =
-    let s = c.before.before.before.before in
-    omega (arith, length-take-le s.args.n s.args.x.now (omega arith))
-
+    omega (arith, length-take-le c.args.n c.args.x.now (omega arith))

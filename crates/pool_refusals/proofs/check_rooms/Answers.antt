@@ -7,28 +7,20 @@ use Rattle.pool_refusals.proofs.check_rooms.Goals as goal
 
 pub returns-then-rooms-i : goal.returns-then-rooms-i
 returns-then-rooms-i c =
-    let b = c.before.before in
-    let a = b.args in
-    sym (ap (λ (t : Bool). cond t 0 11) (b.loop-i.invariant.1 ∙ room_missing a.needs.now a.rooms.now b.loop-i.i c.loop-i-test.true c.if-rooms-i.true))
-
+    let a = c.args in
+    sym (ap (λ (t : Bool). cond t 0 11) (c.loop-i.invariant.1 ∙ room_missing a.needs.now a.rooms.now c.loop-i.i c.loop-i-test.true c.if-rooms-i.true))
 
 pub returns-then-rooms-i-2 : goal.returns-then-rooms-i-2
 returns-then-rooms-i-2 c =
-    let b = c.before.before.before.before.before in
-    let a = b.args in
-    sym (ap (λ (t : Bool). cond t 0 11) (b.loop-i.invariant.1 ∙ room_less a.needs.now a.rooms.now b.loop-i.i (omega arith) (omega arith) c.if-rooms-i-2.true))
-
+    let a = c.args in
+    sym (ap (λ (t : Bool). cond t 0 11) (c.loop-i.invariant.1 ∙ room_less a.needs.now a.rooms.now c.loop-i.i (omega arith) (omega arith) c.if-rooms-i-2.true))
 
 pub loop-i-preserved : goal.loop-i-preserved
 loop-i-preserved c =
-    let b = c.before.before.before.before.before in
-    let a = b.args in
-    (omega arith, b.loop-i.invariant.1 ∙ room-step a.needs.now a.rooms.now b.loop-i.i (omega arith) (omega arith) c.if-rooms-i-2.false)
-
+    let a = c.args in
+    (omega arith, c.loop-i.invariant.1 ∙ room-step a.needs.now a.rooms.now c.loop-i.i (omega arith) (omega arith) c.if-rooms-i-2.false)
 
 pub returns : goal.returns
 returns c =
-    let b = c.before in
-    let a = b.args in
-    sym (ap (λ (t : Bool). cond t 0 11) (b.loop-i.invariant.1 ∙ room-done a.needs.now a.rooms.now b.loop-i.i c.loop-i-test.false))
-
+    let a = c.args in
+    sym (ap (λ (t : Bool). cond t 0 11) (c.loop-i.invariant.1 ∙ room-done a.needs.now a.rooms.now c.loop-i.i c.loop-i-test.false))

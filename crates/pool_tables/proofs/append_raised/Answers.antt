@@ -8,10 +8,6 @@ use Rattle.pool_tables.proofs.append_raised.Goals as goal
 
 pub returns : goal.returns
 returns c =
-    let f = c.before.before in
-    let g = f.before.before.before.before in
-    let s = g.before.before.before.before.before in
-    let a = s.args in
+    let a = c.args in
     written_after a.xs.now (raised a.k a.ys.now) a.out.now (length a.xs.now) refl
-    (omega (arith, s.requires.ys_in_bounds, length-map a.ys.now (λ y. a.k + y))) g.copy_numbers.ensures f.raise_numbers.ensures
-
+    (omega (arith, c.requires.ys_in_bounds, length-map a.ys.now (λ y. a.k + y))) c.copy_numbers.ensures c.raise_numbers.ensures

@@ -5,8 +5,4 @@ use Rattle.pool_tables.proofs.append_values.Goals as goal
 
 pub returns : goal.returns
 returns c =
-    let f = c.before.before in
-    let g = f.before.before.before.before in
-    let s = g.before.before.before.before.before in
-    written_after s.args.xs.now s.args.ys.now s.args.out.now (length s.args.xs.now) refl s.requires g.copy_values.ensures f.copy_values-2.ensures
-
+    written_after c.args.xs.now c.args.ys.now c.args.out.now (length c.args.xs.now) refl c.requires c.copy_values.ensures c.copy_values-2.ensures

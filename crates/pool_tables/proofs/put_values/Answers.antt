@@ -9,21 +9,16 @@ use Rattle.pool_tables.proofs.put_values.Goals as goal
 
 pub append_values-requires : goal.append_values-requires
 append_values-requires c =
-    let s = c.before.before.before.before.before.before in
-    let a = s.args in
-    let one = part_length a.values.now a.first a.end s.requires.1 in
-    let two = part_length a.values2.now a.first2 a.end2 s.requires.3 in
-    omega (arith, s.requires, one, two, length_tail a.out.now (a.first + a.first2))
-
+    let a = c.args in
+    let one = part_length a.values.now a.first a.end c.requires.1 in
+    let two = part_length a.values2.now a.first2 a.end2 c.requires.3 in
+    omega (arith, c.requires, one, two, length_tail a.out.now (a.first + a.first2))
 
 pub returns : goal.returns
 returns c =
-    let t = c.before.before in
-    let s = t.before.before.before.before.before.before.before in
-    let a = s.args in
-    let one = part_length a.values.now a.first a.end s.requires.1 in
-    let two = part_length a.values2.now a.first2 a.end2 s.requires.3 in
+    let a = c.args in
+    let one = part_length a.values.now a.first a.end c.requires.1 in
+    let two = part_length a.values2.now a.first2 a.end2 c.requires.3 in
     let upper = part a.first a.end a.values.now in
     let lower = part a.first2 a.end2 a.values2.now in
-    put-after (upper ++ lower) a.out.now (a.first + a.first2) (omega (arith, s.requires, one, two, length-append upper lower)) t.append_values.ensures
-
+    put-after (upper ++ lower) a.out.now (a.first + a.first2) (omega (arith, c.requires, one, two, length-append upper lower)) c.append_values.ensures

@@ -13,27 +13,22 @@ overflow_add-out c = omega (arith, c.requires.raisable c.loop-i.i (omega arith))
 
 pub loop-i-preserved : goal.loop-i-preserved
 loop-i-preserved c =
-    let l = c.before.before in
-    let s = l.before in
-    let a = s.args in
+    let a = c.args in
     let xs = raised a.k a.src.now in
-    let i = l.loop-i.i in
+    let i = c.loop-i.i in
     let many = length-map a.src.now (λ x. a.k + x) in (
       omega arith,
-      simp length-set l.loop-i.invariant.1,
-      rw l.loop-i.invariant.2
+      simp length-set c.loop-i.invariant.1,
+      rw c.loop-i.invariant.2
           (ap (λ (v : ℕ). set (written (take i xs) a.out.now) i v) (sym (get_or_map (λ x. a.k + x) a.src.now i 0 0 (omega arith)))
-          ∙ copy_more xs a.out.now i 0 (omega arith) (omega (arith, s.requires.src_in_bounds))),
+          ∙ copy_more xs a.out.now i 0 (omega arith) (omega (arith, c.requires.src_in_bounds))),
     )
-
 
 pub shape_of-out : goal.shape_of-out
 shape_of-out c = c.loop-i.invariant.1
 
 pub returns : goal.returns
 returns c =
-    let l = c.before in
-    let a = l.args in
-    l.loop-i.invariant.2
-    ∙ copy_done (raised a.k a.src.now) a.out.now l.loop-i.i (omega (arith, c.loop-i-test.false, length-map a.src.now (λ x. a.k + x)))
-
+    let a = c.args in
+    c.loop-i.invariant.2
+    ∙ copy_done (raised a.k a.src.now) a.out.now c.loop-i.i (omega (arith, c.loop-i-test.false, length-map a.src.now (λ x. a.k + x)))

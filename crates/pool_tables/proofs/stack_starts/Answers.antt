@@ -23,22 +23,16 @@ bounds-out-c c = omega (arith, c.requires.starts_len)
 
 pub loop-c-preserved : goal.loop-c-preserved
 loop-c-preserved c =
-    let l = c.before.before.before in
-    let s = l.before in
-    let a = s.args in (
+    let a = c.args in (
       omega arith,
-      simp length-set l.loop-c.invariant.1,
-      rw l.loop-c.invariant.2 (mapped_more (start_sum a.starts.now a.starts2.now) a.out.now l.loop-c.c (omega (arith, s.requires.starts_len))),
+      simp length-set c.loop-c.invariant.1,
+      rw c.loop-c.invariant.2 (mapped_more (start_sum a.starts.now a.starts2.now) a.out.now c.loop-c.c (omega (arith, c.requires.starts_len))),
     )
-
 
 pub shape_of-out : goal.shape_of-out
 shape_of-out c = c.loop-c.invariant.1
 
 pub returns : goal.returns
 returns c =
-    let l = c.before in
-    let s = l.before in
-    let e : l.loop-c.c ≡ suc s.args.n = omega (arith, s.requires.starts_len) in
-    rw e at l.loop-c.invariant.2
-
+    let e : c.loop-c.c ≡ suc c.args.n = omega (arith, c.requires.starts_len) in
+    rw e at c.loop-c.invariant.2

@@ -13,7 +13,5 @@ abbrev pub invariant-loop-c : goal.invariant-loop-c
 invariant-loop-c l =
     (l.c ≤ length l.starts) × (length l.out ≡ length l.initial.out) × (l.out ≡ written (map (start_sum l.starts l.starts2) (below l.c)) l.initial.out)
 
-
 abbrev pub decreases-loop-c : goal.decreases-loop-c
 decreases-loop-c l = length l.starts - l.c
-

@@ -17,13 +17,9 @@ append_values-requires c = c.requires.b
 
 pub returns : goal.returns
 returns c =
-    let b = c.before.before in
-    let v = b.before.before.before.before in
-    let r = v.before.before.before.before in
-    let t = r.before.before.before.before in record {
-      a_starts = t.stack_starts.ensures;
-      a_rows = r.stack_rows.ensures;
-      a_values = v.stack_values.ensures;
-      b = b.append_values.ensures;
+    record {
+      a_starts = c.stack_starts.ensures;
+      a_rows = c.stack_rows.ensures;
+      a_values = c.stack_values.ensures;
+      c = c.append_values.ensures;
     }
-

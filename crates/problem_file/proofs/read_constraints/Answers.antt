@@ -9,20 +9,19 @@ use Rattle.file_shape.proofs.Parts.{stands_long, inside-words, inside-doubles}
 use Rattle.problem_file.proofs.read_constraints.Goals as goal
 
 pub count_at-n-requires : goal.count_at-n-requires
-count_at-n-requires c = let s = c.before.before.before.before.before in omega (arith, stands_long s.args.words.now s.requires.well_shaped)
+count_at-n-requires c = omega (arith, stands_long c.args.words.now c.requires.well_shaped)
 
 pub count_at-m-requires : goal.count_at-m-requires
-count_at-m-requires c = let s = c.before.before.before.before.before.before in omega (arith, stands_long s.args.words.now s.requires.well_shaped)
+count_at-m-requires c = omega (arith, stands_long c.args.words.now c.requires.well_shaped)
 
 pub count_at-a-requires : goal.count_at-a-requires
-count_at-a-requires c = let s = c.before.before.before.before.before.before.before in omega (arith, stands_long s.args.words.now s.requires.well_shaped)
+count_at-a-requires c = omega (arith, stands_long c.args.words.now c.requires.well_shaped)
 
 pub read_matrix-requires : goal.read_matrix-requires
 read_matrix-requires c =
-    let s = c.before.before.before.before.before.before.before.before.before.before.before.before in
-    let ws = s.args.words.now in
-    let ok = s.requires.well_shaped in
-    let room = s.requires.fact in
+    let ws = c.args.words.now in
+    let ok = c.requires.well_shaped in
+    let room = c.requires.fact in
     let (n, low) = c.count_at-n.ensures in
     let (entries, _) = c.count_at-a.ensures in
     let (rows, _) = c.count_at-m.ensures in record { first_bound = (omega arith, low); inside = (
@@ -46,10 +45,9 @@ shape_of-b_out c = c.read_matrix.auto.side_out
 
 pub returns : goal.returns
 returns c =
-    let s = c.before.before.before.before.before.before.before.before.before.before.before.before.before.before.before.before.before.before.before.before.before in
-    let ws = s.args.words.now in
+    let ws = c.args.words.now in
     let call = c.read_matrix.ensures in
     let (n, low) = c.count_at-n.ensures in
     let (entries, _) = c.count_at-a.ensures in
     let (rows, _) = c.count_at-m.ensures in
-    let starts : c.count_at-n.result + 1 ≡ suc (get_or ws 0 0) = omega (arith, n) in record { starts_out_after = call.0 ∙ ap (λ (k : ℕ). written (words_at ws 4 k) s.args.starts_out.now) starts; rows_out_after = call.1.0 ∙ ap (λ (k : ℕ). written (words_at ws 5 k) s.args.rows_out.now) entries; values_out_after = call.1.1.0 ∙ ap (λ (k : ℕ). written (pairs_of (words_at ws 6 (2 * k))) s.args.values_out.now) entries; b_out_after = call.1.1.1 ∙ ap (λ (k : ℕ). written (pairs_of (words_at ws 7 (2 * k))) s.args.b_out.now) rows }
+    let starts : c.count_at-n.result + 1 ≡ suc (get_or ws 0 0) = omega (arith, n) in record { starts_out_after = call.0 ∙ ap (λ (k : ℕ). written (words_at ws 4 k) c.args.starts_out.now) starts; rows_out_after = call.1.0 ∙ ap (λ (k : ℕ). written (words_at ws 5 k) c.args.rows_out.now) entries; values_out_after = call.1.1.0 ∙ ap (λ (k : ℕ). written (pairs_of (words_at ws 6 (2 * k))) c.args.values_out.now) entries; b_out_after = call.1.1.1 ∙ ap (λ (k : ℕ). written (pairs_of (words_at ws 7 (2 * k))) c.args.b_out.now) rows }

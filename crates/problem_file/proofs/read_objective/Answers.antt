@@ -9,17 +9,16 @@ use Rattle.file_shape.proofs.Parts.{stands_long, inside-words, inside-doubles}
 use Rattle.problem_file.proofs.read_objective.Goals as goal
 
 pub count_at-n-requires : goal.count_at-n-requires
-count_at-n-requires c = let s = c.before.before.before.before.before in omega (arith, stands_long s.args.words.now s.requires.well_shaped)
+count_at-n-requires c = omega (arith, stands_long c.args.words.now c.requires.well_shaped)
 
 pub count_at-p-requires : goal.count_at-p-requires
-count_at-p-requires c = let s = c.before.before.before.before.before.before in omega (arith, stands_long s.args.words.now s.requires.well_shaped)
+count_at-p-requires c = omega (arith, stands_long c.args.words.now c.requires.well_shaped)
 
 pub read_matrix-requires : goal.read_matrix-requires
 read_matrix-requires c =
-    let s = c.before.before.before.before.before.before.before.before.before.before.before in
-    let ws = s.args.words.now in
-    let ok = s.requires.well_shaped in
-    let room = s.requires.fact in
+    let ws = c.args.words.now in
+    let ok = c.requires.well_shaped in
+    let room = c.requires.fact in
     let (n, low) = c.count_at-n.ensures in
     let (entries, _) = c.count_at-p.ensures in record { first_bound = (omega arith, low); inside = (
           inside-words ws ok 0 (c.count_at-n.result + 1) (suc (get_or ws 0 0)) (lit< tt) refl (omega (arith, n)),
@@ -42,9 +41,8 @@ shape_of-q_out c = c.read_matrix.auto.side_out
 
 pub returns : goal.returns
 returns c =
-    let s = c.before.before.before.before.before.before.before.before.before.before.before.before.before.before.before.before.before.before.before.before in
-    let ws = s.args.words.now in
+    let ws = c.args.words.now in
     let call = c.read_matrix.ensures in
     let (n, low) = c.count_at-n.ensures in
     let (entries, _) = c.count_at-p.ensures in
-    let starts : c.count_at-n.result + 1 ≡ suc (get_or ws 0 0) = omega (arith, n) in record { starts_out_after = call.0 ∙ ap (λ (k : ℕ). written (words_at ws 0 k) s.args.starts_out.now) starts; rows_out_after = call.1.0 ∙ ap (λ (k : ℕ). written (words_at ws 1 k) s.args.rows_out.now) entries; values_out_after = call.1.1.0 ∙ ap (λ (k : ℕ). written (pairs_of (words_at ws 2 (2 * k))) s.args.values_out.now) entries; q_out_after = call.1.1.1 ∙ ap (λ (k : ℕ). written (pairs_of (words_at ws 3 (2 * k))) s.args.q_out.now) n }
+    let starts : c.count_at-n.result + 1 ≡ suc (get_or ws 0 0) = omega (arith, n) in record { starts_out_after = call.0 ∙ ap (λ (k : ℕ). written (words_at ws 0 k) c.args.starts_out.now) starts; rows_out_after = call.1.0 ∙ ap (λ (k : ℕ). written (words_at ws 1 k) c.args.rows_out.now) entries; values_out_after = call.1.1.0 ∙ ap (λ (k : ℕ). written (pairs_of (words_at ws 2 (2 * k))) c.args.values_out.now) entries; q_out_after = call.1.1.1 ∙ ap (λ (k : ℕ). written (pairs_of (words_at ws 3 (2 * k))) c.args.q_out.now) n }

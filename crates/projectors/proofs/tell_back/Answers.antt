@@ -3,7 +3,5 @@ use Rattle.projectors.proofs.tell_back.Goals as goal
 
 pub slice_bounds-map-end : goal.slice_bounds-map-end
 slice_bounds-map-end c =
-    let s = c.before.before.before.before.before.before.before.before.before.before in
-    let h : length s.args.t6 ≡ 32 = search rules in
-    sym (length-take-le (c.item-n.result % 33) s.args.t6 (omega arith))
-
+    let h : length c.args.t6 ≡ 32 = search rules in
+    sym (length-take-le (c.item-n.result % 33) c.args.t6 (omega arith))

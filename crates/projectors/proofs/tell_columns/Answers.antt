@@ -7,4 +7,3 @@ loop-i-preserved c =
       | inl w ↦ (omega (arith, w.2), omega arith)
       | inr w ↦ (omega (arith, w.1), omega arith)
     ]
-

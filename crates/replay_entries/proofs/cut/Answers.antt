@@ -12,4 +12,3 @@ pub cut_by_entries-r-requires : goal.cut_by_entries-r-requires
 cut_by_entries-r-requires c =
     let e = c.entries_in-entries.ensures in
     (omega (arith, c.before-2-1.given.1.1), e.0, omega arith, e.1)
-

@@ -4,7 +4,5 @@ use Rattle.replay_entries.proofs.replay.Given as goal
 abbrev pub invariant-loop-k : goal.invariant-loop-k
 invariant-loop-k l = l.k ≤ l.cases
 
-
 abbrev pub decreases-loop-k : goal.decreases-loop-k
 decreases-loop-k l = l.cases - l.k
-

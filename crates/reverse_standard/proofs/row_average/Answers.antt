@@ -28,8 +28,6 @@ quotient-requires c = subst (λ (k : ℕ). 0 < k) (sym c.at_least_one.ensures) (
 
 pub returns : goal.returns
 returns c =
-    let s = c.before.before in
     c.quotient.ensures
-    ∙ ap (λ (k : ℕ). div binary64 s.args.v (of_int binary64 (pos k))) c.at_least_one.ensures
-    ∙ average s.args.count s.args.v (subst T (sym s.well_formed.0.1) tt)
-
+    ∙ ap (λ (k : ℕ). div binary64 c.args.v (of_int binary64 (pos k))) c.at_least_one.ensures
+    ∙ average c.args.count c.args.v (subst T (sym c.well_formed.0.1) tt)

@@ -16,28 +16,24 @@ loop-i-init c = (zero-le, refl, refl)
 pub loop-i-preserved : goal.loop-i-preserved
 unfolding of_bits
 loop-i-preserved c =
-    let l = c.before.before in
-    let a = l.args in
+    let a = c.args in
     let f = add binary64 zero64 in
-    let i = l.loop-i.i in
+    let i = c.loop-i.i in
     let size = length-map a.values.now f in (
       omega arith,
-      simp length-set l.loop-i.invariant.1,
-      rw l.loop-i.invariant.2
+      simp length-set c.loop-i.invariant.1,
+      rw c.loop-i.invariant.2
           (ap (set (written (take i (map f a.values.now)) a.out.now) i) (sym (get_or_map f a.values.now i nan nan (omega arith)))
-          ∙ copy_more (map f a.values.now) a.out.now i nan (omega (arith, size)) (omega (arith, size, l.requires))),
+          ∙ copy_more (map f a.values.now) a.out.now i nan (omega (arith, size)) (omega (arith, size, c.requires))),
     )
-
 
 pub shape_of-out : goal.shape_of-out
 shape_of-out c = c.loop-i.invariant.1
 
 pub returns : goal.returns
 returns c =
-    let l = c.before in
-    let a = l.args in
+    let a = c.args in
     let vs = map (add binary64 zero64) a.values.now in
     let size = length-map a.values.now (add binary64 zero64) in
-    l.loop-i.invariant.2 ∙ copy_done vs a.out.now l.loop-i.i (omega (arith, size))
-    ∙ written-whole vs a.out.now (omega (arith, size, l.requires))
-
+    c.loop-i.invariant.2 ∙ copy_done vs a.out.now c.loop-i.i (omega (arith, size))
+    ∙ written-whole vs a.out.now (omega (arith, size, c.requires))

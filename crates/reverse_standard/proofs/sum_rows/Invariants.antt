@@ -11,7 +11,5 @@ abbrev pub invariant-loop-i : goal.invariant-loop-i
 invariant-loop-i l =
     (l.i ≤ length l.values) × (length l.out ≡ length l.initial.out) × (l.out ≡ written (take l.i (map (add binary64 zero64) l.values)) l.initial.out)
 
-
 abbrev pub decreases-loop-i : goal.decreases-loop-i
 decreases-loop-i l = length l.values - l.i
-

@@ -15,22 +15,18 @@ loop-j-init c = (omega arith, refl, refl)
 
 pub loop-j-preserved : goal.loop-j-preserved
 loop-j-preserved c =
-    let l = c.before.before in
-    let s = l.before in
-    let a = s.args in
-    let j = l.loop-j.j in
+    let a = c.args in
+    let j = c.loop-j.j in
     let ws = cone_words (get_or (records a.cones.now) a.i no_cone) in
     let m : j < 3 = c.loop-j-test.true in (
       omega arith,
-      simp length-set l.loop-j.invariant.1,
-      ap₂ (λ (o : List ℕ) (x : ℕ). set o j x) l.loop-j.invariant.2 (word_of a.cones.now a.i j s.requires.0 m) ∙ copy_more ws a.out.now j 0 m s.requires.2,
+      simp length-set c.loop-j.invariant.1,
+      ap₂ (λ (o : List ℕ) (x : ℕ). set o j x) c.loop-j.invariant.2 (word_of a.cones.now a.i j c.requires.0 m) ∙ copy_more ws a.out.now j 0 m c.requires.2,
     )
-
 
 pub shape_of-out : goal.shape_of-out
 shape_of-out c = c.loop-j.invariant.1
 
 pub returns : goal.returns
 returns c =
-    let l = c.before in
-    let a = l.args in record { value = omega (arith, l.loop-j.invariant.0, c.loop-j-test.false); out_after = l.loop-j.invariant.2 ∙ copy_done (cone_words (get_or (records a.cones.now) a.i no_cone)) a.out.now l.loop-j.j c.loop-j-test.false }
+    let a = c.args in record { value = omega (arith, c.loop-j.invariant.0, c.loop-j-test.false); out_after = c.loop-j.invariant.2 ∙ copy_done (cone_words (get_or (records a.cones.now) a.i no_cone)) a.out.now c.loop-j.j c.loop-j-test.false }

@@ -10,7 +10,5 @@ use Rattle.rows_tables.proofs.copy_record.Given as goal
 abbrev pub invariant-loop-j : goal.invariant-loop-j
 invariant-loop-j l = (l.j ≤ 3) × (length l.out ≡ length l.initial.out) × (l.out ≡ written (take l.j (cone_words (get_or (records l.cones) l.i no_cone))) l.initial.out)
 
-
 abbrev pub decreases-loop-j : goal.decreases-loop-j
 decreases-loop-j l = 3 - l.j
-

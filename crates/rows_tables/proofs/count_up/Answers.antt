@@ -9,20 +9,17 @@ use Rattle.rows_tables.proofs.count_up.Goals as goal
 
 pub loop-i-preserved : goal.loop-i-preserved
 loop-i-preserved c =
-    let l = c.before in
-    let a = l.args in (
+    let a = c.args in (
       omega arith,
-      simp length-set l.loop-i.invariant.1,
-      ap (λ (o : List ℕ). set o l.loop-i.i (a.first + l.loop-i.i)) l.loop-i.invariant.2
-          ∙ count_more a.out.now a.first l.loop-i.i (omega arith),
+      simp length-set c.loop-i.invariant.1,
+      ap (λ (o : List ℕ). set o c.loop-i.i (a.first + c.loop-i.i)) c.loop-i.invariant.2
+          ∙ count_more a.out.now a.first c.loop-i.i (omega arith),
     )
-
 
 pub shape_of-out : goal.shape_of-out
 shape_of-out c = c.loop-i.invariant.1
 
 pub returns : goal.returns
 returns c =
-    let l = c.before in
-    let a = l.args in
-    let e : l.loop-i.i ≡ a.count = omega arith in record { value = e; out_after = l.loop-i.invariant.2 ∙ ap (λ (k : ℕ). written (up_from a.first k) a.out.now) e }
+    let a = c.args in
+    let e : c.loop-i.i ≡ a.count = omega arith in record { value = e; out_after = c.loop-i.invariant.2 ∙ ap (λ (k : ℕ). written (up_from a.first k) a.out.now) e }

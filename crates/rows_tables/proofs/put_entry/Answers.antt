@@ -10,7 +10,5 @@ bounds-out-t-2 c = simp length-set (omega arith)
 
 pub returns : goal.returns
 returns c =
-    let k = c.before.before in
-    let a = k.args in
-    ap (λ (l : List ℕ). set (set l (a.t + 3) a.first) (a.t + 4) a.rows) k.put.ensures
-
+    let a = c.args in
+    ap (λ (l : List ℕ). set (set l (a.t + 3) a.first) (a.t + 4) a.rows) c.put.ensures

@@ -4,13 +4,11 @@ use Rattle.layout.proofs.Lists.Tests.{passes}
 use Rattle.same_tables.proofs.same_double.Goals as goal
 
 pub returns-then-x : goal.returns-then-x
-returns-then-x c = let s = c.before in nan-compared s.args.x s.args.y (passes _ s.well_formed.0.1) (passes _ s.well_formed.1.0.1) c.if-x.true
+returns-then-x c = nan-compared c.args.x c.args.y (passes _ c.well_formed.0.1) (passes _ c.well_formed.1.0.1) c.if-x.true
 
 pub returns-then-y : goal.returns-then-y
 returns-then-y c =
-    let s = c.before.before in
-    sym (nan-second s.args.x s.args.y (passes _ s.well_formed.0.1) (passes _ s.well_formed.1.0.1) c.if-x.false c.if-y.true)
-
+    sym (nan-second c.args.x c.args.y (passes _ c.well_formed.0.1) (passes _ c.well_formed.1.0.1) c.if-x.false c.if-y.true)
 
 pub float_to_bits-bits : goal.float_to_bits-bits
 float_to_bits-bits c = rw (sym (ne_self c.args.x) ∙ c.if-x.false) tt

@@ -12,21 +12,15 @@ returns-then-xs-ys c = let a = c.args in sym (same_lengths same_bits a.xs.now a.
 
 pub returns-then-not-same_double : goal.returns-then-not-same_double
 returns-then-not-same_double c =
-    let l = c.before.before.before.before.before in
-    let a = l.args in
-    sym (l.loop-i.invariant.1 ∙ same_miss same_bits a.xs.now a.ys.now nan l.loop-i.i (omega arith) (omega arith) (sym c.same_double.ensures ∙ not-true _ c.if-not-same_double.true-raw))
-
+    let a = c.args in
+    sym (c.loop-i.invariant.1 ∙ same_miss same_bits a.xs.now a.ys.now nan c.loop-i.i (omega arith) (omega arith) (sym c.same_double.ensures ∙ not-true _ c.if-not-same_double.true-raw))
 
 pub loop-i-preserved : goal.loop-i-preserved
 loop-i-preserved c =
-    let l = c.before.before.before.before.before in
-    let a = l.args in
-    (omega arith, l.loop-i.invariant.1 ∙ same_step same_bits a.xs.now a.ys.now nan l.loop-i.i (omega arith) (omega arith) (sym c.same_double.ensures ∙ not-false _ c.if-not-same_double.false-raw))
-
+    let a = c.args in
+    (omega arith, c.loop-i.invariant.1 ∙ same_step same_bits a.xs.now a.ys.now nan c.loop-i.i (omega arith) (omega arith) (sym c.same_double.ensures ∙ not-false _ c.if-not-same_double.false-raw))
 
 pub returns : goal.returns
 returns c =
-    let l = c.before in
-    let a = l.args in
-    sym (l.loop-i.invariant.1 ∙ same_done same_bits a.xs.now a.ys.now l.loop-i.i (omega arith) (omega arith))
-
+    let a = c.args in
+    sym (c.loop-i.invariant.1 ∙ same_done same_bits a.xs.now a.ys.now c.loop-i.i (omega arith) (omega arith))

@@ -7,7 +7,6 @@ use Rattle.layout.proofs.Lists.Walks.{same_lengths, same_step, same_miss, same_d
 use native.Mathlib.Omega.{arith}
 use lib.Dec.{eqb}
 use borrow.Author.Tests.{eq-eqb, ne_eqb}
-
 use Rattle.same_tables.proofs.same_numbers.Goals as goal
 use Rattle.same_tables.proofs.same_numbers.Goals.{then-xs-i, else-xs-i}
 
@@ -16,23 +15,17 @@ returns-then-xs-ys c = sym (same_lengths eqb c.args.xs.now c.args.ys.now c.if-xs
 
 pub loop-i-preserved : goal.loop-i-preserved
 loop-i-preserved c =
-    let l = c.before.before.before.before in
-    let s = l.before.before in
-    let xs = s.args.xs.now in
-    let ys = s.args.ys.now in
-    let i = l.loop-i.i in
-    let left : Bool → Bool = λ b. l.loop-i.same && b in
+    let xs = c.args.xs.now in
+    let ys = c.args.ys.now in
+    let i = c.loop-i.i in
+    let left : Bool → Bool = λ b. c.loop-i.same && b in
     let next : Bool → Bool = λ b. b && same_numbers (drop (i + 1) xs) (drop (i + 1) ys) in
     elim c.if-xs-i.branch [
-      | then-xs-i w ↦ (omega arith, l.loop-i.invariant.1 ∙ ap left (same_miss eqb xs ys 0 i (omega arith) (omega arith) (ne_eqb _ _ w.if-xs-i.true)) ∙ and-false l.loop-i.same ∙ ap next (sym w.same-is))
-      | else-xs-i w ↦ (omega arith, l.loop-i.invariant.1 ∙ ap left (same_step eqb xs ys 0 i (omega arith) (omega arith) (eq-eqb _ _ w.if-xs-i.false)) ∙ ap next (sym w.same-is))
+      | then-xs-i w ↦ (omega arith, c.loop-i.invariant.1 ∙ ap left (same_miss eqb xs ys 0 i (omega arith) (omega arith) (ne_eqb _ _ w.if-xs-i.true)) ∙ and-false c.loop-i.same ∙ ap next (sym w.same-is))
+      | else-xs-i w ↦ (omega arith, c.loop-i.invariant.1 ∙ ap left (same_step eqb xs ys 0 i (omega arith) (omega arith) (eq-eqb _ _ w.if-xs-i.false)) ∙ ap next (sym w.same-is))
     ]
-
 
 pub returns : goal.returns
 returns c =
-    let l = c.before in
-    let s = l.before.before in
-    let left : Bool → Bool = λ b. l.loop-i.same && b in
-    sym (l.loop-i.invariant.1 ∙ ap left (same_done eqb s.args.xs.now s.args.ys.now l.loop-i.i (omega arith) (omega arith)) ∙ and-true l.loop-i.same)
-
+    let left : Bool → Bool = λ b. c.loop-i.same && b in
+    sym (c.loop-i.invariant.1 ∙ ap left (same_done eqb c.args.xs.now c.args.ys.now c.loop-i.i (omega arith) (omega arith)) ∙ and-true c.loop-i.same)

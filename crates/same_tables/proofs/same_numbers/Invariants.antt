@@ -10,7 +10,5 @@ use Rattle.same_tables.proofs.same_numbers.Given as goal
 abbrev pub invariant-loop-i : goal.invariant-loop-i
 invariant-loop-i l = (l.i ≤ length l.xs) × (same_numbers l.xs l.ys ≡ (l.same && same_numbers (drop l.i l.xs) (drop l.i l.ys)))
 
-
 abbrev pub decreases-loop-i : goal.decreases-loop-i
 decreases-loop-i l = length l.xs - l.i
-

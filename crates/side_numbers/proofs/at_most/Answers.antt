@@ -15,23 +15,19 @@ returns-then-low-high c = let a = c.args in sym (same_lengths le a.low.now a.hig
 
 pub loop-i-preserved : goal.loop-i-preserved
 loop-i-preserved c =
-    let l = c.before.before.before.before in
-    let a = l.args in
+    let a = c.args in
     let low = a.low.now in
     let high = a.high.now in
-    let i = l.loop-i.i in
-    let left : Bool → Bool = λ b. l.loop-i.holds && b in
+    let i = c.loop-i.i in
+    let left : Bool → Bool = λ b. c.loop-i.holds && b in
     let next : Bool → Bool = λ b. b && same_by le (drop (i + 1) low) (drop (i + 1) high) in
     elim c.if-not-low-i.branch [
-      | then-not-low-i w ↦ (omega arith, l.loop-i.invariant.1 ∙ ap left (same_miss le low high nan i (omega arith) (omega arith) (not-true _ w.if-not-low-i.true)) ∙ and-false l.loop-i.holds ∙ ap next (sym w.holds-is))
-      | else-not-low-i w ↦ (omega arith, l.loop-i.invariant.1 ∙ ap left (same_step le low high nan i (omega arith) (omega arith) (not-false _ w.if-not-low-i.false)) ∙ ap next (sym w.holds-is))
+      | then-not-low-i w ↦ (omega arith, c.loop-i.invariant.1 ∙ ap left (same_miss le low high nan i (omega arith) (omega arith) (not-true _ w.if-not-low-i.true)) ∙ and-false c.loop-i.holds ∙ ap next (sym w.holds-is))
+      | else-not-low-i w ↦ (omega arith, c.loop-i.invariant.1 ∙ ap left (same_step le low high nan i (omega arith) (omega arith) (not-false _ w.if-not-low-i.false)) ∙ ap next (sym w.holds-is))
     ]
-
 
 pub returns : goal.returns
 returns c =
-    let l = c.before in
-    let a = l.args in
-    let left : Bool → Bool = λ b. l.loop-i.holds && b in
-    sym (l.loop-i.invariant.1 ∙ ap left (same_done le a.low.now a.high.now l.loop-i.i (omega arith) (omega arith)) ∙ and-true l.loop-i.holds)
-
+    let a = c.args in
+    let left : Bool → Bool = λ b. c.loop-i.holds && b in
+    sym (c.loop-i.invariant.1 ∙ ap left (same_done le a.low.now a.high.now c.loop-i.i (omega arith) (omega arith)) ∙ and-true c.loop-i.holds)

@@ -10,7 +10,5 @@ use Rattle.side_numbers.proofs.at_most.Given as goal
 abbrev pub invariant-loop-i : goal.invariant-loop-i
 invariant-loop-i l = (l.i ≤ length l.low) × (same_by le l.low l.high ≡ (l.holds && same_by le (drop l.i l.low) (drop l.i l.high)))
 
-
 abbrev pub decreases-loop-i : goal.decreases-loop-i
 decreases-loop-i l = length l.low - l.i
-

@@ -13,11 +13,8 @@ returns-then-high-m c =
     let a = c.args in
     sym (limits-length a.r a.m a.low.now a.high.now (sym c.up_to-early.ensures ∙ c.if-early-ne0.false) c.if-high-m.true)
 
-
 pub returns : goal.returns
 returns c =
-    let e = c.before.before in
-    let a = e.args in
+    let a = c.args in
     c.first_of.ensures ∙ ap (λ (k : ℕ). or_else k a.r) c.check_limits.ensures
-    ∙ sym (limits_late a.r a.m a.low.now a.high.now (sym e.up_to-early.ensures ∙ e.if-early-ne0.false) e.if-high-m.false)
-
+    ∙ sym (limits_late a.r a.m a.low.now a.high.now (sym c.up_to-early.ensures ∙ c.if-early-ne0.false) c.if-high-m.false)

@@ -11,19 +11,15 @@ overflow_cast-needs c = omega (arith, c.shared_slice_known-3-1.given 7)
 
 pub returns-then-high_room-needs : goal.returns-then-high_room-needs
 returns-then-high_room-needs c =
-    let s = c.before.before.before.before in
-    let a = s.args in
+    let a = c.args in
     let ks = a.needs.now in
-    sym (ap (λ (t : Bool). cond t 0 11) (another_room (get_or ks 7 0) a.high_room ks a.rooms.now s.requires.0 s.requires.1)
+    sym (ap (λ (t : Bool). cond t 0 11) (another_room (get_or ks 7 0) a.high_room ks a.rooms.now c.requires.0 c.requires.1)
     ∙ rw (lt-leb (get_or ks 7 0) a.high_room c.if-high_room-needs.true))
-
 
 pub returns : goal.returns
 returns c =
-    let s = c.before.before.before.before.before in
-    let a = s.args in
+    let a = c.args in
     let ks = a.needs.now in
     c.check_rooms.ensures
-    ∙ sym (ap (λ (t : Bool). cond t 0 11) (another_room (get_or ks 7 0) a.high_room ks a.rooms.now s.requires.0 s.requires.1)
+    ∙ sym (ap (λ (t : Bool). cond t 0 11) (another_room (get_or ks 7 0) a.high_room ks a.rooms.now c.requires.0 c.requires.1)
     ∙ rw (le-leb (get_or ks 7 0) a.high_room c.if-high_room-needs.false))
-

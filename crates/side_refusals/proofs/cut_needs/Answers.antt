@@ -13,25 +13,20 @@ pub overflow_cast-p_entries : goal.overflow_cast-p_entries
 overflow_cast-p_entries c = fits-u32 _ c.requires.tables_few.0
 
 pub count_entries-a_entries-requires : goal.count_entries-a_entries-requires
-count_entries-a_entries-requires c = let s = c.before.before.before.before.before in (s.requires.tables_few.2, s.requires.tables_few.3)
+count_entries-a_entries-requires c = (c.requires.tables_few.2, c.requires.tables_few.3)
 
 pub overflow_cast-alpha_count : goal.overflow_cast-alpha_count
 overflow_cast-alpha_count c = fits-u32 _ (le_trans c.requires.tables_few.1 (lit≤ tt))
 
 pub write_sizes-requires : goal.write_sizes-requires
 write_sizes-requires c =
-    let e = c.before in
-    let s = e.before.before.before.before.before.before in
-    let a = s.args in record { in_bounds = s.requires.in_bounds; fitting = subst (λ (k : ℕ). Fitting compact a.n a.m k a.rows a.overlaps a.cones) (sym e.count_entries-a_entries.ensures) s.requires.fitting }
+    let a = c.args in record { in_bounds = c.requires.in_bounds; fitting = subst (λ (k : ℕ). Fitting compact a.n a.m k a.rows a.overlaps a.cones) (sym c.count_entries-a_entries.ensures) c.requires.fitting }
 
 pub shape_of-out : goal.shape_of-out
 shape_of-out c = c.write_sizes.auto.out
 
 pub returns : goal.returns
 returns c =
-    let w = c.before.before in
-    let e = w.before.before in
-    let a = e.args in
-    w.write_sizes.ensures
-    ∙ ap (λ (k : ℕ). written (route_sizes compact a.n a.m (length a.p_values.now) k (length a.alphas.now) a.rows a.overlaps a.cones) a.out.now) e.count_entries-a_entries.ensures
-
+    let a = c.args in
+    c.write_sizes.ensures
+    ∙ ap (λ (k : ℕ). written (route_sizes compact a.n a.m (length a.p_values.now) k (length a.alphas.now) a.rows a.overlaps a.cones) a.out.now) c.count_entries-a_entries.ensures

@@ -11,24 +11,20 @@ use Rattle.sparsevector.proofs.move_values.Goals as goal
 
 pub code_value-requires : goal.code_value-requires
 code_value-requires c =
-    let l = c.before.before in
-    l.requires.1 l.loop-r.r (omega arith)
-
+    c.requires.1 c.loop-r.r (omega arith)
 
 pub loop-r-preserved : goal.loop-r-preserved
 loop-r-preserved c =
-    let l = c.before.before.before in
-    let a = l.args in
+    let a = c.args in
     let codes = a.codes.now in
     let value : ℕ → Float = code_value a.b.now in
     let size : length (map value codes) ≡ length codes = length-map codes value in
-    let e : c.code_value.result ≡ get_or (map value codes) l.loop-r.r nan =
-    c.code_value.ensures ∙ sym (get_or_map value codes l.loop-r.r 0 nan (omega arith)) in (
+    let e : c.code_value.result ≡ get_or (map value codes) c.loop-r.r nan =
+    c.code_value.ensures ∙ sym (get_or_map value codes c.loop-r.r 0 nan (omega arith)) in (
       omega arith,
-      simp length-set l.loop-r.invariant.1,
-      rw (l.loop-r.invariant.2, e) (copy_more (map value codes) a.out.now l.loop-r.r nan (omega arith) (omega (arith, l.requires.0))),
+      simp length-set c.loop-r.invariant.1,
+      rw (c.loop-r.invariant.2, e) (copy_more (map value codes) a.out.now c.loop-r.r nan (omega arith) (omega (arith, c.requires.0))),
     )
-
 
 pub shape_of-out : goal.shape_of-out
 shape_of-out c = c.loop-r.invariant.1
@@ -39,4 +35,3 @@ returns c =
     let src = map (code_value a.b.now) a.codes.now in
     c.loop-r.invariant.2
     ∙ copy_done src a.out.now c.loop-r.r (omega (arith, length-map a.codes.now (code_value a.b.now), c.loop-r-test.false))
-

@@ -10,7 +10,5 @@ abbrev pub invariant-loop-r : goal.invariant-loop-r
 invariant-loop-r l =
     (l.r ≤ length l.codes) × (length l.out ≡ length l.initial.out) × (l.out ≡ written (take l.r (map (code_value l.b) l.codes)) l.initial.out)
 
-
 abbrev pub decreases-loop-r : goal.decreases-loop-r
 decreases-loop-r l = length l.codes - l.r
-

@@ -7,58 +7,36 @@ use Rattle.sparsity_pattern.proofs.patterns_right.Goals as goal
 
 pub loop-left-init : goal.loop-left-init
 loop-left-init c =
-    let s = c.before.before in
-    let ws = s.args.words.now in
-    (patterns-whole ws s.args.count s.requires, ap (all (pattern_right s.args.cones.now)) (patterns_start ws s.args.count s.requires))
-
+    let ws = c.args.words.now in
+    (patterns-whole ws c.args.count c.requires, ap (all (pattern_right c.args.cones.now)) (patterns_start ws c.args.count c.requires))
 
 pub pattern_right-requires : goal.pattern_right-requires
 pattern_right-requires c =
-    let l = c.before in
-    pattern_first l.args.words.now l.loop-left.at l.loop-left.left c.loop-left-test.true l.loop-left.invariant.0
-
+    pattern_first c.args.words.now c.loop-left.at c.loop-left.left c.loop-left-test.true c.loop-left.invariant.0
 
 pub returns-then-not-pattern_right : goal.returns-then-not-pattern_right
 returns-then-not-pattern_right c =
-    let l = c.before.before.before in
-    let s = l.before.before.before in
-    let ws = s.args.words.now in
-    sym (all_stops ws l.loop-left.at l.loop-left.left c.loop-left-test.true l.loop-left.invariant.0 (pattern_right s.args.cones.now) _ _ l.loop-left.invariant.1 c.pattern_right.ensures (not-true _ c.if-not-pattern_right.true-raw))
-
+    let ws = c.args.words.now in
+    sym (all_stops ws c.loop-left.at c.loop-left.left c.loop-left-test.true c.loop-left.invariant.0 (pattern_right c.args.cones.now) _ _ c.loop-left.invariant.1 c.pattern_right.ensures (not-true _ c.if-not-pattern_right.true-raw))
 
 -- the pattern is the last
 pub returns-then-left-eq1 : goal.returns-then-left-eq1
 returns-then-left-eq1 c =
-    let e = c.before in
-    let t = e.before in
-    let l = t.before.before in
-    let s = l.before.before.before in
-    let ws = s.args.words.now in
-    sym (all_last ws l.loop-left.at l.loop-left.left t.loop-left-test.true l.loop-left.invariant.0 (pattern_right s.args.cones.now) _ _ l.loop-left.invariant.1 t.pattern_right.ensures c.if-left-eq1.true (not-false _ e.if-not-pattern_right.false-raw))
-
+    let ws = c.args.words.now in
+    sym (all_last ws c.loop-left.at c.loop-left.left c.loop-left-test.true c.loop-left.invariant.0 (pattern_right c.args.cones.now) _ _ c.loop-left.invariant.1 c.pattern_right.ensures c.if-left-eq1.true (not-false _ c.if-not-pattern_right.false-raw))
 
 pub pattern_next-at-requires : goal.pattern_next-at-requires
 pattern_next-at-requires c =
-    let l = c.before.before.before.before in
-    pattern_first l.args.words.now l.loop-left.at l.loop-left.left c.loop-left-test.true l.loop-left.invariant.0
-
+    pattern_first c.args.words.now c.loop-left.at c.loop-left.left c.loop-left-test.true c.loop-left.invariant.0
 
 pub loop-left-preserved : goal.loop-left-preserved
 loop-left-preserved c =
-    let e = c.before.before in
-    let t = e.before in
-    let l = t.before.before in
-    let s = l.before.before.before in
-    let ws = s.args.words.now in
-    let more = t.loop-left-test.true in (
-      whole-later ws l.loop-left.at l.loop-left.left more l.loop-left.invariant.0 c.pattern_next-at.result c.pattern_next-at.ensures,
-      all_goes ws l.loop-left.at l.loop-left.left more l.loop-left.invariant.0 (pattern_right s.args.cones.now) _ _ l.loop-left.invariant.1 t.pattern_right.ensures c.pattern_next-at.result c.pattern_next-at.ensures (not-false _ e.if-not-pattern_right.false-raw),
+    let ws = c.args.words.now in
+    let more = c.loop-left-test.true in (
+      whole-later ws c.loop-left.at c.loop-left.left more c.loop-left.invariant.0 c.pattern_next-at.result c.pattern_next-at.ensures,
+      all_goes ws c.loop-left.at c.loop-left.left more c.loop-left.invariant.0 (pattern_right c.args.cones.now) _ _ c.loop-left.invariant.1 c.pattern_right.ensures c.pattern_next-at.result c.pattern_next-at.ensures (not-false _ c.if-not-pattern_right.false-raw),
     )
-
 
 pub returns : goal.returns
 returns c =
-    let l = c.before in
-    let s = l.before.before.before in
-    sym (l.loop-left.invariant.1 ∙ ap (all (pattern_right s.args.cones.now)) (patterns-none s.args.words.now l.loop-left.at l.loop-left.left c.loop-left-test.false))
-
+    sym (c.loop-left.invariant.1 ∙ ap (all (pattern_right c.args.cones.now)) (patterns-none c.args.words.now c.loop-left.at c.loop-left.left c.loop-left-test.false))

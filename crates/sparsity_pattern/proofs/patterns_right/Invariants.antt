@@ -9,7 +9,5 @@ abbrev pub invariant-loop-left : goal.invariant-loop-left
 invariant-loop-left l =
     WholePatterns l.words l.at l.left × (all (pattern_right l.cones) (patterns l.count l.words) ≡ all (pattern_right l.cones) (patterns_from l.words l.at l.left))
 
-
 abbrev pub decreases-loop-left : goal.decreases-loop-left
 decreases-loop-left l = l.left
-

@@ -7,9 +7,7 @@ returns-then-x c = rw (sym (ne_self c.args.x) ∙ c.if-x.true) (ne_self c.args.y
 
 pub returns-then-y : goal.returns-then-y
 returns-then-y c =
-    let s = c.before.before in
-    rw (sym (ne_self s.args.x) ∙ c.if-x.false, sym (ne_self s.args.y) ∙ c.if-y.true)
-
+    rw (sym (ne_self c.args.x) ∙ c.if-x.false, sym (ne_self c.args.y) ∙ c.if-y.true)
 
 pub float_to_bits-result : goal.float_to_bits-result
 float_to_bits-result c = rw (sym (ne_self c.args.x) ∙ c.if-x.false) tt
@@ -19,6 +17,4 @@ float_to_bits-result-2 c = rw (sym (ne_self c.args.y) ∙ c.if-y.false) tt
 
 pub returns : goal.returns
 returns c =
-    let s = c.before.before in
-    rw (sym (ne_self s.args.x) ∙ c.if-x.false, sym (ne_self s.args.y) ∙ c.if-y.false)
-
+    rw (sym (ne_self c.args.x) ∙ c.if-x.false, sym (ne_self c.args.y) ∙ c.if-y.false)

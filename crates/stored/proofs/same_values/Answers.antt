@@ -12,24 +12,18 @@ returns-then-out-list c = sym (front_short alike_values c.args.out.now c.args.li
 
 pub returns-then-not-alike_values : goal.returns-then-not-alike_values
 returns-then-not-alike_values c =
-    let l = c.before.before.before.before.before in
-    let a = l.args in
-    sym (l.loop-k.invariant.2 ∙ front_miss alike_values a.out.now a.list.now l.loop-k.invariant.1 nan l.loop-k.k (omega arith) (sym c.alike_values.ensures ∙ not-true _ c.if-not-alike_values.true-raw))
-
+    let a = c.args in
+    sym (c.loop-k.invariant.2 ∙ front_miss alike_values a.out.now a.list.now c.loop-k.invariant.1 nan c.loop-k.k (omega arith) (sym c.alike_values.ensures ∙ not-true _ c.if-not-alike_values.true-raw))
 
 pub loop-k-preserved : goal.loop-k-preserved
 loop-k-preserved c =
-    let l = c.before.before.before.before.before in
-    let a = l.args in (
+    let a = c.args in (
       omega arith,
-      l.loop-k.invariant.1,
-      l.loop-k.invariant.2 ∙ front_step alike_values a.out.now a.list.now l.loop-k.invariant.1 nan l.loop-k.k (omega arith) (sym c.alike_values.ensures ∙ not-false _ c.if-not-alike_values.false-raw),
+      c.loop-k.invariant.1,
+      c.loop-k.invariant.2 ∙ front_step alike_values a.out.now a.list.now c.loop-k.invariant.1 nan c.loop-k.k (omega arith) (sym c.alike_values.ensures ∙ not-false _ c.if-not-alike_values.false-raw),
     )
-
 
 pub returns : goal.returns
 returns c =
-    let l = c.before in
-    let a = l.args in
-    sym (l.loop-k.invariant.2 ∙ front_done alike_values a.out.now a.list.now l.loop-k.invariant.1 l.loop-k.k c.loop-k-test.false)
-
+    let a = c.args in
+    sym (c.loop-k.invariant.2 ∙ front_done alike_values a.out.now a.list.now c.loop-k.invariant.1 c.loop-k.k c.loop-k-test.false)

@@ -13,20 +13,17 @@ loop-i-init c = (omega arith, refl, refl)
 
 pub loop-i-preserved : goal.loop-i-preserved
 loop-i-preserved c =
-    let l = c.before in (
+    (
       omega arith,
-      simp length-set l.loop-i.invariant.1,
-      rw l.loop-i.invariant.2 (mapped_more word_before l.args.out.now l.loop-i.i (omega arith)),
+      simp length-set c.loop-i.invariant.1,
+      rw c.loop-i.invariant.2 (mapped_more word_before c.args.out.now c.loop-i.i (omega arith)),
     )
-
 
 pub slice_bounds-result-end : goal.slice_bounds-result-end
 slice_bounds-result-end c = sym (length-take-le _ _ c.least-n.ensures.0)
 
 pub returns : goal.returns
 returns c =
-    let l = c.before.before.before.before in
     let n = c.least-n.ensures in
-    front_least l.loop-i.out _ _ n.1 n.2
-    ∙ rw (c.words_at.ensures, l.loop-i.invariant.2, mapped-done word_before l.args.out.now l.loop-i.i (omega arith))
-
+    front_least c.loop-i.out _ _ n.1 n.2
+    ∙ rw (c.words_at.ensures, c.loop-i.invariant.2, mapped-done word_before c.args.out.now c.loop-i.i (omega arith))

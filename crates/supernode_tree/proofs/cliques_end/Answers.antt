@@ -8,12 +8,9 @@ use Rattle.supernode_tree.proofs.cliques_end.Goals as goal
 
 pub returns-then-not-stands : goal.returns-then-not-stands
 returns-then-not-stands c =
-    let i = c.before.before in
-    let l = i.before in
-    let here = drop l.loop-left.at l.args.words.now in
-    sym (ended-short read_clique l.loop-left.left here i.loop-left-test.true _
-    (ap ended (not-whole (read_clique here) (sym c.stands.ensures ∙ not-true _ c.if-not-stands.true-raw))) refl) ∙ l.loop-left.invariant
-
+    let here = drop c.loop-left.at c.args.words.now in
+    sym (ended-short read_clique c.loop-left.left here c.loop-left-test.true _
+    (ap ended (not-whole (read_clique here) (sym c.stands.ensures ∙ not-true _ c.if-not-stands.true-raw))) refl) ∙ c.loop-left.invariant
 
 pub here-q-requires : goal.here-q-requires
 here-q-requires c = sym c.stands.ensures ∙ not-false _ c.if-not-stands.false-raw
@@ -23,14 +20,9 @@ overflow_sub-left c = c.loop-left-test.true
 
 pub loop-left-preserved : goal.loop-left-preserved
 loop-left-preserved c =
-    let i = c.before.before.before in
-    let l = i.before in
-    sym (ended-next read_clique l.loop-left.left (drop l.loop-left.at l.args.words.now) i.loop-left-test.true _
-    (ap ended (sym c.here-q.ensures.result_value)) _ refl) ∙ l.loop-left.invariant
-
+    sym (ended-next read_clique c.loop-left.left (drop c.loop-left.at c.args.words.now) c.loop-left-test.true _
+    (ap ended (sym c.here-q.ensures.result_value)) _ refl) ∙ c.loop-left.invariant
 
 pub returns : goal.returns
 returns c =
-    let l = c.before in
-    sym (ended-none read_clique l.loop-left.left (drop l.loop-left.at l.args.words.now) c.loop-left-test.false) ∙ l.loop-left.invariant
-
+    sym (ended-none read_clique c.loop-left.left (drop c.loop-left.at c.args.words.now) c.loop-left-test.false) ∙ c.loop-left.invariant

@@ -16,4 +16,3 @@ pub returns-else-at-words : goal.returns-else-at-words
 returns-else-at-words c =
     let n = length c.args.words.now in
     lt-leb c.args.at n c.if-at-words.false ∙ sym (lt-leb (c.args.at + c.args.size) n (omega arith))
-

@@ -8,18 +8,13 @@ use Rattle.supernode_tree.proofs.pattern_end.Goals as goal
 
 pub returns-then-not-stands : goal.returns-then-not-stands
 returns-then-not-stands c =
-    let s = c.before.before.before in
-    let here = drop s.args.at s.args.words.now in
+    let here = drop c.args.at c.args.words.now in
     sym (ap ended (no_pattern_lem here (not-whole _ (sym c.stands.ensures ∙ not-true _ c.if-not-stands.true-raw))))
-
 
 pub here-p-requires : goal.here-p-requires
 here-p-requires c = sym c.stands.ensures ∙ not-false _ c.if-not-stands.false-raw
 
 pub returns : goal.returns
 returns c =
-    let h = c.before in
-    let s = h.before.before.before.before in
-    let ws = s.args.words.now in
-    c.cliques_end.ensures ∙ sym (ended-by-cliques (drop s.args.at ws) (head_of ws h.here-p.result) _ (sym h.here-p.ensures.result_value))
-
+    let ws = c.args.words.now in
+    c.cliques_end.ensures ∙ sym (ended-by-cliques (drop c.args.at ws) (head_of ws c.here-p.result) _ (sym c.here-p.ensures.result_value))

@@ -5,19 +5,14 @@ use mathlib.Core.Path.{sym, ◌∙◌}
 use Rattle.supernode_tree.proofs.pattern_next.Goals as goal
 
 pub here-p-requires : goal.here-p-requires
-here-p-requires c = let s = c.before in head_of_whole (drop s.args.at s.args.words.now) s.requires
+here-p-requires c = head_of_whole (drop c.args.at c.args.words.now) c.requires
 
 pub cliques_next-requires : goal.cliques_next-requires
 cliques_next-requires c =
-    let s = c.before.before in
-    let ws = s.args.words.now in
-    cliques_of_whole (drop s.args.at ws) (head_of ws c.here-p.result) _ (sym c.here-p.ensures.result_value) s.requires
-
+    let ws = c.args.words.now in
+    cliques_of_whole (drop c.args.at ws) (head_of ws c.here-p.result) _ (sym c.here-p.ensures.result_value) c.requires
 
 pub returns : goal.returns
 returns c =
-    let h = c.before in
-    let s = h.before.before in
-    let ws = s.args.words.now in
-    rest_of_cliques (drop s.args.at ws) (head_of ws h.here-p.result) _ (sym h.here-p.ensures.result_value) ∙ c.cliques_next.ensures
-
+    let ws = c.args.words.now in
+    rest_of_cliques (drop c.args.at ws) (head_of ws c.here-p.result) _ (sym c.here-p.ensures.result_value) ∙ c.cliques_next.ensures

@@ -8,28 +8,19 @@ use Rattle.supernode_tree.proofs.patterns_end.Goals as goal
 
 pub returns-in_default : goal.returns-in_default
 returns-in_default c =
-    let l = c.before.before.before.before in
-    let s = l.before.before in
-    let ws = s.args.words.now in
-    ap ends_right (sym (ended-short read_pattern l.loop-left.left (drop l.loop-left.at ws) c.loop-left-test.true _
-    (sym c.pattern_end.ensures) (ap (end_read ws) c.enum_told-1.given.1)) ∙ l.loop-left.invariant) ∙ ended-ends (read_patterns s.args.count ws)
-
+    let ws = c.args.words.now in
+    ap ends_right (sym (ended-short read_pattern c.loop-left.left (drop c.loop-left.at ws) c.loop-left-test.true _
+    (sym c.pattern_end.ensures) (ap (end_read ws) c.in_default.is)) ∙ c.loop-left.invariant) ∙ ended-ends (read_patterns c.args.count ws)
 
 pub loop-left-preserved : goal.loop-left-preserved
 loop-left-preserved c =
-    let l = c.before.before.before.before.before in
-    let ws = l.args.words.now in
-    let r = c.before.before.before in
-    sym (ended-next read_pattern l.loop-left.left (drop l.loop-left.at ws) r.loop-left-test.true _
-    (sym r.pattern_end.ensures) _ (ap (end_read ws) c.next-1.given.1)) ∙ l.loop-left.invariant
-
+    let ws = c.args.words.now in
+    sym (ended-next read_pattern c.loop-left.left (drop c.loop-left.at ws) c.loop-left-test.true _
+    (sym c.pattern_end.ensures) _ (ap (end_read ws) c.in-At.is)) ∙ c.loop-left.invariant
 
 pub returns : goal.returns
 returns c =
-    let l = c.before in
-    let s = l.before.before in
-    let ws = s.args.words.now in
-    sym (ends_at tt ws l.loop-left.at)
-    ∙ ap ends_right (sym (ended-none read_pattern l.loop-left.left (drop l.loop-left.at ws) c.loop-left-test.false) ∙ l.loop-left.invariant)
-    ∙ ended-ends (read_patterns s.args.count ws)
-
+    let ws = c.args.words.now in
+    sym (ends_at (tt {0}) ws c.loop-left.at)
+    ∙ ap ends_right (sym (ended-none read_pattern c.loop-left.left (drop c.loop-left.at ws) c.loop-left-test.false) ∙ c.loop-left.invariant)
+    ∙ ended-ends (read_patterns c.args.count ws)

@@ -7,7 +7,5 @@ use Rattle.supernode_tree.proofs.patterns_end.Given as goal
 abbrev pub invariant-loop-left : goal.invariant-loop-left
 invariant-loop-left l = ended (read_patterns l.left (drop l.at l.words)) ≡ ended (read_patterns l.count l.words)
 
-
 abbrev pub decreases-loop-left : goal.decreases-loop-left
 decreases-loop-left l = l.left
-

@@ -12,9 +12,7 @@ returns-then-kind-ne-PSD_TRIANGLE c =
     let a = c.args in
     rw (le-leb a.first 65536 c.if-first-gt-SIZE.false, le-leb a.second 65536 c.if-second-gt-SIZE.false, ne_eqb a.kind 6 c.if-kind-ne-PSD_TRIANGLE.true)
 
-
 pub returns-else-kind-ne-PSD_TRIANGLE : goal.returns-else-kind-ne-PSD_TRIANGLE
 returns-else-kind-ne-PSD_TRIANGLE c =
     let a = c.args in
     rw (le-leb a.first 65536 c.if-first-gt-SIZE.false, le-leb a.second 65536 c.if-second-gt-SIZE.false, eq-eqb a.kind 6 c.if-kind-ne-PSD_TRIANGLE.false)
-

@@ -16,23 +16,17 @@ overflow_cast-words c = omega (arith, c.shared_slice_known-1.given c.loop-i.i)
 
 pub loop-i-preserved : goal.loop-i-preserved
 loop-i-preserved c =
-    let l = c.before.before.before in
-    let s = l.before in
-    let words = s.args.words.now in
-    let i = l.loop-i.i in
-    let fits : ℕ → Bool = λ x. ltb x s.args.n in
-    let left : Bool → Bool = λ b. l.loop-i.holds && b in
+    let words = c.args.words.now in
+    let i = c.loop-i.i in
+    let fits : ℕ → Bool = λ x. ltb x c.args.n in
+    let left : Bool → Bool = λ b. c.loop-i.holds && b in
     let next : Bool → Bool = λ b. b && all fits (drop (i + 1) words) in
     elim c.if-n-words.branch [
-      | then-n-words w ↦ (omega arith, l.loop-i.invariant.1 ∙ ap left (all_fails fits words i 0 (omega arith) (le-ltb (get_or words i 0) s.args.n w.if-n-words.true)) ∙ and-false l.loop-i.holds ∙ ap next (sym w.holds-is))
-      | else-n-words w ↦ (omega arith, l.loop-i.invariant.1 ∙ ap left (all-step fits words i 0 (omega arith) (lt-ltb (get_or words i 0) s.args.n w.if-n-words.false)) ∙ ap next (sym w.holds-is))
+      | then-n-words w ↦ (omega arith, c.loop-i.invariant.1 ∙ ap left (all_fails fits words i 0 (omega arith) (le-ltb (get_or words i 0) c.args.n w.if-n-words.true)) ∙ and-false c.loop-i.holds ∙ ap next (sym w.holds-is))
+      | else-n-words w ↦ (omega arith, c.loop-i.invariant.1 ∙ ap left (all-step fits words i 0 (omega arith) (lt-ltb (get_or words i 0) c.args.n w.if-n-words.false)) ∙ ap next (sym w.holds-is))
     ]
-
 
 pub returns : goal.returns
 returns c =
-    let l = c.before in
-    let s = l.before in
-    let left : Bool → Bool = λ b. l.loop-i.holds && b in
-    sym (l.loop-i.invariant.1 ∙ ap left (all_done (λ x. ltb x s.args.n) s.args.words.now l.loop-i.i c.loop-i-test.false) ∙ and-true l.loop-i.holds)
-
+    let left : Bool → Bool = λ b. c.loop-i.holds && b in
+    sym (c.loop-i.invariant.1 ∙ ap left (all_done (λ x. ltb x c.args.n) c.args.words.now c.loop-i.i c.loop-i-test.false) ∙ and-true c.loop-i.holds)

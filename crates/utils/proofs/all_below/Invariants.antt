@@ -10,7 +10,5 @@ use Rattle.utils.proofs.all_below.Given as goal
 abbrev pub invariant-loop-i : goal.invariant-loop-i
 invariant-loop-i l = (l.i ≤ length l.words) × (all (λ x. ltb x l.n) l.words ≡ (l.holds && all (λ x. ltb x l.n) (drop l.i l.words)))
 
-
 abbrev pub decreases-loop-i : goal.decreases-loop-i
 decreases-loop-i l = length l.words - l.i
-

@@ -24,40 +24,36 @@ shape_of-table-then-words-w c = c.loop-k.invariant.1
 
 pub returns-then-words-w : goal.returns-then-words-w
 returns-then-words-w c =
-    let l = c.before.before.before in record { value = sym (out-refused l.args.words.now l.loop-k.k (omega arith) (omega arith) l.loop-k.invariant.3); table_after = λ z. absurd (differ false z refl) }
+    record { value = sym (out-refused c.args.words.now c.loop-k.k (omega arith) (omega arith) c.loop-k.invariant.3); table_after = λ z. absurd (differ false z refl) }
 
 pub shape_of-table-then-table-w : goal.shape_of-table-then-table-w
 shape_of-table-then-table-w c = c.loop-k.invariant.1
 
 pub returns-then-table-w : goal.returns-then-table-w
 returns-then-table-w c =
-    let l = c.before.before.before.before.before in
-    let ws = l.args.words.now in
-    let k = l.loop-k.k in
+    let ws = c.args.words.now in
+    let k = c.loop-k.k in
     let x : ℕ = get_or ws k 0 in
-    let met : has x (take k ws) ≡ true = not-false _ (sym (l.loop-k.invariant.2 x (omega arith)) ∙ ne_eqb (get_or l.loop-k.table x 0) 4294967295 c.if-table-w.true) in record { value = sym (met_refused ws k (omega arith) (omega arith) met); table_after = λ z. absurd (differ false z refl) }
+    let met : has x (take k ws) ≡ true = not-false _ (sym (c.loop-k.invariant.2 x (omega arith)) ∙ ne_eqb (get_or c.loop-k.table x 0) 4294967295 c.if-table-w.true) in record { value = sym (met_refused ws k (omega arith) (omega arith) met); table_after = λ z. absurd (differ false z refl) }
 
 pub loop-k-preserved : goal.loop-k-preserved
 loop-k-preserved c =
-    let l = c.before.before.before.before.before in
-    let ws = l.args.words.now in
-    let k = l.loop-k.k in
+    let ws = c.args.words.now in
+    let k = c.loop-k.k in
     let x : ℕ = get_or ws k 0 in
     let h : k < length ws = omega arith in
-    let new : has x (take k ws) ≡ false = not-true _ (sym (l.loop-k.invariant.2 x (omega arith)) ∙ eq-eqb (get_or l.loop-k.table x 0) 4294967295 c.if-table-w.false) in (
+    let new : has x (take k ws) ≡ false = not-true _ (sym (c.loop-k.invariant.2 x (omega arith)) ∙ eq-eqb (get_or c.loop-k.table x 0) 4294967295 c.if-table-w.false) in (
       omega arith,
-      simp length-set l.loop-k.invariant.1,
-      rw (take_more [] ws k h) (placed_more 4294967295 l.loop-k.table (take k ws) x k (omega arith) (λ e. omega arith) l.loop-k.invariant.2),
-      passed_more ws k h (omega arith) new l.loop-k.invariant.3,
-      sym (scattered-step ws l.loop-k.table k h) ∙ l.loop-k.invariant.4,
+      simp length-set c.loop-k.invariant.1,
+      rw (take_more [] ws k h) (placed_more 4294967295 c.loop-k.table (take k ws) x k (omega arith) (λ e. omega arith) c.loop-k.invariant.2),
+      passed_more ws k h (omega arith) new c.loop-k.invariant.3,
+      sym (scattered-step ws c.loop-k.table k h) ∙ c.loop-k.invariant.4,
     )
-
 
 pub shape_of-table : goal.shape_of-table
 shape_of-table c = c.loop-k.invariant.1
 
 pub returns : goal.returns
 returns c =
-    let l = c.before in
-    let ws = l.args.words.now in
-    let k = l.loop-k.k in record { value = sym (passed_all ws k c.loop-k-test.false l.loop-k.invariant.3); table_after = λ _. sym (scattered-done ws l.loop-k.table k c.loop-k-test.false) ∙ l.loop-k.invariant.4 }
+    let ws = c.args.words.now in
+    let k = c.loop-k.k in record { value = sym (passed_all ws k c.loop-k-test.false c.loop-k.invariant.3); table_after = λ _. sym (scattered-done ws c.loop-k.table k c.loop-k-test.false) ∙ c.loop-k.invariant.4 }

@@ -10,7 +10,5 @@ invariant-loop-k l =
     (l.k ≤ length l.words) × (length l.table ≡ length l.initial.table) × Placed 4294967295 l.table (take l.k l.words) × PassedTo l.words l.k
     × (scattered l.k (drop l.k l.words) l.table ≡ scattered 0 l.words l.initial.table)
 
-
 abbrev pub decreases-loop-k : goal.decreases-loop-k
 decreases-loop-k l = length l.words - l.k
-

@@ -25,93 +25,80 @@ loop-i-init c =
       ),
     )
 
-
 pub overflow_cast-x : goal.overflow_cast-x
 overflow_cast-x c = omega (arith, c.shared_slice_known-1.given c.loop-i.i)
 
 pub loop-i-preserved-then-x-low : goal.loop-i-preserved-then-x-low
 loop-i-preserved-then-x-low c =
-    let l = c.before.before.before in
-    let ws = l.args.words.now in
-    let low = l.args.low in
-    let i = l.loop-i.i in (
+    let ws = c.args.words.now in
+    let low = c.args.low in
+    let i = c.loop-i.i in (
       omega arith,
-      l.loop-i.invariant.1,
+      c.loop-i.invariant.1,
       λ met m d.
-          let now = l.loop-i.invariant.2 met m d in
+          let now = c.loop-i.invariant.2 met m d in
           let h : i < length ws = omega arith in
           rw (take_more met ws i h) (
-            marked-out low l.loop-i.marks (met ++ take i ws) (get_or ws i 0) (inl c.if-x-low.true) now.0,
+            marked-out low c.loop-i.marks (met ++ take i ws) (get_or ws i 0) (inl c.if-x-low.true) now.0,
             skip_more _ (met ++ take i ws) (get_or ws i 0) (within_before low _ (get_or ws i 0) c.if-x-low.true) now.1,
           ),
     )
 
-
 pub loop-i-preserved-then-marks-v : goal.loop-i-preserved-then-marks-v
 loop-i-preserved-then-marks-v c =
-    let l = c.before.before.before.before in
-    let ws = l.args.words.now in
-    let low = l.args.low in
-    let i = l.loop-i.i in (
+    let ws = c.args.words.now in
+    let low = c.args.low in
+    let i = c.loop-i.i in (
       omega arith,
-      l.loop-i.invariant.1,
+      c.loop-i.invariant.1,
       λ met m d.
-          let now = l.loop-i.invariant.2 met m d in
+          let now = c.loop-i.invariant.2 met m d in
           let h : i < length ws = omega arith in
           rw (take_more met ws i h) (
-            marked-out low l.loop-i.marks (met ++ take i ws) (get_or ws i 0) (inr (omega arith)) now.0,
+            marked-out low c.loop-i.marks (met ++ take i ws) (get_or ws i 0) (inr (omega arith)) now.0,
             skip_more _ (met ++ take i ws) (get_or ws i 0) (within-after low _ (get_or ws i 0) (omega arith) (omega arith)) now.1,
           ),
     )
 
-
 pub returns-then-marks-v-2 : goal.returns-then-marks-v-2
 returns-then-marks-v-2 c =
-    let l = c.before.before.before.before.before.before in
-    let s = l.before in
-    let ws = s.args.words.now in
-    let low = s.args.low in
-    let i = l.loop-i.i in
+    let ws = c.args.words.now in
+    let low = c.args.low in
+    let i = c.loop-i.i in
     let x : ℕ = get_or ws i 0 in
     λ met m d.
-    let now = l.loop-i.invariant.2 met m d in
+    let now = c.loop-i.invariant.2 met m d in
     let e : low + (x - low) ≡ x = omega arith in
-    let p : ℕ → Bool = within low (length s.args.marks.now) in (
+    let p : ℕ → Bool = within low (length c.args.marks.now) in (
       sym (ap (λ (k : List ℕ). distinct (keep p k)) (split_more met ws i (omega arith))
           ∙ old_more p (met ++ take i ws) x (drop (suc i) ws) (within_in low _ x (omega arith) (omega arith))
           (ap (λ (y : ℕ). has y (met ++ take i ws)) (sym e) ∙ sym (now.0 (x - low) (omega arith)) ∙ c.if-marks-v-2.true)),
       λ z. absurd (differ false z refl),
     )
 
-
 pub loop-i-preserved : goal.loop-i-preserved
 loop-i-preserved c =
-    let l = c.before.before.before.before.before.before in
-    let ws = l.args.words.now in
-    let low = l.args.low in
-    let i = l.loop-i.i in
+    let ws = c.args.words.now in
+    let low = c.args.low in
+    let i = c.loop-i.i in
     let x : ℕ = get_or ws i 0 in (
       omega arith,
-      simp length-set l.loop-i.invariant.1,
+      simp length-set c.loop-i.invariant.1,
       λ met m d.
-          let now = l.loop-i.invariant.2 met m d in
+          let now = c.loop-i.invariant.2 met m d in
           let h : i < length ws = omega arith in
           let e : low + (x - low) ≡ x = omega arith in
           rw (take_more met ws i h) (
-            marked_in low l.loop-i.marks (met ++ take i ws) x (x - low) (sym e) (omega arith) now.0,
+            marked_in low c.loop-i.marks (met ++ take i ws) x (x - low) (sym e) (omega arith) now.0,
             new_more _ (met ++ take i ws) x (within_in low _ x (omega arith) (omega arith))
                 (ap (λ (y : ℕ). has y (met ++ take i ws)) (sym e) ∙ sym (now.0 (x - low) (omega arith)) ∙ c.if-marks-v-2.false) now.1,
           ),
     )
 
-
 pub returns : goal.returns
 returns c =
-    let l = c.before in
-    let s = l.before in
-    let ws = s.args.words.now in
-    let e : take l.loop-i.i ws ≡ ws = take_all l.loop-i.i ws c.loop-i-test.false in
+    let ws = c.args.words.now in
+    let e : take c.loop-i.i ws ≡ ws = take_all c.loop-i.i ws c.loop-i-test.false in
     λ met m d.
-    let now = rw e at (l.loop-i.invariant.2 met m d) in
+    let now = rw e at (c.loop-i.invariant.2 met m d) in
     (sym (passed _ now.1), λ _. now.0)
-

@@ -12,7 +12,5 @@ invariant-loop-i l =
     (l.i ≤ length l.words) × (length l.marks ≡ length l.initial.marks) × ((met : List ℕ) → Marked l.low l.initial.marks met → T (distinct (keep (within l.low (length l.initial.marks)) met))
     → Marked l.low l.marks (met ++ take l.i l.words) × T (distinct (keep (within l.low (length l.initial.marks)) (met ++ take l.i l.words))))
 
-
 abbrev pub decreases-loop-i : goal.decreases-loop-i
 decreases-loop-i l = length l.words - l.i
-

@@ -10,4 +10,4 @@ pub here-requires : goal.here-requires
 here-requires c = sym c.stands.ensures ∙ not-false _ c.if-not-stands.false-raw
 
 pub returns : goal.returns
-returns c = (let it = c.here.ensures in record { result_value = it.0; clique_inside = it.1 })
+returns c = record { result_value = c.here.ensures.result_value; clique_inside = c.here.ensures.clique_inside }

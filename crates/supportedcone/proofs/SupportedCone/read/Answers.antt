@@ -11,10 +11,8 @@ returns-then-second-ne0 c = let a = c.args in sym (unread_second a.kind a.first 
 pub returns-then-first-ne0 : goal.returns-then-first-ne0
 returns-then-first-ne0 c =
     let m = c.in-0.rest in
-    let e = c.before.before in
-    let a = e.args in
-    sym (unread_first a.kind a.first a.second a.alpha (m.0.0.0.1, m.0.0.1, m.0.1, e.if-kind-eq-GEN_POWER.false, m.1) c.if-first-ne0.true)
-
+    let a = c.args in
+    sym (unread_first a.kind a.first a.second a.alpha (m.0.0.0.1, m.0.0.1, m.0.1, c.if-kind-eq-GEN_POWER.false, m.1) c.if-first-ne0.true)
 
 pub returns-in-0 : goal.returns-in-0
 returns-in-0 c = rw (c.in-0.keys1, c.if-second-ne0.false)
@@ -37,7 +35,5 @@ returns-in-4 c = rw (c.in-3.keys2, c.if-second-ne0.false, c.if-first-ne0.false)
 pub returns-in_default-kind : goal.returns-in_default-kind
 returns-in_default-kind c =
     let m = c.in-0.rest in
-    let e = c.before.before.before in
-    let a = e.args in
-    sym (unread_kind a.kind a.first a.second a.alpha (m.0.0.0.1, m.0.0.1, m.0.1, e.if-kind-eq-GEN_POWER.false, m.1) c.in-3.rest.0.1 c.in-3.rest.1)
-
+    let a = c.args in
+    sym (unread_kind a.kind a.first a.second a.alpha (m.0.0.0.1, m.0.0.1, m.0.1, c.if-kind-eq-GEN_POWER.false, m.1) c.in-3.rest.0.1 c.in-3.rest.1)
