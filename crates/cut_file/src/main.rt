@@ -2,12 +2,12 @@
 // standard output. One byte more than the longest file is read, so that a file that is too long is noticed.
 #![tactic(auto)]
 
-use libc::{STDIN_FILENO, STDOUT_FILENO};
+use std::io::{self, Read};
 
-fn main() {
-    let mut file = [0u8; 8193];
-    let length = io::read_full(STDIN_FILENO, &mut file);
-    let mut out = io::large_buffer();
-    let written = compact_file::cut_file(&file[..length], &mut out);
-    io::write_all(STDOUT_FILENO, &out[..written]);
+fn main(rt: HostRuntime) -> io::Result<()> {
+    let mut file = Vec::new(rt.alloc());
+    rt.reader().take(8193).read_to_end(&mut file)?;
+    let mut out = [0u8; 65536];
+    let written = compact_file::cut_file(&file, &mut out);
+    rt.write_all(&out[..written])
 }

@@ -31,7 +31,7 @@ struct_meant e = go e.tree_and_clique
 abbrev from_words : List ℕ → ConeMapEntry
 from_words ws = record { orig_index = get_or ws 0 0; tree_and_clique = tree_of (get_or ws 1 0) (get_or ws 2 0); first_row = get_or ws 3 0; row_count = get_or ws 4 0 }
 
--- the pattern number of entry k is below the no_pattern_lem mark
+-- the pattern number of entry k is below the no-pattern mark
 told_at : (es : List MapEntry) (k : ℕ) (d : MapEntry) → k < length es → Told es → Told (get_or es k d ∷ [])
 told_at [] k d l h = absurd (omega arith)
 told_at (whole_cone i a n ∷ es) zero d l h = tt

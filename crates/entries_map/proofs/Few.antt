@@ -1,7 +1,6 @@
 -- The cone map of a sound problem has at most 16,384 entries, because a PSD cone with v vertices has at least 8 v - 64 rows.
 use Prim.Native.Nat.{ℕ, zero, suc, ◌+◌, ◌*◌, ◌≤◌}
 use native.Mathlib.Omega.{arith}
-use mathlib.Core.Path.{◌≡◌}
 use mathlib.Core.Logic.{inl, inr}
 use mathlib.Core.List.{List, [], ◌∷◌, map}
 use lib.ListN.{length}

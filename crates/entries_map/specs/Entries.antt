@@ -25,7 +25,7 @@ abbrev pub pattern_word : TreeAndClique → ℕ
 pattern_word None = no_pattern_number
 pattern_word (In k c) = k
 
--- the clique's word; for a pattern number equal to the no_pattern_lem mark it is 1, which no entry without a pattern has
+-- the clique's word; for a pattern number equal to the no-pattern mark it is 1, which no entry without a pattern has
 abbrev pub clique_word : TreeAndClique → ℕ
 clique_word None = 0
 clique_word (In k c) = cond (eqb k no_pattern_number) 1 c

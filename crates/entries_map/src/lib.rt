@@ -32,7 +32,7 @@ impl TreeAndClique {
         }
     }
 
-    // Returns the clique's word, 0 for `None`. A pattern number equal to the no_pattern_lem mark gets clique word 1, which no cone map has beside
+    // Returns the clique's word, 0 for `None`. A pattern number equal to the no-pattern mark gets clique word 1, which no cone map has beside
     // the mark, so that such an entry differs from `None`.
     fn clique(self) -> u32
         ensures { result ≡ clique_word self }
@@ -48,7 +48,7 @@ impl TreeAndClique {
         }
     }
 
-    // Builds the value from a pattern's word, which may be the no_pattern_lem mark, and a clique's word.
+    // Builds the value from a pattern's word, which may be the no-pattern mark, and a clique's word.
     fn of(pattern: u32, clique: u32) -> TreeAndClique
         ensures { result ≡ tree_of pattern clique }
     {

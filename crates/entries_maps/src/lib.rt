@@ -1,4 +1,4 @@
-// Converts the cone map between words and a slice of entry structs. Both functions are proved by hand; the work on one entry is in crate entries_map.
+// Converts the cone map between words and a slice of entry structs. The work on one entry is in crate entries_map.
 #![tactic(auto)]
 
 ghost use Rattle.std.specs.Prelude.{◌≡◌, map, ◌*◌, ◌≤◌, length, take};

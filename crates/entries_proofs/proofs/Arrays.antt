@@ -5,24 +5,24 @@
 --     fills            assigns `[x; N]` to the local
 --     lends_out        borrows it as a `&mut [R]` for a new lifetime: the token and what the reference owns come first in the context
 --     comes_back       ends that lifetime: the array has the reference's final value
---     shares_out       borrows it as a `&[R]`.        comes_home     ends that borrow: the array is unchanged
+--     shares_out       borrows it as a `&[R]`, where R can be shared out (`copied_shares`).        comes_home     ends that borrow: the array is unchanged
 --     cuts_front       makes its first k elements an array, to be borrowed; the other elements come first in the context.        joins_front     undoes this
 --     room-again       makes it uninitialized memory.        big      the array's length as an operand
-use Prim.Native.Nat.{ℕ, zero, suc, ◌<◌, ◌≤◌, ◌^◌}
-use mathlib.Core.Path.{◌≡◌, refl, sym, subst, ◌∙◌}
+use Prim.Native.Nat.{ℕ, zero, suc, ◌≤◌}
+use mathlib.Core.Path.{◌≡◌, refl, sym, subst}
 use mathlib.Core.List.{List, [], ◌∷◌, ◌++◌}
 use lib.ListN.{length, take, drop as drop-list, replicate, length-replicate, take-append-drop}
 use lib.Seq.{length-take-le}
 use lib.Dec.{T}
 use seplogic.Ra.Ura.{Ura}
-use seplogic.Ra.TreeShare.{full_share}
+use base.Fraction.{full_share}
 use mir.Syntax.{Ty, Width, Lifetime, w32, ty_array, place, Opd as Operand, int_big, repeat, Body, seq, assign}
 use mir.Val.{Val, Fits, has_ty, WT, vint}
-use base.Logic.{SProp, ent, sep, ex, emp, guard_i, via, mono_l, mono_r, emp∗, fst∗, snd∗, ex_e}
-use base.Fml.{GName, Fml, ftrue, fat, froom, flft, flent}
+use base.Logic.{SProp, ent, sep, ex, emp, id⊢, guard_i, via, mono_l, mono_r, emp∗, fst∗, snd∗, ex_e}
+use base.Fml.{GName, Fml, Incl-refl, ftrue, fat, froom, flft, flent}
 use prog.Wp.{Env, Calls, Loops, spot_of}
-use types.Logic.{Logic, sem}
-use types.Kit.{Item, ‵, ◌⊛◌, some, later, mean, ⋆, pop, push, nth, del, put, pull, fill, Soaks, Goal, Post, runs, Seq, Step, step, by, ◌$◌, ◌∵◌, !, qed, move, drop, use0, use1, use2, use3, split, pick, await, fsplit, fjoin, feq_l, feq_i, rewrite, done}
+use types.Logic.{Logic, sem, lfts}
+use types.Kit.{Item, ‵, raw, ◌⊛◌, some, later, mean, ⋆, pop, push, nth, del, put, pull, fill, Soaks, Goal, Post, runs, Seq, Step, step, by, ◌$◌, ◌∵◌, !, qed, move, drop, use0, use1, use2, use3, split, pick, await, fsplit, fjoin, feq_l, feq_i, rewrite, done}
 use types.Tokens.{lft_new, lft_end, lent_back}
 use types.SemTy.{Arr, cells}
 use types.Share.{arr_parts}
@@ -30,7 +30,7 @@ use types.Part.{rep}
 use types.Run.{Writes, Opd, init, stop, from, assigns}
 use denote.RattleType.{RattleType}
 use denote.Laws.{Is, Copy}
-use denote.Memory.{part_at, mem, shares, lone}
+use denote.Memory.{part_at, mem, shares, shared_of, lone}
 use denote.Shadow.{shadow}
 use denote.Array.{Array, each, array_val, Array-repeat, Array-Lawful}
 use denote.ArrayMemory.{Single, Array-apart, Array-whole}
@@ -38,7 +38,10 @@ use denote.Slice.{slice_val, MutSlice, ShrSlice, Room, finally}
 use denote.Lend.{Held, lends_slice, slice_back, lends_shr_slice}
 use denote.Index.{row, whole_out, whole_in}
 use denote.Plain.{uint_copy}
-use denote.Ref.{MutBor}
+use denote.Ref.{Bor, MutBor}
+use denote.Copied.{Copied}
+use denote.Shares.{SharesAs}
+use ghost.Rules.{Toks}
 use borrow.Table.Elements.{at, cut_app, join_app}
 use borrow.Table.OneValue.{part_in, part_out}
 use Rattle.entries_proofs.proofs.Values.{Datum, u32s, own_of}
@@ -61,6 +64,10 @@ table_ty R N = ty_array (lone R.mir) N
 -- the reference to the array, with ghost name γ
 abbrev pub ref : {X : Type 0} → ℕ → GName → List X → MutBor (List X)
 ref b γ xs = record { ref_ptr = (b, zero); ghost_name = γ; now = xs }
+
+-- the reference to the array as a `&`
+abbrev pub view : {X : Type 0} → ℕ → List X → Bor (List X)
+view b xs = record { ref_ptr = (b, zero); now = xs }
 
 -- an integer literal, such as an array's length, as an operand
 pub big : {M : Type 1} {𝓤 : Ura M} {𝓛 : Logic 𝓤} {K : Type 0} {Γ : List (Item 𝓤)} {E : Env 𝓤 𝓛.H} → K → {w : Width} {n : ℕ} → Fits w n → Opd K 𝓛 Γ E (int_big w n) (vint w n)
@@ -96,7 +103,7 @@ module _ {M : Type 1} {𝓤 : Ura M} {𝓛 : Logic 𝓤} {K : Type 0} {G : Goal 
       (via 𝓤 (⋆ 𝓛 (put 𝓛 n X Γ)) (fill 𝓛 n X Γ) s.prf))))
 
 -- ---- the array
-each-copied : (D : Datum) (x : D.R.Denot) → Is D.R x (D.val x ∷ []) → (N : ℕ) → shadow (each D.R.Denot D.R.own (replicate N x) (replicate N (D.val x)))
+each-copied : (D : Datum) (x : D.R.Denot) → Is D.R x (D.val x ∷ []) → (N : ℕ) → shadow (each D.R.Denot D.R.own_val (replicate N x) (replicate N (D.val x)))
 each-copied D x is zero = tt
 each-copied D x is (suc N) = (is, each-copied D x is N)
 
@@ -152,9 +159,21 @@ module _ {M : Type 1} {𝓤 : Ura M} {𝓛 : Logic 𝓤} {K : Type 0} {Γ : List
 
 -- ---- borrows
 
+-- the token of one lifetime, as a list of tokens
+module _ {M : Type 1} {𝓤 : Ura M} (𝓛 : Logic 𝓤) (α : ℕ) where
+  token_alone : ent 𝓤 (sem 𝓛 (flft (α ∷ []) full_share)) (lfts 𝓛 (((α ∷ []), full_share) ∷ []))
+  token_alone = id⊢ 𝓤 _
+
+  alone_token : ent 𝓤 (lfts 𝓛 (((α ∷ []), full_share) ∷ [])) (sem 𝓛 (flft (α ∷ []) full_share))
+  alone_token = id⊢ 𝓤 _
+
 -- what is borrowed of the array by a `&[R]`
 abbrev Lent : (R : RattleType) → List R.Denot → ℕ → Fml
 Lent R ys b = (arr_parts (shares R) (length ys)).part full_share ys b zero
+
+-- the premise of `shares_out`, at a type that can be copied
+pub copied_shares : {M : Type 1} {𝓤 : Ura M} (𝓛 : Logic 𝓤) (R : RattleType) → Copied 𝓛 R → (α : ℕ) → SharesAs 𝓛 R (shared_of R) (α ∷ [])
+copied_shares 𝓛 R c α = c.shares full_share (α ∷ [])
 
 -- the array's elements after the first k
 abbrev Rest : (R : RattleType) → ℕ → List R.Denot → ℕ → Fml
@@ -178,15 +197,21 @@ module _ {M : Type 1} {𝓤 : Ura M} {𝓛 : Logic 𝓤} {K : Type 0} {G : Goal 
       lft_end t z $ takes_out t (suc (suc n)) there $ move t (1 ∷ 0 ∷ []) $
       use3 𝓛 (later (table R N ys b)) (slice_back 𝓛 R (α ∷ []) γ ys N b zero) $ await t z $ puts_in t n gone $ s)
 
-  pub shares_out : K → Soaks G → (R : RattleType) (ℓ : Lifetime) (N n b : ℕ) (ys : List R.Denot) → length ys ≡ N → Room R N → nth 𝓛 n Γ ≡ table R N ys b → nth 𝓛 n (put 𝓛 n (‵ ftrue) Γ) ≡ ‵ ftrue
-      → ((α : ℕ) (γ : GName) → Seq K 𝓛 (‵ (flft (α ∷ []) full_share) ∷ ‵ ((ShrSlice ℓ (α ∷ []) R).own_val (ref b γ ys) (slice_val (b, zero) N ∷ [])) ∷ put 𝓛 n (‵ (flent (α ∷ []) (Lent R ys b))) (put 𝓛 n (‵ ftrue) Γ)) G)
+  -- R's values are shared out under a new lifetime, as what a `&` to one holds
+  pub shares_out : K → Soaks G → (R : RattleType) → ((α : ℕ) → SharesAs 𝓛 R (shared_of R) (α ∷ [])) → (ℓ : Lifetime) (N n b : ℕ) (ys : List R.Denot) → length ys ≡ N → Room R N → nth 𝓛 n Γ ≡ table R N ys b → nth 𝓛 n (put 𝓛 n (‵ ftrue) Γ) ≡ ‵ ftrue
+      → ((α : ℕ) → Seq K 𝓛 (‵ (flft (α ∷ []) full_share) ∷ ‵ ((ShrSlice ℓ (α ∷ []) R).own_val (view b ys) (slice_val (b, zero) N ∷ [])) ∷ put 𝓛 n (‵ (flent (α ∷ []) (Lent R ys b))) (put 𝓛 n (‵ ftrue) Γ)) G)
       → Seq K 𝓛 Γ G
-  shares_out t z R ℓ N n b ys e room there gone k =
+  shares_out t z R shared ℓ N n b ys e room there gone k =
       takes_out t n there $ fsplit t $ drop t $ use1 𝓛 (‵ (row R full_share ys b zero)) (whole_out 𝓛 R ys b zero) $ feq_i t ℕ (length ys) (length ys) refl $ fjoin t $
-      lft_new t z (λ α. move t (1 ∷ []) $
-      use1 𝓛 (later (some (λ (γ : GName). ‵ ((ShrSlice ℓ (α ∷ []) R).own_val (ref b γ ys) (slice_val (b, zero) (length ys) ∷ [])) ⊛ ‵ (flent (α ∷ []) (Lent R ys b))))) (lends_shr_slice 𝓛 R ℓ (α ∷ []) full_share ys b zero (subst (Room R) (sym e) room)) $
-      await t z $ pick t (λ γ. split t $ rewrite t 0 (λ (m : ℕ). ‵ ((ShrSlice ℓ (α ∷ []) R).own_val (ref b γ ys) (slice_val (b, zero) m ∷ []))) e refl $
-      move t (1 ∷ 2 ∷ 0 ∷ []) $ puts_in t (suc (suc n)) gone $ k α γ))
+      lft_new t z (λ α.
+      let ts : Toks = ((α ∷ []), full_share) ∷ [] in
+      use1 𝓛 (raw (lfts 𝓛 ts)) (token_alone 𝓛 α) $ move t (1 ∷ 0 ∷ []) $
+      use2 𝓛 (later ((‵ ((ShrSlice ℓ (α ∷ []) R).own_val (view b ys) (slice_val (b, zero) (length ys) ∷ [])) ⊛ ‵ (flent (α ∷ []) (Lent R ys b))) ⊛ raw (lfts 𝓛 ts)))
+      (lends_shr_slice 𝓛 R ℓ (α ∷ []) full_share ys b zero (subst (Room R) (sym e) room) (α ∷ []) (shared α) ts (Incl-refl (α ∷ [])) (Incl-refl (α ∷ []))) $
+      await t z $ split t $ split t $ rewrite t 0 (λ (m : ℕ). ‵ ((ShrSlice ℓ (α ∷ []) R).own_val (view b ys) (slice_val (b, zero) m ∷ []))) e refl $
+      move t (2 ∷ []) $ use1 𝓛 (‵ (flft (α ∷ []) full_share)) (alone_token 𝓛 α) $
+      -- [the token; the slice; what the lender gets back; …]
+      move t (2 ∷ 0 ∷ 1 ∷ []) $ puts_in t (suc (suc n)) gone $ k α)
 
   pub comes_home : K → Soaks G → (R : RattleType) (N n b α : ℕ) (ys : List R.Denot) → length ys ≡ N → nth 𝓛 n Γ ≡ ‵ (flent (α ∷ []) (Lent R ys b)) → nth 𝓛 n (put 𝓛 n (‵ ftrue) Γ) ≡ ‵ ftrue
       → Step K 𝓛 (put 𝓛 n (table R N ys b) (put 𝓛 n (‵ ftrue) Γ)) G (‵ (flft (α ∷ []) full_share) ∷ Γ) G

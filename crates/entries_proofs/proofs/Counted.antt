@@ -44,7 +44,8 @@ pub record Loop (w : World) : Type 2 where
   pub At : (k : ℕ) → State k → List (Item w.𝓤)
 
 module _ {w : World} (l : Loop w) where
-  open w use {𝓤, H, A, W, 𝓣}
+  open w use {𝓤, 𝓛, 𝓣}
+  open 𝓛 use {H}
   open l use {E, turn, rest, q, n, State, At}
 
   -- the postcondition where the loop is left
@@ -55,13 +56,13 @@ module _ {w : World} (l : Loop w) where
   Runs q' b = runs 𝓣.C 𝓣.Λ E b q'
 
   abbrev pub More : Type 2
-  More = (k : ℕ) (s : State k) → k < n → (q' : Post 𝓤 H) → ((s' : State (suc k)) → ent 𝓤 (⋆ 𝓤 H A (At (suc k) s')) (post 𝓤 H q' next)) → Seq (Go {0}) W (At k s) (Runs q' turn)
+  More = (k : ℕ) (s : State k) → k < n → (q' : Post 𝓤 H) → ((s' : State (suc k)) → ent 𝓤 (⋆ 𝓛 (At (suc k) s')) (post 𝓤 H q' next)) → Seq (Go {0}) 𝓛 (At k s) (Runs q' turn)
 
   abbrev pub Ends : Type 2
-  Ends = (s : State n) (q' : Post 𝓤 H) → ((Γ : List (Item 𝓤)) → Step (Go {0}) W Γ (Runs q rest) Γ (prop (post 𝓤 H q' (exits 1)))) → Seq (Go {0}) W (At n s) (Runs q' turn)
+  Ends = (s : State n) (q' : Post 𝓤 H) → ((Γ : List (Item 𝓤)) → Step (Go {0}) 𝓛 Γ (Runs q rest) Γ (prop (post 𝓤 H q' (exits 1)))) → Seq (Go {0}) 𝓛 (At n s) (Runs q' turn)
 
   abbrev Held : ℕ → SProp 𝓤
-  Held k = ex 𝓤 (λ (s : State k). ⋆ 𝓤 H A (At k s))
+  Held k = ex 𝓤 (λ (s : State k). ⋆ 𝓛 (At k s))
 
   -- the invariant where t turns are left
   abbrev Inv : ℕ → SProp 𝓤
@@ -71,9 +72,9 @@ module _ {w : World} (l : Loop w) where
   Below t = ex 𝓤 (λ (t' : ℕ). guard 𝓤 (t' < t) (Inv t'))
 
   module _ (more : More) (ends : Ends) where
-    at_inv : (k t : ℕ) (s : State k) → k + t ≡ n → ent 𝓤 (⋆ 𝓤 H A (At k s)) (Inv t)
+    at_inv : (k t : ℕ) (s : State k) → k + t ≡ n → ent 𝓤 (⋆ 𝓛 (At k s)) (Inv t)
     at_inv k t s e =
-        via 𝓤 (Held k) (ex_i 𝓤 (λ (s : State k). ⋆ 𝓤 H A (At k s)) s)
+        via 𝓤 (Held k) (ex_i 𝓤 (λ (s : State k). ⋆ 𝓛 (At k s)) s)
         (via 𝓤 (guard 𝓤 (k + t ≡ n) (Held k)) (guard_i 𝓤 (k + t ≡ n) (Held k) e) (ex_i 𝓤 (λ (j : ℕ). guard 𝓤 (j + t ≡ n) (Held j)) k))
 
     below : (t : ℕ) → ent 𝓤 (Inv t) (Below (suc t))
@@ -83,11 +84,11 @@ module _ {w : World} (l : Loop w) where
     abbrev Turn : SProp 𝓤 → Post 𝓤 H
     Turn X = any_q (after_turn 𝓤 H X Left)
 
-    ends_at : (j : ℕ) (X : SProp 𝓤) → n ≡ j → (s : State j) → Seq (Go {0}) W (At j s) (Runs (Turn X) turn)
+    ends_at : (j : ℕ) (X : SProp 𝓤) → n ≡ j → (s : State j) → Seq (Go {0}) 𝓛 (At j s) (Runs (Turn X) turn)
     unfolding after_turn
-    ends_at j X e = subst (λ (i : ℕ). (s : State i) → Seq (Go {0}) W (At i s) (Runs (Turn X) turn)) e (λ s. ends s (Turn X) (λ Γ. step (λ t. by ! t.prf)))
+    ends_at j X e = subst (λ (i : ℕ). (s : State i) → Seq (Go {0}) 𝓛 (At i s) (Runs (Turn X) turn)) e (λ s. ends s (Turn X) (λ Γ. step (λ t. by ! t.prf)))
 
-    turn_at : (t k : ℕ) (s : State k) → k + t ≡ n → Seq (Go {0}) W (At k s) (Runs (Turn (Below t)) turn)
+    turn_at : (t k : ℕ) (s : State k) → k + t ≡ n → Seq (Go {0}) 𝓛 (At k s) (Runs (Turn (Below t)) turn)
     unfolding after_turn
     turn_at zero k s e = ends_at k (Below zero) (omega arith) s
     turn_at (suc t) k s e = more k s (omega arith) (Turn (Below (suc t))) (λ s'. via 𝓤 (Inv t) (at_inv (suc k) t s' (omega arith)) (below t))
@@ -95,7 +96,7 @@ module _ {w : World} (l : Loop w) where
     turns : (t : ℕ) → ent 𝓤 (Inv t) (Wp 𝓤 H 𝓣.C 𝓣.Λ E turn (after_turn 𝓤 H (Below t) Left))
     turns t =
         ex_e 𝓤 (λ (k : ℕ). guard 𝓤 (k + t ≡ n) (Held k))
-        (λ k. guard_e 𝓤 (k + t ≡ n) (Held k) (λ e. ex_e 𝓤 (λ (s : State k). ⋆ 𝓤 H A (At k s)) (λ s. (turn_at t k s e).prf)))
+        (λ k. guard_e 𝓤 (k + t ≡ n) (Held k) (λ e. ex_e 𝓤 (λ (s : State k). ⋆ 𝓛 (At k s)) (λ s. (turn_at t k s e).prf)))
 
-    pub counted : (s : State 0) → Seq (Go {0}) W (At 0 s) (Runs q (seq (block (loop turn)) rest))
-    counted s = by ! (via 𝓤 (Inv n) (at_inv 0 n s (omega arith)) (loop_rule 𝓤 H W.laws 𝓣 ◌<◌ lt-wf_rel.wf E turn Left Inv turns n))
+    pub counted : (s : State 0) → Seq (Go {0}) 𝓛 (At 0 s) (Runs q (seq (block (loop turn)) rest))
+    counted s = by ! (via 𝓤 (Inv n) (at_inv 0 n s (omega arith)) (loop_rule 𝓤 H 𝓛.laws 𝓣 ◌<◌ lt-wf_rel.wf E turn Left Inv turns n))

@@ -9,7 +9,7 @@ use mathlib.Core.Path.{◌≡◌, refl, sym, ap, subst}
 use mathlib.Core.List.{List, [], ◌∷◌}
 use lib.ListN.{length, get_or, drop}
 use seplogic.Ra.Ura.{Ura}
-use seplogic.Ra.TreeShare.{full_share}
+use base.Fraction.{full_share}
 use mir.Syntax.{Ty, w64, ty_int, ty_ref, ty_unit, erased, mut, field, deref, place, copy, addr_of, aggregate, rv_opd, Body, seq, assign}
 use mir.Val.{Vals, vint, vptr, vstruct, vnil, vcons}
 use base.Fml.{ftrue, fat, froom}
@@ -20,6 +20,7 @@ use types.Part.{Part, agg, whole, sub, look_in}
 use types.Run.{Reads, Writes, Finds, Walks, look, init, stop, fld, hop, from, load, addr, of_opd, and_then, no_more, assigns}
 use denote.Memory.{lone, pointee}
 use denote.Slice.{slice_ty}
+use denote.Ref.{as_bor}
 use Rattle.entries_proofs.proofs.Values.{slice, fitting}
 use Rattle.entries_proofs.proofs.Outputs.{Output}
 use Rattle.entries_proofs.proofs.Locals.{len}
@@ -54,10 +55,10 @@ module _ {M : Type 1} {𝓤 : Ura M} (𝓛 : Logic 𝓤) (E : Env 𝓤 𝓛.H) (
 
   -- the context after the address is stored, and after the slice is stored too
   abbrev addressed : Output → ℕ → List (Item 𝓤) → List (Item 𝓤)
-  addressed o j Γ = put 𝓛 (spot j) (‵ (fat full_share (made_ref o) (block j) zero (vptr o.ref.ptr.0 o.ref.ptr.1))) Γ
+  addressed o j Γ = put 𝓛 (spot j) (‵ (fat full_share (made_ref o) (block j) zero (vptr o.ref.ref_ptr.0 o.ref.ref_ptr.1))) Γ
 
   abbrev lent_one : Output → ℕ → List (Item 𝓤) → List (Item 𝓤)
-  lent_one o j Γ = put 𝓛 (spot (suc j)) (‵ (fat full_share (slice_ty (made_ref o)) (block (suc j)) zero (slice o.ref))) (addressed o j Γ)
+  lent_one o j Γ = put 𝓛 (spot (suc j)) (‵ (fat full_share (slice_ty (made_ref o)) (block (suc j)) zero (slice (as_bor o.ref)))) (addressed o j Γ)
 
   abbrev lent : List Output → ℕ → List (Item 𝓤) → List (Item 𝓤)
   lent [] j Γ = Γ
@@ -76,10 +77,10 @@ module _ {M : Type 1} {𝓤 : Ura M} (𝓛 : Logic 𝓤) (E : Env 𝓤 𝓛.H) (
       ∷ there os (suc i) (suc (suc j)) (lent_one o j Γ)
 
   abbrev full : Output → ℕ → Item 𝓤
-  full o i = ‵ (fat full_share (slice_ty (passed_ref o)) (block i) zero (slice o.ref))
+  full o i = ‵ (fat full_share (slice_ty (passed_ref o)) (block i) zero (slice (as_bor o.ref)))
 
   abbrev address : Output → ℕ → Item 𝓤
-  address o j = ‵ (fat full_share (made_ref o) (block j) zero (vptr o.ref.ptr.0 o.ref.ptr.1))
+  address o j = ‵ (fat full_share (made_ref o) (block j) zero (vptr o.ref.ref_ptr.0 o.ref.ref_ptr.1))
 
   abbrev due : List Output → ℕ → ℕ → List (Item 𝓤)
   due [] i j = []
@@ -91,13 +92,13 @@ types_due (o ∷ os) = slice_ty (passed_ref o) ∷ made_ref o ∷ slice_ty (made
 
 -- the memory that a slice in a cell points at
 module _ {M : Type 1} {𝓤 : Ura M} {𝓛 : Logic 𝓤} {K : Type 0} {Γ : List (Item 𝓤)} {E : Env 𝓤 𝓛.H} (t : K) (o : Output) (n i : ℕ)
-    (type-is : (spot_of 𝓤 𝓛.H E i).0 ≡ slice_ty (passed_ref o)) (cell-is : nth 𝓛 n Γ ≡ ‵ (fat full_share (slice_ty (passed_ref o)) (spot_of 𝓤 𝓛.H E i).1 zero (slice o.ref))) where
+    (type-is : (spot_of 𝓤 𝓛.H E i).0 ≡ slice_ty (passed_ref o)) (cell-is : nth 𝓛 n Γ ≡ ‵ (fat full_share (slice_ty (passed_ref o)) (spot_of 𝓤 𝓛.H E i).1 zero (slice (as_bor o.ref)))) where
   open 𝓛 use {H}
 
-  referent : Finds K 𝓛 Γ E (place i (field 0 ∷ deref (element o) ∷ [])) (element o, o.ref.ptr.0, o.ref.ptr.1)
+  referent : Finds K 𝓛 Γ E (place i (field 0 ∷ deref (element o) ∷ [])) (element o, o.ref.ref_ptr.0, o.ref.ref_ptr.1)
   referent =
       let holds : Vals → Item 𝓤 = λ vs. ‵ (fat full_share (slice_ty (passed_ref o)) (spot_of 𝓤 H E i).1 zero (vstruct vs)) in
-      from t (subst (λ (τ : Ty). Walks K 𝓛 Γ E (τ, (spot_of 𝓤 H E i).1, zero) (field 0 ∷ deref (element o) ∷ []) (element o, o.ref.ptr.0, o.ref.ptr.1)) (sym type-is)
+      from t (subst (λ (τ : Ty). Walks K 𝓛 Γ E (τ, (spot_of 𝓤 H E i).1, zero) (field 0 ∷ deref (element o) ∷ []) (element o, o.ref.ref_ptr.0, o.ref.ref_ptr.1)) (sym type-is)
       (fld t refl (hop t (look_in t n (subst (λ (c : Item 𝓤). Part K 𝓛 c full_share (passed_ref o) (spot_of 𝓤 H E i).1 zero (vptr o.ref.ref_ptr.0 o.ref.ref_ptr.1) (λ u. holds (vcons u (vcons (vint w64 (length o.ref.now)) vnil)))) (sym cell-is) (sub t 0 refl (whole t)))) (stop t))))
 
 module _ {M : Type 1} {𝓤 : Ura M} {𝓛 : Logic 𝓤} {K : Type 0} {E : Env 𝓤 𝓛.H} {C : Calls 𝓤 𝓛.H} {Λ : Loops 𝓤 𝓛.H} {q : Post 𝓤 𝓛.H} where
@@ -110,10 +111,10 @@ module _ {M : Type 1} {𝓤 : Ura M} {𝓛 : Logic 𝓤} {K : Type 0} {E : Env �
       → Step K 𝓛 (lent_one 𝓛 E base o j Γ) (runs C Λ E rest q) Γ (runs C Λ E (lending (o ∷ []) i j rest) q)
   lends_one t base o i j rest Γ ti tj tk ci cj ca ci' ck = step (λ s.
       assigns t (addr t (referent t o (base + 2 * i) i ti ci)) (from t (stop t))
-      (subst (λ (τ : Ty). Writes K 𝓛 Γ τ (spot_of 𝓤 H E j).1 zero (vptr o.ref.ptr.0 o.ref.ptr.1) (addressed 𝓛 E base o j Γ)) (sym tj) (init t (base + 2 * j) cj (tt, tt))) $
-      assigns t (agg t (and_then t (load t (from t (stop t)) (subst (λ (τ : Ty). Reads K 𝓛 (addressed 𝓛 E base o j Γ) τ (spot_of 𝓤 H E j).1 zero (vptr o.ref.ptr.0 o.ref.ptr.1)) (sym tj) (look t (base + 2 * j) ca)))
+      (subst (λ (τ : Ty). Writes K 𝓛 Γ τ (spot_of 𝓤 H E j).1 zero (vptr o.ref.ref_ptr.0 o.ref.ref_ptr.1) (addressed 𝓛 E base o j Γ)) (sym tj) (init t (base + 2 * j) cj (tt, tt))) $
+      assigns t (agg t (and_then t (load t (from t (stop t)) (subst (λ (τ : Ty). Reads K 𝓛 (addressed 𝓛 E base o j Γ) τ (spot_of 𝓤 H E j).1 zero (vptr o.ref.ref_ptr.0 o.ref.ref_ptr.1)) (sym tj) (look t (base + 2 * j) ca)))
       (and_then t (len t (base + 2 * i) ti ci') (no_more t)))) (from t (stop t))
-      (subst (λ (τ : Ty). Writes K 𝓛 (addressed 𝓛 E base o j Γ) τ (spot_of 𝓤 H E (suc j)).1 zero (slice o.ref) (lent_one 𝓛 E base o j Γ)) (sym tk) (init t (base + 2 * suc j) ck (fitting o.fits))) $ s)
+      (subst (λ (τ : Ty). Writes K 𝓛 (addressed 𝓛 E base o j Γ) τ (spot_of 𝓤 H E (suc j)).1 zero (slice (as_bor o.ref)) (lent_one 𝓛 E base o j Γ)) (sym tk) (init t (base + 2 * suc j) ck (fitting o.fits))) $ s)
 
   lends_all : K → (base : ℕ) (os : List Output) (i j : ℕ) (rest : Body) (Γ : List (Item 𝓤)) → types_there 𝓛 E base os i j ≡ types_due os → there 𝓛 E base os i j Γ ≡ due 𝓛 E base os i j
       → Step K 𝓛 (lent 𝓛 E base os j Γ) (runs C Λ E rest q) Γ (runs C Λ E (lending os i j rest) q)

@@ -15,11 +15,11 @@ use mathlib.Core.Option.{Option, some, none}
 use lib.ListN.{length, drop}
 use lib.Dec.{T}
 use seplogic.Ra.Ura.{Ura}
-use seplogic.Ra.TreeShare.{full_share}
+use base.Fraction.{full_share}
 use mir.Syntax.{Ty, Lifetime, Mutability, Local, local, Fn, w64, ty_int, ty_ref, field, place, copy, Rv as RValue, Body, seq, assign}
 use mir.Val.{Val, has_ty, WT, vint, vptr, vstruct, vnil, vcons}
 use base.Logic.{SProp, ent, sep, via, comm∗, assoc∗, mono_l, mono_r}
-use base.Fml.{Fml, ftrue, ffalse, feq, flt, fsep, fand, for, fwand, fex, fall, fupd, fat, froom, fdies, flft, fdead, fobs, fauth, fres, fbor, fobor, flent, fshr_bor}
+use base.Fml.{Fml, ftrue, ffalse, feq, flt, fsep, fand, for, fwand, fex, fall, fupd, fhide, fat, froom, fleft, fdies, flft, fdead, fobs, fauth, fres, fown, fbor, fobor, flent, fshr_bor, finv, fnamed, ftok, fkid, fme, fsent}
 use prog.Wp.{Heap, Env, Calls, Loops, WpFn, spot_of}
 use types.Logic.{Logic}
 use types.Kit.{Item, ‵, raw, ◌⊛◌, some as some_item, given, later, ⋆, ++⊢, ⊢++, nth, put, Post, Goal, prop, runs, lands, at_ret, allocs, params', passes, frees, Seq, Step, step, by, ◌$◌}
@@ -146,18 +146,27 @@ holds (fwand F F') = none
 holds (fex B F) = none
 holds (fall B F) = none
 holds (fupd F) = none
+holds (fhide F) = none
 holds (fat q τ b o v) = some v
 holds (froom τ b o) = none
+holds (fleft q τ τs b o) = none
 holds (fdies τ b) = none
 holds (flft κ q) = none
 holds (fdead κ) = none
 holds (fobs γ g) = none
 holds (fauth γ g) = none
 holds (fres γ g) = none
+holds (fown R γ a) = none
 holds (fbor κ F) = none
 holds (fobor κ q F) = none
 holds (flent κ F) = none
 holds (fshr_bor κ F) = none
+holds (finv F) = none
+holds (fnamed n F) = none
+holds (ftok m) = none
+holds (fkid h a) = none
+holds (fme t) = none
+holds (fsent x) = none
 
 abbrev held : {M : Type 1} {𝓤 : Ura M} → Item 𝓤 → Option Val
 held (‵ F) = holds F

@@ -4,8 +4,8 @@ use Prim.Native.Nat.{ℕ, zero, ◌+◌, ◌*◌}
 use mathlib.Core.Path.{◌≡◌, ap}
 use mathlib.Core.List.{List, [], ◌∷◌}
 use seplogic.Ra.Ura.{Ura}
-use seplogic.Ra.TreeShare.{full_share}
-use mir.Syntax.{place, Opd as Operand, copy, int, int_neg, int_big, float, opd_true, opd_false, opd_unit, ptr_const}
+use base.Fraction.{full_share}
+use mir.Syntax.{place, Opd as Operand, copy, int, int_neg, int_big, float, opd_true, opd_false, opd_unit, ptr_const, size_of, align_of, num_of, fn_addr, vtable}
 use mir.Val.{Val}
 use base.Fml.{ftrue, fat}
 use prog.Wp.{Env, spot_of}
@@ -25,6 +25,11 @@ Whole opd_true X = ⊥
 Whole opd_false X = ⊥
 Whole opd_unit X = ⊥
 Whole (ptr_const n) X = ⊥
+Whole (size_of τ) X = ⊥
+Whole (align_of τ) X = ⊥
+Whole (num_of w n) X = ⊥
+Whole (fn_addr f a) X = ⊥
+Whole (vtable d τ) X = ⊥
 
 abbrev local_of : Operand → ℕ
 local_of (copy (place i st)) = i
@@ -36,6 +41,11 @@ local_of opd_true = zero
 local_of opd_false = zero
 local_of opd_unit = zero
 local_of (ptr_const n) = zero
+local_of (size_of τ) = zero
+local_of (align_of τ) = zero
+local_of (num_of w n) = zero
+local_of (fn_addr f a) = zero
+local_of (vtable d τ) = zero
 
 abbrev AllWhole : List Operand → List Val → Type 0
 AllWhole [] [] = Unit {0}
@@ -79,6 +89,11 @@ module _ {M : Type 1} {𝓤 : Ura M} {𝓛 : Logic 𝓤} {K : Type 0} {Γ : List
   one_more t base opd_false v xs vs w e k = absurd w
   one_more t base opd_unit v xs vs w e k = absurd w
   one_more t base (ptr_const n) v xs vs w e k = absurd w
+  one_more t base (size_of τ) v xs vs w e k = absurd w
+  one_more t base (align_of τ) v xs vs w e k = absurd w
+  one_more t base (num_of z n) v xs vs w e k = absurd w
+  one_more t base (fn_addr f a) v xs vs w e k = absurd w
+  one_more t base (vtable d τ) v xs vs w e k = absurd w
 
   pub loads : K → (base : ℕ) {xs : List Operand} {vs : List Val} → AllWhole xs vs → there 𝓛 Γ E base xs ≡ cells 𝓛 Γ E base xs vs → Opds K 𝓛 Γ E xs vs
   loads t base {xs} {vs} w e = go xs vs w e

@@ -8,16 +8,16 @@ use lib.ListN.{length}
 use mir.Syntax.{Lifetime}
 use base.Fml.{Fml}
 use denote.RattleType.{RattleType}
-use denote.Ref.{Bor}
+use denote.Ref.{MutBor}
 use Rattle.entries_proofs.proofs.Values.{left}
 
 pub record Output : Type 2 where
   pub lifetime : Lifetime
   pub R : RattleType
-  pub ref : Bor (List R.Denot)
+  pub ref : MutBor (List R.Denot)
   pub fits : length ref.now < 2 ^ 64
 
-abbrev pub output : Lifetime → (R : RattleType) (x : Bor (List R.Denot)) → length x.now < 2 ^ 64 → Output
+abbrev pub output : Lifetime → (R : RattleType) (x : MutBor (List R.Denot)) → length x.now < 2 ^ 64 → Output
 output ℓ R x fits = record { lifetime = ℓ; R = R; ref = x; fits = fits }
 
 abbrev pub Lists : List Output → Type 0

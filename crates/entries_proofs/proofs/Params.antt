@@ -27,7 +27,7 @@ use denote.Laws.{Is, Tells, Spells, Tellss, Ises, Are, Lawful, Lawfuls, Typed, v
 use denote.Plain.{uint_vals, uint_Tells, uint_Lawful}
 use denote.Floats.{float_vals, float_Tells, float_Lawful}
 use denote.Signature.{Slot, AllWithin, plain, types_at, shr_slice_of, mut_slice_of}
-use denote.Slice.{shr_slice_vals, shr_slice_Lawful, mut_slice_Lawful}
+use denote.Slice.{shr_slice_vals, mut_slice_vals, shr_slice_Lawful, mut_slice_Lawful}
 use denote.Builtin.{u32, usize, f64}
 use denote.Exit.{Kept, yes, left}
 use denote.Triple.End.{Kepts}
@@ -88,7 +88,7 @@ module _ {n : ℕ} where
     kept = yes;
     stay = stay_slice (j ∷ []) ok (plain (λ _. R));
     goes = λ M 𝓤 𝓛. Goes-slice 𝓛 n j ok (plain (λ _. R));
-    vals = λ κs. shr_slice_vals;
+    vals = λ κs. mut_slice_vals;
     tells = λ κs x vs p. p.0.0;
     lawful = λ M 𝓤 𝓛 κs. mut_slice_Lawful 𝓛 _ _ R;
     outs = λ κs x is. output (named j) R x is.0.1.0 ∷ [];
@@ -121,7 +121,7 @@ module _ {n : ℕ} where
 
   abbrev pub handed_lent : (j : ℕ) → AllWithin n (j ∷ []) → RattleType → Param n
   handed_lent j ok R =
-      handed (mut_slice_of {n = n} (j ∷ []) ok (plain (λ _. R))).row (λ κs. shr_slice_vals) (λ κs x vs p. p.0.0) (λ M 𝓤 𝓛 κs. mut_slice_Lawful 𝓛 _ _ R) (λ κs x is. output (named j) R x is.0.1.0 ∷ [])
+      handed (mut_slice_of {n = n} (j ∷ []) ok (plain (λ _. R))).row (λ κs. mut_slice_vals) (λ κs x vs p. p.0.0) (λ M 𝓤 𝓛 κs. mut_slice_Lawful 𝓛 _ _ R) (λ κs x is. output (named j) R x is.0.1.0 ∷ [])
 
   -- ---- lists of parameters
   abbrev pub slots : List (Param n) → List (Slot n)
@@ -160,12 +160,12 @@ module _ {n : ℕ} where
 
     abbrev pub owned : (ps : List (Param n)) → Arguments ps κs → List Fml
     owned [] a = []
-    owned (p ∷ ps) a = (p.slot.row κs).own a.0 (p.vals κs a.0) ∷ owned ps a.1
+    owned (p ∷ ps) a = (p.slot.row κs).own_val a.0 (p.vals κs a.0) ∷ owned ps a.1
 
     -- what a signature's parameters own is what each owns, under one ∗
     pub all_own : (ps : List (Param n)) (a : Arguments ps κs) → owns (types_at (slots ps) κs) a (values ps a) ≡ stars (owned ps a)
     all_own [] a = refl
-    all_own (p ∷ ps) a = ap (fsep ((p.slot.row κs).own a.0 (p.vals κs a.0))) (all_own ps a.1)
+    all_own (p ∷ ps) a = ap (fsep ((p.slot.row κs).own_val a.0 (p.vals κs a.0))) (all_own ps a.1)
 
     abbrev pub Known : (ps : List (Param n)) → Arguments ps κs → Type 0
     Known ps a = Are (types_at (slots ps) κs) (Ises (types_at (slots ps) κs)) a (values ps a)

@@ -15,7 +15,7 @@ use base.Fml.{Lft, Fml, ftrue, fsep}
 use types.Logic.{Logic, sem}
 use contract.Monad.{fact, fact_i}
 use types.Kit.{Item, ‵, ◌⊛◌, mean, ⋆, push, pop, ++⊢, ⊢++, Goal, Step, step, by}
-use denote.RattleType.{RattleType}
+use denote.RattleType.{RattleType, RowLaws}
 use denote.Ref.{Bor}
 use denote.Slice.{ShrSlice, shr_slice_copy}
 
@@ -116,8 +116,8 @@ pub record Shared : Type 2 where
   pub own : Fml
   pub twice : {M : Type 1} {𝓤 : Ura M} (𝓛 : Logic 𝓤) → ent 𝓤 (sem 𝓛 own) (sep 𝓤 (sem 𝓛 own) (sem 𝓛 own))
 
-abbrev pub shared_slice : Lifetime → Lft → (R : RattleType) → Bor (List R.Denot) → List Val → Shared
-shared_slice ℓ κ R x vs = record { own = (ShrSlice ℓ κ R).own_val x vs; twice = λ 𝓛. (shr_slice_copy 𝓛 ℓ κ R).twice x vs }
+abbrev pub shared_slice : Lifetime → Lft → (R : RattleType) → RowLaws R → Bor (List R.Denot) → List Val → Shared
+shared_slice ℓ κ R L x vs = record { own = (ShrSlice ℓ κ R).own_val x vs; twice = λ 𝓛. (shr_slice_copy 𝓛 ℓ κ R L).twice x vs }
 
 abbrev pub shared : {M : Type 1} {𝓤 : Ura M} → List Shared → List (Item 𝓤)
 shared [] = []

@@ -58,7 +58,7 @@ pub of_type : {M : Type 1} {𝓤 : Ura M} (𝓛 : Logic 𝓤) (D : Datum) (x : D
 of_type 𝓛 D x is e = (subst (λ (τs : List Ty). Typed τs (D.val x ∷ [])) (D.one ∙ ap (λ (τ : Ty). τ ∷ []) (sym e)) ((D.lawful 𝓛).typed x (D.val x ∷ []) is)).0
 
 abbrev pub own_of : (D : Datum) → D.R.Denot → Fml
-own_of D x = D.R.own x (D.val x ∷ [])
+own_of D x = D.R.own_val x (D.val x ∷ [])
 
 abbrev u32_of : ℕ → Fml
 u32_of n = own_of u32s n

@@ -13,16 +13,15 @@ use mathlib.Core.List.{List, [], ◌∷◌, ◌++◌, map}
 use mathlib.Core.Option.{some, none}
 use lib.ListN.{length, get_or}
 use seplogic.Ra.Ura.{Ura}
-use mir.Syntax.{Name, Body as Code, Fn}
+use mir.Syntax.{Callee as Name, Body as Code, Fn}
 use mir.Val.{Val, vunit}
 use base.Logic.{SProp, ent, sep, emp, via, mono∗, mono_l, fst∗}
 use base.Fml.{Fml, ftrue}
 use prog.Memory.{Memory}
 use prog.Model.{Model}
-use prog.Routine.{Routine, Env as Meanings}
+use prog.Routine.{Routine}
 use prog.Wp.{Env, WpFn, Closed}
-use ghost.Atoms.{meaning}
-use types.Logic.{Logic}
+use types.Logic.{Logic, sem}
 use contract.Monad.{Fun, fact}
 use contract.Lifetimes.{Lfts, Shares}
 use contract.Running.{Running, tables, tables_of}
@@ -65,10 +64,11 @@ pub record Here (f : Walked) : Type 3 where
   pub qs : Shares f.n
   pub a : Arguments f.params κs
   pub are : Known κs f.params a
-  pub g : (f.clauses w w.mem w.run κs a).ghost
+  pub g : (f.clauses w.𝓛 w.mem w.run κs a).ghost
 
 module _ {f : Walked} (h : Here f) where
-  open h.w use {𝓤, H, A, W, 𝓣}
+  open h.w use {𝓤, 𝓛, 𝓣}
+  open 𝓛 use {H}
 
   abbrev pub args : List Val
   args = machine h.κs f.params h.a
@@ -112,42 +112,42 @@ module _ {f : Walked} (h : Here f) where
   T = ended f.params f.result
 
   abbrev clauses : Clauses 𝓤 T
-  clauses = f.clauses 𝓤 H A h.w.mem h.w.run
+  clauses = f.clauses 𝓛 h.w.mem h.w.run
 
-  abbrev bound : (walk_of 𝓤 H A T (stays f.params) clauses).Ghost
+  abbrev bound : (walk_of 𝓛 T (stays f.params) clauses).Ghost
   bound = ((h.κs, h.qs, tt, h.a, values h.κs f.params h.a), h.g)
 
   abbrev pub Returned : Val → SProp 𝓤
-  Returned = (walk_of 𝓤 H A T (stays f.params) clauses).post bound
+  Returned = (walk_of 𝓛 T (stays f.params) clauses).post bound
 
   -- at the return: given the tokens, the result x and `ensures`, it is left to show F, what remains of the parameters; the `refl`s state that this is all
   pub ends_in : {K : Type 0} {Γ : List (Item 𝓤)} → K → (D : Datum) (x : D.R.Denot) → Is D.R x (D.val x ∷ []) → (r : Res T.signature h.κs) (ws : Lasts T h.κs h.a) → Fit T (stays f.params) h.κs h.a ws → (F : Fml)
       → (has_of h.κs (slots f.params) (kepts f.params) (stays f.params) h.a ws (values h.κs f.params h.a) ≡ F) × ((type_at f.result h.κs).own_val r (D.val x ∷ []) ≡ own_of D x)
       → ent 𝓤 (emp 𝓤) ((clauses h.κs h.a).ensures h.g r (at_exit T h.κs h.a ws))
-      → Step K W Γ (prop (meaning 𝓤 H A F)) (toks (span 0 f.n) ++ Γ) (prop (Returned (D.val x)))
+      → Step K 𝓛 Γ (prop (sem 𝓛 F)) (toks (span 0 f.n) ++ Γ) (prop (Returned (D.val x)))
   ends_in {Γ = Γ} t D x is r ws fit F all q = step (λ s.
       let ts : List (Item 𝓤) = toks (span 0 f.n) in
-      let P : SProp 𝓤 = ⋆ 𝓤 H A Γ in
-      let had : ent 𝓤 P (sep 𝓤 (meaning 𝓤 H A F) (meaning 𝓤 H A (own_of D x))) = via 𝓤 (meaning 𝓤 H A F) s.prf (and_so 𝓤 (D.makes 𝓤 H A W x (D.val x ∷ []) is)) in
-      by t (via 𝓤 (Ending 𝓤 H A T (stays f.params) clauses bound (D.val x) r ws)
-      (via 𝓤 (on_exit 𝓤 H A T (stays f.params) h.κs h.qs (values h.κs f.params h.a) (D.val x) r h.a ws)
-      (via 𝓤 (sep 𝓤 (⋆ 𝓤 H A ts) P) (⊢++ 𝓤 H A ts Γ)
-      (mono∗ 𝓤 (subst (λ (Q : SProp 𝓤). ent 𝓤 (⋆ 𝓤 H A ts) Q) (sym (all-alive {𝓤 = 𝓤} _ f.n h.κs h.qs)) (tokens_whole {𝓤 = 𝓤} _ ts))
-      (subst (λ (G : Fml). ent 𝓤 P (sep 𝓤 (meaning 𝓤 H A G) (meaning 𝓤 H A ((type_at f.result h.κs).own_val r (D.val x ∷ []))))) (sym all.0)
-      (subst (λ (G : Fml). ent 𝓤 P (sep 𝓤 (meaning 𝓤 H A F) (meaning 𝓤 H A G))) (sym all.1) had))))
+      let P : SProp 𝓤 = ⋆ 𝓛 Γ in
+      let had : ent 𝓤 P (sep 𝓤 (sem 𝓛 F) (sem 𝓛 (own_of D x))) = via 𝓤 (sem 𝓛 F) s.prf (and_so 𝓤 (D.makes 𝓛 x (D.val x ∷ []) is)) in
+      by t (via 𝓤 (Ending 𝓛 T (stays f.params) clauses bound (D.val x) r ws)
+      (via 𝓤 (on_exit 𝓛 T (stays f.params) h.κs h.qs (values h.κs f.params h.a) (D.val x) r h.a ws)
+      (via 𝓤 (sep 𝓤 (⋆ 𝓛 ts) P) (⊢++ 𝓛 ts Γ)
+      (mono∗ 𝓤 (subst (λ (Q : SProp 𝓤). ent 𝓤 (⋆ 𝓛 ts) Q) (sym (all-alive 𝓛 f.n h.κs h.qs)) (tokens_whole 𝓛 ts))
+      (subst (λ (G : Fml). ent 𝓤 P (sep 𝓤 (sem 𝓛 G) (sem 𝓛 ((type_at f.result h.κs).own_val r (D.val x ∷ []))))) (sym all.0)
+      (subst (λ (G : Fml). ent 𝓤 P (sep 𝓤 (sem 𝓛 F) (sem 𝓛 G))) (sym all.1) had))))
       (and_so 𝓤 q))
-      (ends_at 𝓤 H A T (stays f.params) clauses W bound (D.val x) r ws fit)))
+      (ends_at 𝓛 T (stays f.params) clauses bound (D.val x) r ws fit)))
 
   -- splits what there is at the entry into items
-  pub taken_apart : {K : Type 0} {G : Goal 𝓤 H} (Γ : List (Item 𝓤)) → K → Step K W (items Owned ++ (toks (span 0 f.n) ++ Γ)) G (Entered ++ Γ) G
+  pub taken_apart : {K : Type 0} {G : Goal 𝓤 H} (Γ : List (Item 𝓤)) → K → Step K 𝓛 (items Owned ++ (toks (span 0 f.n) ++ Γ)) G (Entered ++ Γ) G
   taken_apart Γ t =
       let ts : List (Item 𝓤) = toks (span 0 f.n) in
-      step (λ s. by t (via 𝓤 (⋆ 𝓤 H A (items Owned ++ (ts ++ Γ)))
-      (via 𝓤 (sep 𝓤 (⋆ 𝓤 H A (items Owned)) (⋆ 𝓤 H A (ts ++ Γ)))
-      (via 𝓤 (⋆ 𝓤 H A (‵ (stars Owned) ∷ tokens ts ∷ Γ)) (sel⊢ 𝓤 H A (1 ∷ 0 ∷ []) (tokens ts ∷ ‵ (stars Owned) ∷ Γ))
-      (via 𝓤 (sep 𝓤 (meaning 𝓤 H A (stars Owned)) (⋆ 𝓤 H A (tokens ts ∷ Γ))) (pop 𝓤 H A (‵ (stars Owned)) (tokens ts ∷ Γ))
-      (mono∗ 𝓤 (stars_apart {𝓤 = 𝓤} _ Owned) (via 𝓤 (sep 𝓤 (mean 𝓤 H A (tokens ts)) (⋆ 𝓤 H A Γ)) (pop 𝓤 H A (tokens ts) Γ) (via 𝓤 (sep 𝓤 (⋆ 𝓤 H A ts) (⋆ 𝓤 H A Γ)) (mono_l 𝓤 (⋆ 𝓤 H A Γ) (tokens_apart {𝓤 = 𝓤} _ ts)) (++⊢ 𝓤 H A ts Γ))))))
-      (++⊢ 𝓤 H A (items Owned) (ts ++ Γ))) s.prf))
+      step (λ s. by t (via 𝓤 (⋆ 𝓛 (items Owned ++ (ts ++ Γ)))
+      (via 𝓤 (sep 𝓤 (⋆ 𝓛 (items Owned)) (⋆ 𝓛 (ts ++ Γ)))
+      (via 𝓤 (⋆ 𝓛 (‵ (stars Owned) ∷ tokens ts ∷ Γ)) (sel⊢ 𝓛 (1 ∷ 0 ∷ []) (tokens ts ∷ ‵ (stars Owned) ∷ Γ))
+      (via 𝓤 (sep 𝓤 (sem 𝓛 (stars Owned)) (⋆ 𝓛 (tokens ts ∷ Γ))) (pop 𝓛 (‵ (stars Owned)) (tokens ts ∷ Γ))
+      (mono∗ 𝓤 (stars_apart 𝓛 Owned) (via 𝓤 (sep 𝓤 (mean 𝓛 (tokens ts)) (⋆ 𝓛 Γ)) (pop 𝓛 (tokens ts) Γ) (via 𝓤 (sep 𝓤 (⋆ 𝓛 ts) (⋆ 𝓛 Γ)) (mono_l 𝓤 (⋆ 𝓛 Γ) (tokens_apart 𝓛 ts)) (++⊢ 𝓛 ts Γ))))))
+      (++⊢ 𝓛 (items Owned) (ts ++ Γ))) s.prf))
 
   -- the environment of its locals
   abbrev pub En : Blocks f.code.locals → Env 𝓤 H
@@ -162,14 +162,14 @@ module _ {f : Walked} (h : Here f) where
   to_call ks x vs = passing f.n h.κs h.qs ks x vs
 
   abbrev pub Body : Blocks f.code.locals → (Val → SProp 𝓤) → Type 1
-  Body bs Kf = Seq (Go {0}) W (Entered ++ locals (En bs) (none ∷ map some args)) (runs 𝓣.C 𝓣.Λ (En bs) f.code.body (at_ret (En bs) Kf))
+  Body bs Kf = Seq (Go {0}) 𝓛 (Entered ++ locals (En bs) (none ∷ map some args)) (runs 𝓣.C 𝓣.Λ (En bs) f.code.body (at_ret (En bs) Kf))
 
   -- that the body runs for any blocks of the locals, up to the postcondition
   abbrev pub Whole : Type 1
   Whole = (bs : Blocks f.code.locals) → Body bs Returned
 
   abbrev Started : SProp 𝓤
-  Started = on_entry 𝓤 H A T.signature h.κs h.qs h.a (values h.κs f.params h.a)
+  Started = on_entry 𝓛 T.signature h.κs h.qs h.a (values h.κs f.params h.a)
 
   abbrev Runs : SProp 𝓤
   Runs = WpFn 𝓤 H 𝓣.C 𝓣.Λ f.code args Returned
@@ -180,15 +180,15 @@ module _ {f : Walked} (h : Here f) where
   abbrev Walk : Type 1
   Walk = ent 𝓤 (sep 𝓤 Started Required) Runs
 
-  entry : Started ≡ ⋆ 𝓤 H A Entered
-  entry = ap₂ (sep 𝓤) (all-alive {𝓤 = 𝓤} _ f.n h.κs h.qs) (ap (meaning 𝓤 H A) (all_own h.κs f.params h.a))
+  entry : Started ≡ ⋆ 𝓛 Entered
+  entry = ap₂ (sep 𝓤) (all-alive 𝓛 f.n h.κs h.qs) (ap (sem 𝓛) (all_own h.κs f.params h.a))
 
   -- `fits` holds by computation, for a concrete signature
   module _ (fits : (bs : Blocks f.code.locals) → Typed (mirs (types_at (slots f.params) h.κs)) args → Fits (En bs) args) where
     runs-from : Whole → ent 𝓤 Started Runs
     runs-from body =
         subst (λ (P : SProp 𝓤). ent 𝓤 P Runs) (sym entry)
-        (enters ! 𝓣.C 𝓣.Λ f.code args Returned Entered (λ bs. fits bs (typed h.κs W f.params h.a h.are)) body).prf
+        (enters ! 𝓣.C 𝓣.Λ f.code args Returned Entered (λ bs. fits bs (typed h.κs 𝓛 f.params h.a h.are)) body).prf
 
     pub walks : Whole → Walk
     walks body = via 𝓤 Started (fst∗ 𝓤 Started Required) (runs-from body)
@@ -196,22 +196,22 @@ module _ {f : Walked} (h : Here f) where
     pub walks_given : (φ : Type 0) → Required ≡ fact 𝓤 φ → (φ → Whole) → Walk
     walks_given φ e body = subst (λ (P : SProp 𝓤). ent 𝓤 (sep 𝓤 Started P) Runs) (sym e) (needs 𝓤 φ Started (λ given. runs-from (body given)))
 
--- the function has the name k, and γ gives the meaning of its calls
-module _ (f : Walked) (k : Name) (γ : Meanings) (links : Links γ f.callees) (walk : (h : Here f) → Walk h) {M : Type 1} {𝓤 : Ura M} (𝓛 : Logic 𝓤) (𝓜 : Model 𝓤 𝓛.H) (𝓡 : Running 𝓤 𝓛.H 𝓜) where
+-- the function has the name k, and the environment has its callees' code
+module _ (f : Walked) (k : Name) {M : Type 1} {𝓤 : Ura M} (𝓛 : Logic 𝓤) (𝓜 : Model 𝓤 𝓛.H) (𝓡 : Running 𝓤 𝓛.H 𝓜) (links : Links 𝓡.env f.callees) (walk : (h : Here f) → Walk h) where
   open 𝓛 use {H}
 
   abbrev E : Ended
   E = ended f.params f.result
 
   abbrev c : Clauses 𝓤 E
-  c = f.clauses 𝓛 𝓜.mem 𝓡.run
+  c = f.clauses 𝓛 𝓜.mem 𝓡.returns
 
-  pub stands : Closed 𝓤 H (tables 𝓤 H 𝓜 𝓡 γ).C (tables 𝓤 H 𝓜 𝓡 γ).Λ k f.code → Triple 𝓤 ((tables 𝓤 H 𝓜 𝓡 γ).C k) (triple_of 𝓛 E.signature (closing 𝓛 E c))
+  pub stands : Closed 𝓤 H (tables 𝓤 H 𝓜 𝓡 𝓡.env).C (tables 𝓤 H 𝓜 𝓡 𝓡.env).Λ k f.code → Triple 𝓤 ((tables 𝓤 H 𝓜 𝓡 𝓡.env).C k) (triple_of 𝓛 E.signature (closing 𝓛 E c))
   unfolding tables_of
   stands closed =
-      let w : World = world 𝓛 𝓜 𝓡 γ in
+      let w : World = world 𝓛 𝓜 𝓡 in
       let run : Fun 𝓤 = WpFn 𝓤 H w.𝓣.C w.𝓣.Λ f.code in
-      entered 𝓤 H (triple_of 𝓛 E.signature (closing 𝓛 E c)) (tables 𝓤 H 𝓜 𝓡 γ).C (tables 𝓤 H 𝓜 𝓡 γ).Λ k f.code closed
-      (walk_Meets 𝓛 E (stays f.params) w.W (all_go w.W f.params) c run (WpFn-mono 𝓤 H w.W.laws w.𝓣 f.code)
+      entered 𝓤 H (triple_of 𝓛 E.signature (closing 𝓛 E c)) (tables 𝓤 H 𝓜 𝓡 𝓡.env).C (tables 𝓤 H 𝓜 𝓡 𝓡.env).Λ k f.code closed
+      (walk_Meets 𝓛 E (stays f.params) (all_go 𝓛 f.params) c run (WpFn-mono 𝓤 H 𝓛.laws w.𝓣 f.code)
       (walked 𝓛 E (stays f.params) c run (spelled f.params) (all_tell f.params)
-      (λ κs qs bounds a g are. walk (record { w = w; cited = all-cited 𝓛 𝓜 𝓡 γ f.callees links; κs = κs; qs = qs; a = a; are = are; g = g }))))
+      (λ κs qs bounds a g are. walk (record { w = w; cited = all-cited 𝓛 𝓜 𝓡 f.callees links; κs = κs; qs = qs; a = a; are = are; g = g }))))

@@ -5,7 +5,7 @@
 // The slices passed to a function share one lifetime, so that its proof deals with a single borrow.
 #![tactic(auto)]
 
-use libc::{STDIN_FILENO, STDOUT_FILENO};
+use std::io::{self, Read};
 use stored::{item, same_values, same_words, values_at, words_at};
 
 // ---- the problem
@@ -91,24 +91,24 @@ const COMPACT: u32 = 1;
 
 // ---- words and numbers
 
-// Copies the text from standard input up to the next #, or to its end; the # is left out.
-fn words() {
-    let mut left: u32 = 65536;
-    while 0 < left {
-        left -= 1;
-        let mut byte = [b'#'; 1];
-        io::read_full(STDIN_FILENO, &mut byte);
-        if byte[0] == b'#' {
-            return;
+// Prints `text` up to the next #, or to its end, and leaves what follows the # there.
+fn words(rt: &impl Print, text: &mut &[u8]) -> io::Result<()> {
+    let all = *text;
+    let most = if all.len() < 65536 { all.len() } else { 65536 };
+    for i in 0..most {
+        if all[i] == b'#' {
+            *text = &all[i + 1..];
+            return rt.write_all(&all[..i]);
         }
-        io::write_all(STDOUT_FILENO, &byte);
     }
+    *text = &all[most..];
+    rt.write_all(&all[..most])
 }
 
 // Prints the text up to the next #, then `n`.
-fn tell(n: u32) {
-    words();
-    io::print_decimal(STDOUT_FILENO, n as u64);
+fn tell(rt: &impl Print, text: &mut &[u8], n: u32) -> io::Result<()> {
+    words(rt, text)?;
+    print!(rt; "{n}")
 }
 
 fn whole(v: f64) -> u64 {
@@ -121,14 +121,14 @@ fn whole(v: f64) -> u64 {
 }
 
 // Prints the text up to the next #, then `v`, which is a whole number in the example.
-fn tell_value(v: f64) {
-    words();
+fn tell_value(rt: &impl Print, text: &mut &[u8], v: f64) -> io::Result<()> {
+    words(rt, text)?;
     let mut size = v;
     if v < 0.0 {
-        io::write_all(STDOUT_FILENO, b"-");
+        print!(rt; "-")?;
         size = -v;
     }
-    io::print_decimal(STDOUT_FILENO, whole(size));
+    print!(rt; "{}", whole(size))
 }
 
 fn value(values: &[f64], i: usize) -> f64 {
@@ -136,109 +136,128 @@ fn value(values: &[f64], i: usize) -> f64 {
 }
 
 // Prints the first `n` numbers of `list`.
-fn tell_all(list: &[u32], n: u32) {
-    let mut i = 0;
-    while i < n {
-        tell(item(list, i as usize));
-        i += 1;
+fn tell_all(rt: &impl Print, text: &mut &[u8], list: &[u32], n: u32) -> io::Result<()> {
+    for i in 0..n {
+        tell(rt, text, item(list, i as usize))?;
     }
+    Ok(())
 }
 
-fn tell_values(values: &[f64], n: u32) {
-    let mut i = 0;
-    while i < n {
-        tell_value(value(values, i as usize));
-        i += 1;
+fn tell_values(rt: &impl Print, text: &mut &[u8], values: &[f64], n: u32) -> io::Result<()> {
+    for i in 0..n {
+        tell_value(rt, text, value(values, i as usize))?;
     }
+    Ok(())
 }
 
 // Prints the columns of A, none of which is empty: for each its number, then the value and row of each entry.
-fn tell_columns<'a>(columns: u32, starts: &'a [u32], rows: &'a [u32], values: &'a [f64]) {
+fn tell_columns<'a>(
+    rt: &impl Print,
+    text: &mut &[u8],
+    columns: u32,
+    starts: &'a [u32],
+    rows: &'a [u32],
+    values: &'a [f64],
+) -> io::Result<()> {
     let count = item(starts, columns as usize);
     let mut k = 0;
-    let mut i = 0;
-    while i < count {
+    for i in 0..count {
         if item(starts, k as usize) == i {
-            tell(k);
+            tell(rt, text, k)?;
             k += 1;
         }
-        tell_value(value(values, i as usize));
-        tell(item(rows, i as usize));
-        i += 1;
+        tell_value(rt, text, value(values, i as usize))?;
+        tell(rt, text, item(rows, i as usize))?;
     }
+    Ok(())
 }
 
 // Prints a row of the triangle and its pair.
-fn tell_row(row: u32) {
+fn tell_row(rt: &impl Print, text: &mut &[u8], row: u32) -> io::Result<()> {
     let mut pair = [0u32; 2];
     scalarmath::pair_back(row, &mut pair);
-    tell(row);
-    tell(pair[0]);
-    tell(pair[1]);
+    tell(rt, text, row)?;
+    tell(rt, text, pair[0])?;
+    tell(rt, text, pair[1])
 }
 
 // Prints the positions of the 1 bits of `n`.
-fn tell_ones(n: u64) {
+fn tell_ones(rt: &impl Print, text: &mut &[u8], n: u64) -> io::Result<()> {
     let mut left = n;
-    let mut i = 0;
-    while i < 64 {
+    for i in 0..64 {
         if left % 2 == 1 {
-            tell(i);
+            tell(rt, text, i)?;
         }
         left /= 2;
-        i += 1;
     }
+    Ok(())
 }
 
 // Prints each row of the triangle and the augmented rows joined to it: `sums` has a power of two for each of these.
-fn tell_rows(sums: [f64; 32]) {
-    let mut row = 0;
-    while row < M {
-        tell_row(row);
-        tell_ones(whole(sums[row as usize]));
-        row += 1;
+fn tell_rows(rt: &impl Print, text: &mut &[u8], sums: [f64; 32]) -> io::Result<()> {
+    for row in 0..M {
+        tell_row(rt, text, row)?;
+        tell_ones(rt, text, whole(sums[row as usize]))?;
     }
+    Ok(())
 }
 
 // ---- printing the problem
 
 // Prints the original vertices of the members at those word indices of `pattern` that `told` lists.
-fn tell_members<'a>(pattern: &'a [u32], told: &'a [u32]) {
-    let mut i = 0;
-    while i < told.len() {
-        tell(item(pattern, 3 + item(pattern, item(told, i) as usize) as usize));
-        i += 1;
+fn tell_members<'a>(
+    rt: &impl Print,
+    text: &mut &[u8],
+    pattern: &'a [u32],
+    told: &'a [u32],
+) -> io::Result<()> {
+    for i in 0..told.len() {
+        tell(
+            rt,
+            text,
+            item(pattern, 3 + item(pattern, item(told, i) as usize) as usize),
+        )?;
     }
+    Ok(())
 }
 
-fn tell_problem<'a>(words: &'a [u32], values: &'a [f64]) {
-    tell(N);
-    tell(M);
-    tell_rows([0.0; 32]);
+fn tell_problem<'a>(
+    rt: &impl Print,
+    text: &mut &[u8],
+    words: &'a [u32],
+    values: &'a [f64],
+) -> io::Result<()> {
+    tell(rt, text, N)?;
+    tell(rt, text, M)?;
+    tell_rows(rt, text, [0.0; 32])?;
     tell_columns(
+        rt,
+        text,
         N,
         words_at(words, A_STARTS),
         words_at(words, A_ROWS),
         values_at(words, values, A_VALUES),
-    );
-    tell_values(values_at(words, values, B), M);
-    tell_all(words_at(words, CONES), 3);
-    tell_members(words_at(words, PATTERN), words_at(words, TOLD));
+    )?;
+    tell_values(rt, text, values_at(words, values, B), M)?;
+    tell_all(rt, text, words_at(words, CONES), 3)?;
+    tell_members(rt, text, words_at(words, PATTERN), words_at(words, TOLD))
 }
 
 // ---- the joining
 
 // Prints the first `n` numbers of an output.
-fn tell_front(out: [u32; 32], n: u32) {
-    tell_all(&out, n);
+fn tell_front(rt: &impl Print, text: &mut &[u8], out: [u32; 32], n: u32) -> io::Result<()> {
+    tell_all(rt, text, &out, n)
 }
 
-fn tell_front_values(out: [f64; 32], n: u32) {
-    tell_values(&out, n);
+fn tell_front_values(rt: &impl Print, text: &mut &[u8], out: [f64; 32], n: u32) -> io::Result<()> {
+    tell_values(rt, text, &out, n)
 }
 
 // Joins a solution whose s and z are both `both`, and prints the number and the joined solution or, if `rows_only`, which rows are joined.
 fn tell_joined<'a>(
+    rt: &impl Print,
+    text: &mut &[u8],
     rows_only: bool,
     route: u32,
     cones: &'a [u32],
@@ -246,7 +265,7 @@ fn tell_joined<'a>(
     map: &'a [u32],
     x: &'a [f64],
     both: &'a [f64],
-) {
+) -> io::Result<()> {
     let mut x_out = [0f64; 32];
     let mut s_out = [0f64; 32];
     let mut z_out = [0f64; 32];
@@ -270,14 +289,15 @@ fn tell_joined<'a>(
         &mut scalars_out,
     );
     if rows_only {
-        tell_rows(s_out);
+        tell_rows(rt, text, s_out)?;
     } else {
-        tell(answer);
-        tell_front_values(x_out, N);
-        tell_front_values(s_out, M);
-        tell_front_values(z_out, M);
-        tell_front_values(scalars_out, 2);
+        tell(rt, text, answer)?;
+        tell_front_values(rt, text, x_out, N)?;
+        tell_front_values(rt, text, s_out, M)?;
+        tell_front_values(rt, text, z_out, M)?;
+        tell_front_values(rt, text, scalars_out, 2)?;
     }
+    Ok(())
 }
 
 // ---- the steps
@@ -306,23 +326,27 @@ fn kept_values(kept: u32, out: [f64; 32]) -> u32 {
 
 // Prints the augmented problem's sizes, A and b.
 fn tell_matrix(
+    rt: &impl Print,
+    text: &mut &[u8],
     lengths: &[u32],
     a_starts: [u32; 32],
     a_rows: [u32; 32],
     a_values: [f64; 32],
     b: [f64; 32],
-) {
+) -> io::Result<()> {
     let m = item(lengths, 7);
     let n = item(lengths, 3);
-    tell(m);
-    tell(n);
-    tell_columns(n, &a_starts, &a_rows, &a_values);
-    tell_front_values(b, m);
+    tell(rt, text, m)?;
+    tell(rt, text, n)?;
+    tell_columns(rt, text, n, &a_starts, &a_rows, &a_values)?;
+    tell_front_values(rt, text, b, m)
 }
 
 // Prints the augmented problem's cones and cone map, which augmented rows are joined to each original row, and a solution before and
 // after joining.
 fn tell_back<'a>(
+    rt: &impl Print,
+    text: &mut &[u8],
     route: u32,
     lengths: &'a [u32],
     cones: &'a [u32],
@@ -332,22 +356,24 @@ fn tell_back<'a>(
     x: &'a [f64],
     both: &'a [f64],
     powers: &'a [f64],
-) {
-    tell_front(cones_out, item(lengths, 8));
+) -> io::Result<()> {
+    tell_front(rt, text, cones_out, item(lengths, 8))?;
     let n = item(lengths, 10) % 33;
     let end = n as usize;
     let map = &map_out[..end];
-    tell_all(map, n);
-    tell_joined(true, route, cones, pattern, map, x, powers);
-    tell_values(x, item(lengths, 3));
-    tell_values(both, item(lengths, 7));
-    tell_value(TAU);
-    tell_value(KAPPA);
-    tell_joined(false, route, cones, pattern, map, x, both);
+    tell_all(rt, text, map, n)?;
+    tell_joined(rt, text, true, route, cones, pattern, map, x, powers)?;
+    tell_values(rt, text, x, item(lengths, 3))?;
+    tell_values(rt, text, both, item(lengths, 7))?;
+    tell_value(rt, text, TAU)?;
+    tell_value(rt, text, KAPPA)?;
+    tell_joined(rt, text, false, route, cones, pattern, map, x, both)
 }
 
 // Prints the number that the cut returned and what it wrote or, if it refused, how many outputs are unchanged.
 fn tell_outputs<'a>(
+    rt: &impl Print,
+    text: &mut &[u8],
     answer: u32,
     route: u32,
     lengths: &'a [u32],
@@ -367,13 +393,13 @@ fn tell_outputs<'a>(
     cones_out: [u32; 32],
     alphas: [f64; 32],
     map: [u32; 32],
-) {
-    tell(answer);
+) -> io::Result<()> {
+    tell(rt, text, answer)?;
     if answer == 0 {
-        tell_matrix(lengths, a_starts, a_rows, a_values, b);
+        tell_matrix(rt, text, lengths, a_starts, a_rows, a_values, b)?;
         tell_back(
-            route, lengths, cones, pattern, cones_out, map, x, both, powers,
-        );
+            rt, text, route, lengths, cones, pattern, cones_out, map, x, both, powers,
+        )?;
     } else {
         let mut kept = 0;
         kept = kept_words(kept, p_starts);
@@ -387,13 +413,16 @@ fn tell_outputs<'a>(
         kept = kept_words(kept, cones_out);
         kept = kept_values(kept, alphas);
         kept = kept_words(kept, map);
-        tell(BEFORE);
-        tell(kept);
+        tell(rt, text, BEFORE)?;
+        tell(rt, text, kept)?;
     }
+    Ok(())
 }
 
 // Cuts the problem on a route, with outputs longer than needed, and prints the result.
 fn tell_cut<'a>(
+    rt: &impl Print,
+    text: &mut &[u8],
     route: u32,
     p_starts: &'a [u32],
     p_rows: &'a [u32],
@@ -410,7 +439,7 @@ fn tell_cut<'a>(
     x: &'a [f64],
     both: &'a [f64],
     powers: &'a [f64],
-) {
+) -> io::Result<()> {
     let mut p_starts_out = [BEFORE; 32];
     let mut p_rows_out = [BEFORE; 32];
     let mut p_values_out = [BEFORE_VALUE; 32];
@@ -451,6 +480,8 @@ fn tell_cut<'a>(
         &mut map_out,
     );
     tell_outputs(
+        rt,
+        text,
         answer,
         route,
         lengths,
@@ -470,20 +501,23 @@ fn tell_cut<'a>(
         cones_out,
         alphas_out,
         map_out,
-    );
+    )
 }
 
 // Prints the number that the size call returned and, if that is 0, the length of each of the cut's outputs.
-fn tell_sizes(answer: u32, lengths: &[u32]) {
-    tell(answer);
+fn tell_sizes(rt: &impl Print, text: &mut &[u8], answer: u32, lengths: &[u32]) -> io::Result<()> {
+    tell(rt, text, answer)?;
     if answer == 0 {
-        tell_all(lengths, 11);
+        tell_all(rt, text, lengths, 11)?;
     }
+    Ok(())
 }
 
 // Prints one step of the example: the sizes and the cut on a route. The u8 parameters are list numbers: those of A's tables, of a
 // solution of the cut problem, and of the powers of two that show which rows are joined.
 fn tell_step<'a>(
+    rt: &impl Print,
+    text: &mut &[u8],
     route: u32,
     a_starts: u8,
     a_rows: u8,
@@ -493,7 +527,7 @@ fn tell_step<'a>(
     powers: u8,
     words: &'a [u32],
     values: &'a [f64],
-) {
+) -> io::Result<()> {
     let p_starts = words_at(words, P_STARTS);
     let p_rows = words_at(words, P_ROWS);
     let p_values = values_at(words, values, P_VALUES);
@@ -524,8 +558,10 @@ fn tell_step<'a>(
         pattern,
         &mut lengths,
     );
-    tell_sizes(answer, &lengths);
+    tell_sizes(rt, text, answer, &lengths)?;
     tell_cut(
+        rt,
+        text,
         route,
         p_starts,
         p_rows,
@@ -542,12 +578,19 @@ fn tell_step<'a>(
         values_at(words, values, x),
         values_at(words, values, both),
         values_at(words, values, powers),
-    );
+    )
 }
 
-fn story<'a>(words: &'a [u32], values: &'a [f64]) {
-    tell_problem(words, values);
+fn story<'a>(
+    rt: &impl Print,
+    text: &mut &[u8],
+    words: &'a [u32],
+    values: &'a [f64],
+) -> io::Result<()> {
+    tell_problem(rt, text, words, values)?;
     tell_step(
+        rt,
+        text,
         COMPACT,
         A_STARTS,
         A_ROWS,
@@ -557,8 +600,10 @@ fn story<'a>(words: &'a [u32], values: &'a [f64]) {
         COMPACT_POWERS,
         words,
         values,
-    );
+    )?;
     tell_step(
+        rt,
+        text,
         STANDARD,
         A_STARTS,
         A_ROWS,
@@ -568,14 +613,18 @@ fn story<'a>(words: &'a [u32], values: &'a [f64]) {
         STANDARD_POWERS,
         words,
         values,
-    );
+    )?;
     tell_columns(
+        rt,
+        text,
         N,
         words_at(words, MORE_STARTS),
         words_at(words, MORE_ROWS),
         values_at(words, values, MORE_VALUES),
-    );
+    )?;
     tell_step(
+        rt,
+        text,
         COMPACT,
         MORE_STARTS,
         MORE_ROWS,
@@ -585,10 +634,13 @@ fn story<'a>(words: &'a [u32], values: &'a [f64]) {
         COMPACT_POWERS,
         words,
         values,
-    );
+    )
 }
 
-fn main() {
-    story(&WORDS, &VALUES);
-    words();
+fn main(rt: HostRuntime) -> io::Result<()> {
+    let mut bytes = Vec::new(rt.alloc());
+    rt.reader().read_to_end(&mut bytes)?;
+    let mut text = bytes.as_slice();
+    story(&rt, &mut text, &WORDS, &VALUES)?;
+    words(&rt, &mut text)
 }

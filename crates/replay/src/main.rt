@@ -6,9 +6,11 @@
 // function in make_answers.py or the comparison that computes its answers.
 #![tactic(auto)]
 
+use std::io;
+use std::rt::Files;
 use stored::{
-    cut_answer, holds, item, load_values, load_words, report, value_item, values_at, values_hold,
-    values_room, word, words_at, words_room,
+    cut_answer, holds, item, load_values, load_words, report, text_of, value_item, values_at,
+    values_hold, values_room, word, words_at, words_room,
 };
 
 // A case's u32 lists are the call's numbers, its result, its inputs and its outputs; its f64 lists are
@@ -626,69 +628,69 @@ fn agrees<'a>(family: u8, answer: u8, words: &'a [u32], values: &'a [f64]) -> bo
     r == item(words_at(words, answer), 0)
 }
 
-// Reads the next case of a file, of at most 16,384 elements of each type, and returns whether it agrees.
-fn next_case_agrees(fd: i32, family: u8, answer: u8) -> bool {
+// Takes the next case from what is left of a file, of at most 16,384 elements of each type, and returns whether it agrees.
+fn next_case_agrees(rest: &mut &[u8], family: u8, answer: u8) -> bool {
     let mut words = [0u32; 16384];
     let mut values = [0f64; 16384];
-    load_words(fd, &mut words);
-    load_values(fd, &mut words, &mut values);
+    load_words(rest, &mut words);
+    load_values(rest, &mut words, &mut values);
     agrees(family, answer, &words, &values)
 }
 
-// Reads the next two cases, which make one case of pooling, and returns whether they agree.
-fn next_two_agree(fd: i32, answer: u8) -> bool {
+// Takes the next two cases, which make one case of pooling, and returns whether they agree.
+fn next_two_agree(rest: &mut &[u8], answer: u8) -> bool {
     let mut words = [0u32; 16384];
     let mut values = [0f64; 16384];
     let mut more = [0u32; 16384];
     let mut more_values = [0f64; 16384];
-    load_words(fd, &mut words);
-    load_values(fd, &mut words, &mut values);
-    load_words(fd, &mut more);
-    load_values(fd, &mut more, &mut more_values);
+    load_words(rest, &mut words);
+    load_values(rest, &mut words, &mut values);
+    load_words(rest, &mut more);
+    load_values(rest, &mut more, &mut more_values);
     let r = pool(&words, &values, &more, &more_values);
     r == item(words_at(&words, answer), 0)
 }
 
-fn next_agrees(fd: i32, family: u8, answer: u8) -> bool {
+fn next_agrees(rest: &mut &[u8], family: u8, answer: u8) -> bool {
     if family == POOL {
-        next_two_agree(fd, answer)
+        next_two_agree(rest, answer)
     } else {
-        next_case_agrees(fd, family, answer)
+        next_case_agrees(rest, family, answer)
     }
 }
 
 // Replays a family's cases up to the first that differs, and prints its line. The stored result is the first number of
 // list `answer`. A missing file counts as one without cases, which the line shows.
-fn replay(name: &[u8], family: u8, answer: u8) {
-    let fd = os::open_read(name);
-    let cases = word(fd);
+fn replay(rt: &(impl Files + Alloc + Print), name: &str, family: u8, answer: u8) -> io::Result<()> {
+    let text = text_of(rt, name)?;
+    let mut rest = text.as_slice();
+    let cases = word(&mut rest);
     let mut k = 0;
     while k < cases {
-        if !next_agrees(fd, family, answer) {
+        if !next_agrees(&mut rest, family, answer) {
             break;
         }
         k += 1;
     }
-    libc::close(fd);
-    report(name, cases, k);
+    report(rt, name.as_bytes(), cases, k)
 }
 
-fn numbers_and_patterns() {
-    replay(b"pair_index", PAIR_INDEX, 1);
-    replay(b"pair_back", PAIR_BACK, 1);
-    replay(b"inverse", INVERSE, 0);
-    replay(b"renumber", RENUMBER, 0);
+fn numbers_and_patterns(rt: &(impl Files + Alloc + Print)) -> io::Result<()> {
+    replay(rt, "pair_index", PAIR_INDEX, 1)?;
+    replay(rt, "pair_back", PAIR_BACK, 1)?;
+    replay(rt, "inverse", INVERSE, 0)?;
+    replay(rt, "renumber", RENUMBER, 0)
 }
 
-fn main() {
-    numbers_and_patterns();
-    replay(b"check_problem", CHECK_PROBLEM, 1);
-    replay(b"same_layout", SAME_LAYOUT, 1);
-    replay(b"sizes", SIZES, 1);
-    replay(b"cut", CUT, 1);
-    replay(b"join", JOIN, 1);
-    replay(b"change_route", CHANGE_ROUTE, 1);
-    replay(b"cut_between", CUT_BETWEEN, 1);
-    replay(b"cut_many", CUT_MANY, 1);
-    replay(b"pool", POOL, 1);
+fn main(rt: HostRuntime) -> io::Result<()> {
+    numbers_and_patterns(&rt)?;
+    replay(&rt, "check_problem", CHECK_PROBLEM, 1)?;
+    replay(&rt, "same_layout", SAME_LAYOUT, 1)?;
+    replay(&rt, "sizes", SIZES, 1)?;
+    replay(&rt, "cut", CUT, 1)?;
+    replay(&rt, "join", JOIN, 1)?;
+    replay(&rt, "change_route", CHANGE_ROUTE, 1)?;
+    replay(&rt, "cut_between", CUT_BETWEEN, 1)?;
+    replay(&rt, "cut_many", CUT_MANY, 1)?;
+    replay(&rt, "pool", POOL, 1)
 }

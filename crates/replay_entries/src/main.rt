@@ -7,12 +7,14 @@ ghost use Rattle.std.specs.Prelude.{◌*◌, ◌≤◌, length};
 use entries_cut::cut_compact_entries;
 use entries_join::join_compact_entries;
 use entries_map::ConeMapEntry;
+use std::io;
+use std::rt::Files;
 use stored::{
-    cut_answer, item, load_values, load_words, report, value_item, values_at, values_hold,
+    cut_answer, item, load_values, load_words, report, text_of, value_item, values_at, values_hold,
     values_room, word, words_at, words_room,
 };
 
-// ---- the calls with entries. Both functions are proved by hand, because they pass on a local array of structs by reference.
+// ---- the calls with entries
 
 const MOST_ENTRIES: usize = 64;
 
@@ -267,31 +269,31 @@ fn agrees<'a>(family: u8, words: &'a [u32], values: &'a [f64]) -> bool {
     r == item(words_at(words, 1), 0)
 }
 
-// Reads the next case of a file (at most 16,384 numbers of each type) and runs it. Returns whether it agrees with its stored answer.
-fn next_agrees(fd: i32, family: u8) -> bool {
+// Takes the next case from what is left of a file (at most 16,384 numbers of each type) and runs it. Returns whether it agrees with its stored answer.
+fn next_agrees(rest: &mut &[u8], family: u8) -> bool {
     let mut words = [0u32; 16384];
     let mut values = [0f64; 16384];
-    load_words(fd, &mut words);
-    load_values(fd, &mut words, &mut values);
+    load_words(rest, &mut words);
+    load_values(rest, &mut words, &mut values);
     agrees(family, &words, &values)
 }
 
 // Runs a family's cases up to the first that differs and prints the family's line. A missing file counts as 0 cases, which the line shows.
-fn replay(name: &[u8], family: u8) {
-    let fd = os::open_read(name);
-    let cases = word(fd);
+fn replay(rt: &(impl Files + Alloc + Print), name: &str, family: u8) -> io::Result<()> {
+    let text = text_of(rt, name)?;
+    let mut rest = text.as_slice();
+    let cases = word(&mut rest);
     let mut k = 0;
     while k < cases {
-        if !next_agrees(fd, family) {
+        if !next_agrees(&mut rest, family) {
             break;
         }
         k += 1;
     }
-    libc::close(fd);
-    report(name, cases, k);
+    report(rt, name.as_bytes(), cases, k)
 }
 
-fn main() {
-    replay(b"cut", CUT);
-    replay(b"join", JOIN);
+fn main(rt: HostRuntime) -> io::Result<()> {
+    replay(&rt, "cut", CUT)?;
+    replay(&rt, "join", JOIN)
 }

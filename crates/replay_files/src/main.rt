@@ -6,7 +6,7 @@
 // must return.
 #![tactic(auto)]
 
-use libc::STDOUT_FILENO;
+use std::io;
 
 const CASES: u32 = 120;
 
@@ -167,30 +167,29 @@ fn answer(file: &[u8]) -> u32 {
     )
 }
 
-// Reads the next case and returns whether the number found is the stored one.
-fn next_agrees(fd: i32) -> bool {
+// Takes the next case from the front of `rest` and returns whether the number found is the stored one. Bytes past the end of the file count as 0.
+fn next_agrees(rest: &mut &[u8]) -> bool {
     let mut case = [0u8; 1024];
-    io::read_full(fd, &mut case);
+    stored::fill(rest, &mut case);
     let mut words = [0u32; 256];
     file_bytes::file_words(&case, &mut words);
     let length = stored::item(&words, 254) as usize;
     answer(front_bytes(&case, length)) == stored::item(&words, 255)
 }
 
-fn main() {
-    let fd = os::open_read(b"files");
+fn main(rt: HostRuntime) -> io::Result<()> {
+    let files = stored::text_of(&rt, "files")?;
+    let mut rest = files.as_slice();
     let mut k = 0;
     while k < CASES {
-        if !next_agrees(fd) {
+        if !next_agrees(&mut rest) {
             break;
         }
         k += 1;
     }
-    libc::close(fd);
-    io::print_decimal(STDOUT_FILENO, k as u64);
     if k == CASES {
-        io::write_all(STDOUT_FILENO, b" files, all as stored\n");
+        println!(rt; "{k} files, all as stored")
     } else {
-        io::write_all(STDOUT_FILENO, b" files as stored, and the next one not\n");
+        println!(rt; "{k} files as stored, and the next one not")
     }
 }

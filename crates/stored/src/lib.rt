@@ -1,5 +1,5 @@
 // Reads and compares stored answers. A file is text of hexadecimal numbers, 8 digits for a u32 and 16 for the bits of an f64, each
-// followed by one byte, a space or a line feed. So each number is one read, and the file descriptor is the cursor.
+// followed by one byte, a space or a line feed. A program reads the whole file (`text_of`); what is left of its bytes is the cursor.
 //
 // A file begins with its number of cases. A case is its number of u32 lists, then each list as its length
 // and its numbers; then the same for its f64 lists. A case is kept in a u32 buffer and an f64 buffer, its lists
@@ -8,14 +8,41 @@
 // functions that read one promise only bounds and lengths.
 #![tactic(auto)]
 
-ghost use Rattle.std.specs.Prelude.{◌≡◌, ◌<◌, ◌≤◌, length, take, get_or, eqb};
+ghost use Rattle.std.specs.Prelude.{◌≡◌, ◌<◌, ◌≤◌, ◌++◌, length, take, drop, get_or, eqb};
 ghost use Rattle.std.specs.Float.{binary64};
 ghost use Rattle.std.specs.Float.Ieee.{of_bits};
 ghost use Rattle.stored.specs.Lists.{list_from, list_end, list_at, words_before, values_before, CaseRoom};
 ghost use Rattle.layout.specs.General.Lists.{same_by};
 ghost use Rattle.stored.specs.Same.{alike_values};
 
-use libc::STDOUT_FILENO;
+use std::fs;
+use std::io::{self, ErrorKind};
+use std::rt::Files;
+
+// Reads the file `name`. A missing file counts as an empty one.
+pub fn text_of<R: Files + Alloc>(rt: &R, name: &str) -> io::Result<Vec<u8, R::A>> {
+    match fs::read(rt, name) {
+        Ok(text) => Ok(text),
+        Err(e) => {
+            if e.kind() == ErrorKind::NotFound {
+                Ok(Vec::new(rt.alloc()))
+            } else {
+                Err(e)
+            }
+        }
+    }
+}
+
+// Takes bytes from the front of `rest`, as many as `text` has room for, and writes them to the front of `text`.
+pub fn fill(rest: &mut &[u8], text: &mut [u8])
+    ensures text { text.new ≡ take (length text.old) rest.old.now ++ drop (length rest.old.now) text.old }
+    ensures rest { rest.new.now ≡ drop (length text.old) rest.old.now }
+{
+    let all = *rest;
+    let n = least(all.len(), text.len());
+    text[..n].copy_from_slice(&all[..n]);
+    *rest = &all[n..];
+}
 
 // Returns the number that the hexadecimal digits in `text`, all bytes but the last, spell; only the last 16 digits count.
 fn number(text: &[u8]) -> u64 {
@@ -29,12 +56,12 @@ fn number(text: &[u8]) -> u64 {
     n
 }
 
-// Reads and returns the next u32; 0 at the end of the file.
-pub fn word(fd: i32) -> u32
+// Takes the next u32 from the front of `rest` and returns it; 0 at the end of the file.
+pub fn word(rest: &mut &[u8]) -> u32
     ensures { result < 4294967296 }
 {
     let mut text = [0u8; 9];
-    io::read_full(fd, &mut text);
+    fill(rest, &mut text);
     (number(&text) % 0x1_0000_0000) as u32
 }
 
@@ -49,10 +76,10 @@ fn of_bits(bits: u64) -> f64
     }
 }
 
-// Reads and returns the next f64.
-fn value(fd: i32) -> f64 {
+// Takes the next f64 from the front of `rest` and returns it.
+fn value(rest: &mut &[u8]) -> f64 {
     let mut text = [0u8; 17];
-    io::read_full(fd, &mut text);
+    fill(rest, &mut text);
     of_bits(number(&text))
 }
 
@@ -62,19 +89,19 @@ fn least(a: usize, b: usize) -> usize
     if a < b { a } else { b }
 }
 
-// Reads a case's u32 lists, at most 15, into `words` and their starts into its first words. Lists are cut off where the buffer ends.
-pub fn load_words(fd: i32, words: &mut [u32])
+// Takes a case's u32 lists, at most 15, from the front of `rest` into `words` and their starts into its first words. Lists are cut off where the buffer ends.
+pub fn load_words(rest: &mut &[u8], words: &mut [u32])
     requires { CaseRoom (length words.old) }
     ensures { length words.new ≡ length words.old }
 {
-    let lists = (word(fd) % 16) as usize;
+    let lists = (word(rest) % 16) as usize;
     let mut at = 32;
     words[0] = 32;
     let mut k = 0;
     while k < lists {
-        let end = least(at + word(fd) as usize, words.len());
+        let end = least(at + word(rest) as usize, words.len());
         while at < end {
-            words[at] = word(fd);
+            words[at] = word(rest);
             at += 1;
         }
         k += 1;
@@ -82,19 +109,19 @@ pub fn load_words(fd: i32, words: &mut [u32])
     }
 }
 
-// Reads a case's f64 lists, at most 15, into `values`, and their starts into `words` from index 16 on.
-pub fn load_values(fd: i32, words: &mut [u32], values: &mut [f64])
+// Takes a case's f64 lists, at most 15, from the front of `rest` into `values`, and their starts into `words` from index 16 on.
+pub fn load_values(rest: &mut &[u8], words: &mut [u32], values: &mut [f64])
     requires { CaseRoom (length words.old) × CaseRoom (length values.old) }
     ensures { (length words.new ≡ length words.old) × (length values.new ≡ length values.old) }
 {
-    let lists = (word(fd) % 16) as usize;
+    let lists = (word(rest) % 16) as usize;
     let mut at = 0;
     words[16] = 0;
     let mut k = 16;
     while k < 16 + lists {
-        let end = least(at + word(fd) as usize, values.len());
+        let end = least(at + word(rest) as usize, values.len());
         while at < end {
-            values[at] = value(fd);
+            values[at] = value(rest);
             at += 1;
         }
         k += 1;
@@ -293,13 +320,11 @@ pub fn cut_answer<'a>(
 }
 
 // Prints the line of a family of cases: how many cases it has, or how many were equal before the first that was not.
-pub fn report(name: &[u8], cases: u32, equal: u32) {
-    io::write_all(STDOUT_FILENO, name);
-    io::write_all(STDOUT_FILENO, b": ");
-    io::print_decimal(STDOUT_FILENO, equal as u64);
+pub fn report(rt: &impl Print, name: &[u8], cases: u32, equal: u32) -> io::Result<()> {
+    rt.write_all(name)?;
     if equal == cases {
-        io::write_all(STDOUT_FILENO, b" cases, all equal\n");
+        println!(rt; ": {equal} cases, all equal")
     } else {
-        io::write_all(STDOUT_FILENO, b" cases equal and the next one not\n");
+        println!(rt; ": {equal} cases equal and the next one not")
     }
 }

@@ -5,7 +5,7 @@
 // the generator's next draw from that is the new checksum.
 #![tactic(auto)]
 
-use libc::STDOUT_FILENO;
+use std::io;
 use stored::item;
 
 const STANDARD: u32 = 0;
@@ -14,14 +14,13 @@ const COMPACT: u32 = 1;
 
 // ---- text and numbers
 
-fn say(text: &[u8]) {
-    io::write_all(STDOUT_FILENO, text);
+fn say(rt: &impl Print, text: &str) -> io::Result<()> {
+    print!(rt; "{text}")
 }
 
 // Prints `name` and then the number `n`.
-fn tell(name: &[u8], n: u64) {
-    say(name);
-    io::print_decimal(STDOUT_FILENO, n);
+fn tell(rt: &impl Print, name: &str, n: u64) -> io::Result<()> {
+    print!(rt; "{name}{n}")
 }
 
 // ---- checksums
@@ -59,21 +58,20 @@ fn value(table: &[f64], i: usize) -> f64 {
 }
 
 // Prints the lengths of eleven tables, and their checksum `sum`.
-fn tell_lengths(lengths: &[u32], sum: u64) {
-    say(b": lengths");
-    let mut i = 0;
-    while i < 11 {
-        tell(b" ", item(lengths, i) as u64);
-        i += 1;
+fn tell_lengths(rt: &impl Print, lengths: &[u32], sum: u64) -> io::Result<()> {
+    say(rt, ": lengths")?;
+    for i in 0..11 {
+        tell(rt, " ", item(lengths, i) as u64)?;
     }
-    say(b", checksum ");
-    io::print_hex(STDOUT_FILENO, sum, 16);
+    say(rt, ", checksum ")?;
+    print!(rt; "{sum:016x}")
 }
 
 // Prints the name of a call and the number that it returned and, where that is 0, the lengths and the checksum of the eleven tables that it
 // wrote; `lengths` has their lengths.
 fn tell_tables<'a>(
-    name: &[u8],
+    rt: &impl Print,
+    name: &str,
     answer: u32,
     lengths: &'a [u32],
     p_starts: &'a [u32],
@@ -87,9 +85,9 @@ fn tell_tables<'a>(
     cones: &'a [u32],
     alphas: &'a [f64],
     last: &'a [u32],
-) {
-    say(b"  ");
-    tell(name, answer as u64);
+) -> io::Result<()> {
+    say(rt, "  ")?;
+    tell(rt, name, answer as u64)?;
     if answer == 0 {
         let mut s = 1;
         s = add_words(s, p_starts, item(lengths, 0));
@@ -103,16 +101,17 @@ fn tell_tables<'a>(
         s = add_words(s, cones, item(lengths, 8));
         s = add_values(s, alphas, item(lengths, 9));
         s = add_words(s, last, item(lengths, 10));
-        tell_lengths(lengths, s);
+        tell_lengths(rt, lengths, s)?;
     }
-    say(b"\n");
+    say(rt, "\n")
 }
 
 // ---- a cut
 
 // Cuts a load on a route, with outputs of the given `lengths`, and prints what is written.
 fn tell_cut<'a>(
-    name: &[u8],
+    rt: &impl Print,
+    name: &str,
     route: u32,
     n: u32,
     m: u32,
@@ -128,7 +127,7 @@ fn tell_cut<'a>(
     alphas: &'a [f64],
     pattern: &'a [u32],
     lengths: &'a [u32],
-) {
+) -> io::Result<()> {
     let mut p_starts_out = [0u32; 32768];
     let mut p_rows_out = [0u32; 32768];
     let mut p_values_out = [0f64; 32768];
@@ -169,6 +168,7 @@ fn tell_cut<'a>(
         &mut map_out,
     );
     tell_tables(
+        rt,
         name,
         answer,
         lengths,
@@ -183,12 +183,13 @@ fn tell_cut<'a>(
         &cones_out,
         &alphas_out,
         &map_out,
-    );
+    )
 }
 
 // Cuts a load on a route, with outputs of the lengths that `sizes` gives, and prints what is written.
 fn tell_route<'a>(
-    name: &[u8],
+    rt: &impl Print,
+    name: &str,
     route: u32,
     n: u32,
     m: u32,
@@ -203,7 +204,7 @@ fn tell_route<'a>(
     cones: &'a [u32],
     alphas: &'a [f64],
     pattern: &'a [u32],
-) {
+) -> io::Result<()> {
     let mut lengths = [0u32; 11];
     decomp::sizes(
         route,
@@ -224,9 +225,9 @@ fn tell_route<'a>(
         &mut lengths,
     );
     tell_cut(
-        name, route, n, m, p_starts, p_rows, p_values, q, a_starts, a_rows, a_values, b, cones,
+        rt, name, route, n, m, p_starts, p_rows, p_values, q, a_starts, a_rows, a_values, b, cones,
         alphas, pattern, &lengths,
-    );
+    )
 }
 
 // ---- a load
@@ -250,6 +251,7 @@ fn front_values(table: &[f64], n: u32) -> &[f64] {
 
 // Prints both cuts of the problem that the generator wrote to the front of these tables.
 fn tell_cuts<'a>(
+    rt: &impl Print,
     lengths: &'a [u32],
     p_starts_table: &'a [u32],
     p_rows_table: &'a [u32],
@@ -262,7 +264,7 @@ fn tell_cuts<'a>(
     cones_table: &'a [u32],
     alphas_table: &'a [f64],
     pattern_table: &'a [u32],
-) {
+) -> io::Result<()> {
     let n = item(lengths, 3);
     let m = item(lengths, 7);
     let p_starts = front(p_starts_table, item(lengths, 0));
@@ -277,7 +279,8 @@ fn tell_cuts<'a>(
     let alphas = front_values(alphas_table, item(lengths, 9));
     let pattern = front(pattern_table, item(lengths, 10));
     tell_route(
-        b"standard ",
+        rt,
+        "standard ",
         STANDARD,
         n,
         m,
@@ -292,28 +295,16 @@ fn tell_cuts<'a>(
         cones,
         alphas,
         pattern,
-    );
+    )?;
     tell_route(
-        b"compact ",
-        COMPACT,
-        n,
-        m,
-        p_starts,
-        p_rows,
-        p_values,
-        q,
-        a_starts,
-        a_rows,
-        a_values,
-        b,
-        cones,
-        alphas,
-        pattern,
-    );
+        rt, "compact ", COMPACT, n, m, p_starts, p_rows, p_values, q, a_starts, a_rows, a_values,
+        b, cones, alphas, pattern,
+    )
 }
 
 // Prints the result of the generator and, where it was not refused, the problem that it wrote and both its cuts.
 fn tell_generated<'a>(
+    rt: &impl Print,
     answer: u32,
     seed: u64,
     v: u32,
@@ -330,11 +321,12 @@ fn tell_generated<'a>(
     cones: &'a [u32],
     alphas: &'a [f64],
     pattern: &'a [u32],
-) {
+) -> io::Result<()> {
     let mut lengths = [0u32; 11];
     generator::generate_sizes(seed, v, w, n, &mut lengths);
     tell_tables(
-        b"generate ",
+        rt,
+        "generate ",
         answer,
         &lengths,
         p_starts,
@@ -348,17 +340,18 @@ fn tell_generated<'a>(
         cones,
         alphas,
         pattern,
-    );
+    )?;
     if answer == 0 {
         tell_cuts(
-            &lengths, p_starts, p_rows, p_values, q, a_starts, a_rows, a_values, b, cones, alphas,
-            pattern,
-        );
+            rt, &lengths, p_starts, p_rows, p_values, q, a_starts, a_rows, a_values, b, cones,
+            alphas, pattern,
+        )?;
     }
+    Ok(())
 }
 
 // Generates the load of these four numbers and prints it with both its cuts.
-fn tell_problem_of(seed: u64, v: u32, w: u32, n: u32) {
+fn tell_problem_of(rt: &impl Print, seed: u64, v: u32, w: u32, n: u32) -> io::Result<()> {
     let mut p_starts = [0u32; 8192];
     let mut p_rows = [0u32; 8192];
     let mut p_values = [0f64; 8192];
@@ -388,54 +381,54 @@ fn tell_problem_of(seed: u64, v: u32, w: u32, n: u32) {
         &mut pattern,
     );
     tell_generated(
-        answer, seed, v, w, n, &p_starts, &p_rows, &p_values, &q, &a_starts, &a_rows, &a_values,
-        &b, &cones, &alphas, &pattern,
-    );
+        rt, answer, seed, v, w, n, &p_starts, &p_rows, &p_values, &q, &a_starts, &a_rows,
+        &a_values, &b, &cones, &alphas, &pattern,
+    )
 }
 
 // Prints the four numbers of a load, and the load.
-fn tell_load(seed: u64, v: u32, w: u32, n: u32) {
-    tell(b"seed ", seed);
-    tell(b", v ", v as u64);
-    tell(b", w ", w as u64);
-    tell(b", n ", n as u64);
-    say(b"\n");
-    tell_problem_of(seed, v, w, n);
+fn tell_load(rt: &impl Print, seed: u64, v: u32, w: u32, n: u32) -> io::Result<()> {
+    tell(rt, "seed ", seed)?;
+    tell(rt, ", v ", v as u64)?;
+    tell(rt, ", w ", w as u64)?;
+    tell(rt, ", n ", n as u64)?;
+    say(rt, "\n")?;
+    tell_problem_of(rt, seed, v, w, n)
 }
 
 // ---- the list
 
-fn small_loads() {
-    tell_load(1, 2, 1, 1);
-    tell_load(1, 3, 1, 1);
-    tell_load(2, 3, 2, 2);
-    tell_load(3, 8, 2, 4);
-    tell_load(18446744073709551615, 8, 7, 1);
+fn small_loads(rt: &impl Print) -> io::Result<()> {
+    tell_load(rt, 1, 2, 1, 1)?;
+    tell_load(rt, 1, 3, 1, 1)?;
+    tell_load(rt, 2, 3, 2, 2)?;
+    tell_load(rt, 3, 8, 2, 4)?;
+    tell_load(rt, 18446744073709551615, 8, 7, 1)
 }
 
-fn larger_loads() {
-    tell_load(20261116, 16, 5, 8);
-    tell_load(9223372036854775808, 20, 4, 64);
-    tell_load(5, 32, 31, 4);
-    tell_load(88172645463325252, 48, 8, 16);
-    tell_load(7, 64, 1, 32);
-    tell_load(11, 64, 24, 2);
-    tell_load(13, 64, 63, 3);
+fn larger_loads(rt: &impl Print) -> io::Result<()> {
+    tell_load(rt, 20261116, 16, 5, 8)?;
+    tell_load(rt, 9223372036854775808, 20, 4, 64)?;
+    tell_load(rt, 5, 32, 31, 4)?;
+    tell_load(rt, 88172645463325252, 48, 8, 16)?;
+    tell_load(rt, 7, 64, 1, 32)?;
+    tell_load(rt, 11, 64, 24, 2)?;
+    tell_load(rt, 13, 64, 63, 3)
 }
 
 // Prints loads that are refused, each with one number out of its range.
-fn refused_loads() {
-    tell_load(0, 8, 2, 4);
-    tell_load(1, 1, 1, 1);
-    tell_load(1, 65, 2, 4);
-    tell_load(1, 8, 0, 4);
-    tell_load(1, 8, 8, 4);
-    tell_load(1, 8, 2, 0);
-    tell_load(1, 8, 2, 65);
+fn refused_loads(rt: &impl Print) -> io::Result<()> {
+    tell_load(rt, 0, 8, 2, 4)?;
+    tell_load(rt, 1, 1, 1, 1)?;
+    tell_load(rt, 1, 65, 2, 4)?;
+    tell_load(rt, 1, 8, 0, 4)?;
+    tell_load(rt, 1, 8, 8, 4)?;
+    tell_load(rt, 1, 8, 2, 0)?;
+    tell_load(rt, 1, 8, 2, 65)
 }
 
-fn main() {
-    small_loads();
-    larger_loads();
-    refused_loads();
+fn main(rt: HostRuntime) -> io::Result<()> {
+    small_loads(&rt)?;
+    larger_loads(&rt)?;
+    refused_loads(&rt)
 }

@@ -20,15 +20,15 @@ loop-r-preserved c =
     let step = placed_step a.codes.now c.loop-r.place c.loop-r.r (omega arith) in
     elim c.if-c-lt-ROWS.branch [
       | then-c-lt-ROWS w ↦ (
-      omega arith,
-      ap length w.place-is ∙ simp length-set c.loop-r.invariant.1,
-      rw w.place-is (sym (rw (lt-ltb _ _ w.if-c-lt-ROWS.true) at step) ∙ c.loop-r.invariant.2),
-    )
+        omega arith,
+        ap length w.place-is ∙ simp length-set c.loop-r.invariant.1,
+        rw w.place-is (sym (rw (lt-ltb _ _ w.if-c-lt-ROWS.true) at step) ∙ c.loop-r.invariant.2),
+      )
       | else-c-lt-ROWS w ↦ (
-      omega arith,
-      ap length w.place-is ∙ c.loop-r.invariant.1,
-      rw w.place-is (sym (rw (le-ltb _ _ w.if-c-lt-ROWS.false) at step) ∙ c.loop-r.invariant.2),
-    )
+        omega arith,
+        ap length w.place-is ∙ c.loop-r.invariant.1,
+        rw w.place-is (sym (rw (le-ltb _ _ w.if-c-lt-ROWS.false) at step) ∙ c.loop-r.invariant.2),
+      )
     ]
 
 pub shape_of-place : goal.shape_of-place

@@ -3,7 +3,6 @@ use mathlib.Core.Path.{◌≡◌}
 use lib.ListN.{length}
 use Rattle.layout.specs.General.Lists.{written}
 use Rattle.augment_standard.specs.Beside.{pair_values}
-
 use Rattle.augment_standard.proofs.write_pairs.Given as goal
 
 abbrev pub invariant-loop-i : goal.invariant-loop-i

@@ -99,14 +99,14 @@ nearly c =
     let i = l.loop-i.i in
     ⊎_elim
     (λ w. (
-      omega (arith, w.0.taken, w.11),
+      omega (arith, w.0.true, w.11),
       omega (arith, w.11, c.loop-i-test.false),
       put_as a.from a.s.now a.to a.s_out.now (i + 2) c.if-k-i-ge2.i w.2.last.1.1.1.0 c.if-k-i-ge2.s_out w.11 w.9
           (put-run a.from a.s.now a.to a.s_out.now i 2 l.loop-i.s_out w.2.last.1.1.1.0
-          (omega (arith, w.0.taken)) (omega (arith, w.0.taken)) l.loop-i.invariant.1 w.2.kept.1.1.1.0 w.2.ensures),
+          (omega (arith, w.0.true)) (omega (arith, w.0.true)) l.loop-i.invariant.1 w.2.auto.1.1.1.0 w.2.ensures),
       put_as a.from a.z.now a.to a.z_out.now (i + 2) c.if-k-i-ge2.i w.6.last.1.1.1.0 c.if-k-i-ge2.z_out w.11 w.10
           (put-run a.from a.z.now a.to a.z_out.now i 2 l.loop-i.z_out w.6.last.1.1.1.0
-          (omega (arith, w.0.taken)) (omega (arith, w.0.taken)) l.loop-i.invariant.2 w.6.kept.1.1.1.0 w.6.ensures),
+          (omega (arith, w.0.true)) (omega (arith, w.0.true)) l.loop-i.invariant.2 w.6.auto.1.1.1.0 w.6.ensures),
     ))
     (λ w. (
       omega (arith, w.3),
@@ -142,7 +142,7 @@ last_left c =
     let s = start j.before.before in
     let (low, high, put, put2) = nearly j in
     let e : s.args.k ≡ j.if-k-i-ge2.i + 1 = omega (arith, low, high, c.if-i-k.false) in
-    (e, omega (arith, e, s.pre.0.0), omega (arith, e, s.pre.0.1), omega (arith, e, put.0, s.pre.1.0), omega (arith, e, put2.0, s.pre.1.1))
+    (e, omega (arith, e, s.requires.0.0), omega (arith, e, s.requires.0.1), omega (arith, e, put.0, s.requires.1.0), omega (arith, e, put2.0, s.requires.1.1))
 
 add_a : tie.Need-overflow_add-a invariant-loop decreases-loop
 add_a c = omega (arith, last_left c.before)

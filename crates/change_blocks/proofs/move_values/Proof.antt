@@ -72,11 +72,11 @@ nearly c =
     let i = l.loop-i.i in
     ⊎_elim
     (λ w. (
-      omega (arith, w.0.taken, w.6),
+      omega (arith, w.0.true, w.6),
       omega (arith, w.6, c.loop-i-test.false),
       put_as a.from a.values.now a.to a.out.now (i + 2) c.if-k-i-ge2.i w.2.last.1.1.1.0 c.if-k-i-ge2.out w.6 w.5
           (put-run a.from a.values.now a.to a.out.now i 2 l.loop-i.out w.2.last.1.1.1.0
-          (omega (arith, w.0.taken)) (omega (arith, w.0.taken)) l.loop-i.invariant.1 w.2.kept.1.1.1.0 w.2.ensures),
+          (omega (arith, w.0.true)) (omega (arith, w.0.true)) l.loop-i.invariant.1 w.2.auto.1.1.1.0 w.2.ensures),
     ))
     (λ w. (
       omega (arith, w.2),
@@ -103,7 +103,7 @@ last_left c =
     let s = start j.before.before in
     let (low, high, put) = nearly j in
     let e : s.args.k ≡ j.if-k-i-ge2.i + 1 = omega (arith, low, high, c.if-i-k.false) in
-    (e, omega (arith, e, s.pre.0), omega (arith, e, put.0, s.pre.1))
+    (e, omega (arith, e, s.requires.0), omega (arith, e, put.0, s.requires.1))
 
 add_a : tie.Need-overflow_add-a invariant-loop decreases-loop
 add_a c = omega (arith, last_left c.before)

@@ -64,6 +64,7 @@ module _ (c : tie.After-here-q invariant-loop decreases-loop) where
       let e = block_size_lem ws l.loop-left.at q c.here-q.ensures.1 in
       let fits = (all_cons (block_at_most 256) (clique_of ws q) (cliques_from ws q.next (l.loop-left.left - 1)) _ first_of l.loop-left.invariant.1).0 in
       (e, omega (arith, leb→le (block_size (clique_of ws q)) 256 (passes _ fits)))
+
 -- the number of its block rows
 module _ (c : tie.After-triangular_number-k invariant-loop decreases-loop) where
   abbrev read : tie.After-here-q invariant-loop decreases-loop
@@ -76,7 +77,7 @@ module _ (c : tie.After-triangular_number-k invariant-loop decreases-loop) where
       c.triangular_number-k.result + sum (map dim_of (cliques_from (start l).args.words.now read.here-q.result.next (l.loop-left.left - 1))) ≡ l.loop-left.to
   left-rows =
       let l = read.before.before in
-      omega (arith, rows, ap (λ (cs : List Clique). sum (map dim_of cs)) (first_of read), l.loop-left.inv.2)
+      omega (arith, rows, ap (λ (cs : List Clique). sum (map dim_of cs)) (first_of read), l.loop-left.invariant.2)
 
 -- before any block is moved
 begins : (ks : List ℕ) (vs out : List Float) → length out ≡ length vs → Moved ks ks vs out 0 (length out)
@@ -139,9 +140,9 @@ move-both-requires : tie.Need-move_both-requires invariant-loop decreases-loop
 move-both-requires c κs =
     let t = c.before.before in
     let l = (read t).before.before in
-    let z_long = (start l).pre.1.0.1 in (
-      (omega (arith, left-rows t, l.loop-left.inv.3), omega (arith, left-rows t, l.loop-left.inv.3, z_long)),
-      (omega (arith, left-rows t, l.loop-left.inv.3, l.loop-left.inv.4.0), omega (arith, left-rows t, l.loop-left.inv.3, l.loop-left.inv.5.0, z_long)),
+    let z_long = (start l).requires.1.0.1 in (
+      (omega (arith, left-rows t, l.loop-left.invariant.3), omega (arith, left-rows t, l.loop-left.invariant.3, z_long)),
+      (omega (arith, left-rows t, l.loop-left.invariant.3, l.loop-left.invariant.4.0), omega (arith, left-rows t, l.loop-left.invariant.3, l.loop-left.invariant.5.0, z_long)),
     )
 
 -- after the block's s and z are moved: the state at its row count
@@ -151,13 +152,13 @@ counted c = c.before.before.before.before.before.before.before
 add-from : tie.Need-overflow_add-from invariant-loop decreases-loop
 add-from c =
     let l = (read (counted c)).before.before in
-    fits_count {n = length (start l).args.s.now} 8 (omega (arith, left-rows (counted c), l.loop-left.inv.3)) (start l).good.1.1.1.0
+    fits_count {n = length (start l).args.s.now} 8 (omega (arith, left-rows (counted c), l.loop-left.invariant.3)) (start l).well_formed.1.1.1.0
 
 sub-left : tie.Need-overflow_sub-left invariant-loop decreases-loop
-sub-left c = omega (arith, (read (counted c)).before.loop-left-test.taken)
+sub-left c = omega (arith, (read (counted c)).before.loop-left-test.true)
 
 loop-less : tie.Need-loop-left-smaller invariant-loop decreases-loop
-loop-less c = omega (arith, (read (counted c)).before.loop-left-test.taken)
+loop-less c = omega (arith, (read (counted c)).before.loop-left-test.true)
 
 loop-again : tie.Need-loop-left-preserved invariant-loop decreases-loop
 loop-again c =
@@ -178,13 +179,13 @@ loop-again c =
     let e : js ≡ n ∷ ks = ap (map dim_of) (first_of k) ∙ ap (λ (j : ℕ). j ∷ ks) (sym (rows t)) in
     let few : n ≤ to = omega (arith, left-rows t) in (
       next-whole k,
-      (all_cons (block_at_most 256) (clique_of ws q) others _ (first_of k) l.loop-left.inv.1).1,
+      (all_cons (block_at_most 256) (clique_of ws q) others _ (first_of k) l.loop-left.invariant.1).1,
       omega (arith, left-rows t),
-      omega (arith, left-rows t, l.loop-left.inv.3),
-      moves n ks js all-ks a.s.now l.loop-left.s_out w.move_both.new.s_out from to e l.loop-left.inv.3 few
-          w.move_both.auto.s_out w.move_both.ensures.0 l.loop-left.inv.4,
+      omega (arith, left-rows t, l.loop-left.invariant.3),
+      moves n ks js all-ks a.s.now l.loop-left.s_out w.move_both.new.s_out from to e l.loop-left.invariant.3 few
+          w.move_both.auto.s_out w.move_both.ensures.0 l.loop-left.invariant.4,
       moves n ks js all-ks a.z.now l.loop-left.z_out w.move_both.new.z_out from to e
-          (l.loop-left.inv.3 ∙ sym (start l).pre.1.0.1) few w.move_both.auto.z_out w.move_both.ensures.1 l.loop-left.inv.5,
+          (l.loop-left.invariant.3 ∙ sym (start l).requires.1.0.1) few w.move_both.auto.z_out w.move_both.ensures.1 l.loop-left.invariant.5,
     )
 
 same_length : tie.Need-shape_of-s_out invariant-loop decreases-loop

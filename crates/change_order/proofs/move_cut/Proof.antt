@@ -27,7 +27,7 @@ module _ (h : tie.After-here-p) where
   whole-at =
       let s = start h in
       let ws = s.args.words.now in
-      right-whole ws s.args.at (head_of ws h.here-p.result) h.here-p.result.cliques (sym h.here-p.ensures.0) s.pre.0.0.tree
+      right-whole ws s.args.at (head_of ws h.here-p.result) h.here-p.result.cliques (sym h.here-p.ensures.0) s.requires.0.0.tree
 
   pattern_at_lem : let a = (start h).args in
       let ws = a.words.now in
@@ -37,6 +37,7 @@ module _ (h : tie.After-here-p) where
       let a = (start h).args in
       let ws = a.words.now in
       pattern_whole ws a.at (head_of ws h.here-p.result) h.here-p.result.cliques (sym h.here-p.ensures.0) whole-at
+
 -- the number of their block rows, and that inputs and outputs are long enough
 module _ (g : tie.After-get_decomposed_dim_and_overlaps-blocks) where
   rows_here : let q = g.here-p.result in
@@ -52,7 +53,7 @@ module _ (g : tie.After-get_decomposed_dim_and_overlaps-blocks) where
       subst
       (λ (n : ℕ). ((a.t + n ≤ length a.s.now) × (a.t + n ≤ length a.z.now))
       × ((a.t + n ≤ length a.s_out.now) × (a.t + n ≤ length a.z_out.now)))
-      (sym g.get_decomposed_dim_and_overlaps-blocks.ensures.0) s.pre.1
+      (sym g.get_decomposed_dim_and_overlaps-blocks.ensures.0) s.requires.1
 
 here-requires : tie.Need-here-p-requires
 here-requires c κs = let s = c.before.before.before.before.before in right-head s.args.words.now s.args.at s.requires.0.0.tree
@@ -122,7 +123,7 @@ move-blocks-requires c κs =
     let (s-fits, z-fits) = (fits g).0 in
     let (s-room, z-room) = (fits g).1 in
     let v = sym (part_length a.t n a.s.now s-fits) in (
-      (whole-at h, sym (ap (λ (p : Pattern). all (block_at_most 256) p.cliques) (pattern_at_lem h)) ∙ blocks-small p 256 s.pre.0.0 s.pre.0.1),
+      (whole-at h, sym (ap (λ (p : Pattern). all (block_at_most 256) p.cliques) (pattern_at_lem h)) ∙ blocks-small p 256 s.requires.0.0 s.requires.0.1),
       (
         (rows_here g ∙ v, part_length a.t n a.z.now z-fits ∙ v),
         (part_length a.t n a.s_out.now s-room ∙ v, part_length a.t n a.z_out.now z-room ∙ v),

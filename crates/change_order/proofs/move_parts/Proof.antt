@@ -56,12 +56,12 @@ module _ (l : tie.At-loop-rows invariant-loop decreases-loop) (x : Part) (later 
 
   z_fits : Fits l.loop-rows.t x (start l).args.z.now l.loop-rows.z_out
   z_fits =
-      let p = (start l).pre.1 in
-      let i = l.loop-rows.inv in
+      let p = (start l).requires.1 in
+      let i = l.loop-rows.invariant in
       (omega (arith, i.0, ap block_row_count e, p.0.1), omega (arith, i.0, i.2.0, ap block_row_count e, p.1.1))
 
   total : l.loop-rows.t + part_rows x + block_row_count later ≡ block_row_count (all-parts l)
-  total = omega (arith, l.loop-rows.inv.0, ap block_row_count e)
+  total = omega (arith, l.loop-rows.invariant.0, ap block_row_count e)
 
 -- after moving one more part
 moves : (x : Part) (ps before later : List Part) (vs first old new : List Float) (t end : ℕ) → before ≡ x ∷ later → Fits t x vs old
@@ -99,6 +99,7 @@ module _ (c : tie.In-Whole invariant-loop decreases-loop) where
       let r = c.before.before.before in
       let a = (start at-whole).args in
       subst (Knows a.m a.cones.now a.words.now at-whole.loop-rows.place) c.met-1.given.1 r.next-met.ensures.1
+
 -- when the next cone is decomposed
 module _ (c : tie.In-Cut invariant-loop decreases-loop) where
   abbrev at_cut : tie.At-loop-rows invariant-loop decreases-loop
@@ -173,7 +174,7 @@ add-t c =
     let k = told c in
     let s = start (at-whole k) in
     let f = (s_fits (at-whole k) (whole_of k) (after-whole k) (met_whole k)).0 in
-    fits_count {n = length s.args.s.now} 8 (omega (arith, f, (knows_whole k).0)) s.good.1.1.1.1.0
+    fits_count {n = length s.args.s.now} 8 (omega (arith, f, (knows_whole k).0)) s.well_formed.1.1.1.1.0
 
 loop-less : tie.Need-loop-rows-smaller-in-Whole invariant-loop decreases-loop
 loop-less c = omega (arith, ap length (met_whole (told c)))
@@ -185,7 +186,7 @@ loop-again c =
     let k = told c in
     let l = at-whole k in
     let a = (start l).args in
-    let i = l.loop-rows.inv in
+    let i = l.loop-rows.invariant in
     let h = knows_whole k in
     let x = whole_of k in
     let later = after-whole k in
@@ -225,7 +226,7 @@ loop-again-2 c =
     let k = told-cut c in
     let l = at_cut k in
     let a = (start l).args in
-    let i = l.loop-rows.inv in
+    let i = l.loop-rows.invariant in
     let x = cut_of k in
     let later = after-cut k in
     let e = met_cut k in
@@ -258,9 +259,9 @@ returns c =
     let i = l.loop-rows.invariant in
     let none : left l ≡ [] = r.next-met.ensures.0 ∙ ap (meets a.cones.now a.words.now l.loop-rows.place) c.enum_told-1.given.1 in (
       parts-done (left l) a.s.now a.s_out.now l.loop-rows.s_out (compact_order (all-parts l) a.s.now) l.loop-rows.t none
-          (omega (arith, i.0, i.1.0, s.pre.1.1.0)) i.1.1 i.1.2,
+          (omega (arith, i.0, i.1.0, s.requires.1.1.0)) i.1.1 i.1.2,
       parts-done (left l) a.z.now a.z_out.now l.loop-rows.z_out (compact_order (all-parts l) a.z.now) l.loop-rows.t none
-          (omega (arith, i.0, i.2.0, s.pre.1.1.1)) i.2.1 i.2.2,
+          (omega (arith, i.0, i.2.0, s.requires.1.1.1)) i.2.1 i.2.2,
     )
 
 pub move_parts_spec : {M : Type 1} → statement M

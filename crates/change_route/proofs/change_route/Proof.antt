@@ -28,17 +28,18 @@ module _ (s : tie.Start) where
 
   abbrev number : ℕ
   number = let a = s.args in change_refusal a.n a.m a.cones.now a.count a.words.now given rooms
+
 -- checks 1 to 7 refuse nothing
 module _ (e : tie.Else-c-ne0) where
   abbrev checked : tie.After-check_joined-c
   checked = e.before.before
 
   none_early : let a = (start checked).args in joined_refusal a.n a.m a.cones.now a.count a.words.now ≡ 0
-  none_early = sym checked.check_joined-c.ensures.0 ∙ e.if-c-ne0.left
+  none_early = sym checked.check_joined-c.ensures.0 ∙ e.if-c-ne0.false
 
   counted : let a = (start checked).args in
       Counted (joined_parts a.cones.now a.count a.words.now) checked.check_joined-c.result.rows checked.check_joined-c.result.overlaps
-  counted = let g = checked.check_joined-c.ensures.1 e.if-c-ne0.left in (g.0, g.1)
+  counted = let g = checked.check_joined-c.ensures.1 e.if-c-ne0.false in (g.0, g.1)
 
 -- the number that `refuse_counted` returned
 answered : (g : tie.After-refuse_counted-r) → g.refuse_counted-r.result ≡ number (start (checked g.before))
@@ -57,7 +58,7 @@ module _ (f : tie.Else-r-ne0) where
   first = start (checked f.before.before)
 
   none : number first ≡ 0
-  none = sym (answered f.before) ∙ f.if-r-ne0.left
+  none = sym (answered f.before) ∙ f.if-r-ne0.false
 
   accepted : let a = first.args in
       Accepted a.n a.m a.cones.now a.count a.words.now (given first) (length a.x_out.now) (length a.s_out.now)

@@ -32,9 +32,9 @@ offsets-every-requires c κs = (c.requires.0, (omega arith, enough c.before))
 
 separators-by-requires : tie.Need-separators_by-requires
 separators-by-requires c κs =
-    let o = c.before.before.before.before in
-    let s = c.before.before.before.before.before.before.before.before.before in
-    (s.requires.0, ((omega arith, subst (λ (n : ℕ). s.args.count ≤ n * (s.args.count / length s.args.offsets.now + 1)) (sym o.offsets_every.auto.out) (enough c.before.before.before.before.before.before)), (o.offsets_every.ensures, s.requires.1.0)))
+    let o = c.before.before.before in
+    let s = c.before.before.before.before.before.before.before.before in
+    (s.requires.0, ((omega arith, subst (λ (n : ℕ). s.args.count ≤ n * (s.args.count / length s.args.offsets.now + 1)) (sym o.offsets_every.auto.out) (enough c.before.before.before.before.before)), (o.offsets_every.ensures, s.requires.1.0)))
 
 same_length : tie.Need-shape_of-marks
 same_length c = c.separators_by.auto.marks

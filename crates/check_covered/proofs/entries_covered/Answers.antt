@@ -29,11 +29,9 @@ loop-i-preserved c =
     (λ w. (omega arith, l.loop-i.invariant.1 ∙ ap left (all-step fine rows i 0 (omega arith) (not-false _ w.0.left)) ∙ ap next (sym w.1)))
     c.if-not-covered-rows.branch
 
-
 pub returns : goal.returns
 returns c =
     let l = c.before in
     let a = l.args in
     let left : Bool → Bool = λ b. l.loop-i.holds && b in
     sym (l.loop-i.invariant.1 ∙ ap left (all_done (λ r. get_or a.covered.now r false) a.rows.now l.loop-i.i c.loop-i-test.false) ∙ and-true l.loop-i.holds)
-

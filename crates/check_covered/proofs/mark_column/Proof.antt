@@ -32,7 +32,7 @@ rising : (c : tie.After-shared_slice_known-in-loop-i-1 invariant-loop decreases-
 rising c =
     let l = c.before.before in
     let s = start l in
-    rises-le s.args.vertices.now l.loop-i.i s.args.j s.pre.0.1 (omega arith) s.pre.0.0
+    rises-le s.args.vertices.now l.loop-i.i s.args.j s.requires.0.1 (omega arith) s.requires.0.0
 
 mul-c : tie.Need-offset_bounds-vertices-j invariant-loop decreases-loop
 mul-c c = search rules
@@ -81,7 +81,7 @@ loop-again c =
       simp length-set l.loop-i.invariant.1,
       ap (λ (o : ℕ). marked true (drop (i + 1) os) (set l.loop-i.covered o true))
           (ap (λ (n : ℕ). a.base + n + get_or a.vertices.now i 0) l.triangular_number.ensures
-          ∙ sym (row-at a.base a.vertices.now a.j i s.pre.0.1 (omega arith) s.pre.0.0))
+          ∙ sym (row-at a.base a.vertices.now a.j i s.requires.0.1 (omega arith) s.requires.0.0))
           ∙ sym (marked_step true os l.loop-i.covered i (omega (arith, length-column (pair_row a.base) a.vertices.now a.j))) ∙ l.loop-i.invariant.2,
     )
 

@@ -10,12 +10,11 @@ pub loop-i-init : goal.loop-i-init
 loop-i-init c = (omega arith, refl, range_start c.args.first c.args.count c.args.covered.now)
 
 pub loop-i-preserved : goal.loop-i-preserved
-loop-i-preserved c =
-    (
-      omega arith,
-      simp length-set c.loop-i.invariant.1,
-      sym (range_step c.args.first c.args.count c.loop-i.i c.loop-i.covered c.loop-i-test.true) ∙ c.loop-i.invariant.2,
-    )
+loop-i-preserved c = (
+  omega arith,
+  simp length-set c.loop-i.invariant.1,
+  sym (range_step c.args.first c.args.count c.loop-i.i c.loop-i.covered c.loop-i-test.true) ∙ c.loop-i.invariant.2,
+)
 
 pub returns : goal.returns
 returns c =

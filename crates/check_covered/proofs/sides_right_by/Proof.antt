@@ -37,7 +37,7 @@ abbrev marks : tie.After-mark_covered → List Bool
 marks r = r.mark_covered.new.covered
 
 table : (r : tie.After-mark_covered) → marks r ≡ marked true (rows (start r)) (replicate (length (start r).args.covered.now) false)
-table r = let s = start r in r.mark_covered.ensures ∙ ap (marked true (rows s)) s.pre.1.1.1
+table r = let s = start r in r.mark_covered.ensures ∙ ap (marked true (rows s)) s.requires.1.1.1
 
 first_test : (r : tie.After-mark_covered)
     → let s = start r in
@@ -50,7 +50,7 @@ first_test r =
     let n = length a.covered.now in
     ap (λ (m : List Bool). rows_marked m a.a_rows.now && values_marked m a.b.now) (table r)
     ∙ ap₂ {C = Bool} (λ u v. u && v) (cleared_rows n (rows s) a.a_rows.now (inside s))
-    (cleared_values n (rows s) a.b.now (omega (arith, s.pre.1.0.1, s.pre.1.1.0)) ∙ ap (λ (k : ℕ). values_on (rows s) k a.b.now) s.pre.1.0.1)
+    (cleared_values n (rows s) a.b.now (omega (arith, s.requires.1.0.1, s.requires.1.1.0)) ∙ ap (λ (k : ℕ). values_on (rows s) k a.b.now) s.requires.1.0.1)
 
 further_test : (r : tie.After-mark_covered)
     → let s = start r in
@@ -60,7 +60,7 @@ further_test r =
     let s = start r in
     let a = s.args in
     ap (λ (m : List Bool). sides_marked m a.m a.first a.last a.sides.now) (table r)
-    ∙ cleared_sides (length a.covered.now) (rows s) a.m a.first a.last a.sides.now s.pre.1.1.0 s.pre.1.0.2
+    ∙ cleared_sides (length a.covered.now) (rows s) a.m a.first a.last a.sides.now s.requires.1.1.0 s.requires.1.0.2
 
 mark-covered-requires : tie.Need-mark_covered-requires
 mark-covered-requires c κs = let s = c.before.before.before.before.before.before.before in (s.requires.0, s.requires.1.1.0)
@@ -69,13 +69,13 @@ first-covered-requires : tie.Need-first_covered-right-requires
 first-covered-requires c κs =
     let r = c.before.before.before in
     let s = start r in
-    (λ k l. omega (arith, inside s k l, r.mark_covered.auto.covered), omega (arith, s.pre.1.0.1, s.pre.1.1.0, r.mark_covered.auto.covered))
+    (λ k l. omega (arith, inside s k l, r.mark_covered.auto.covered), omega (arith, s.requires.1.0.1, s.requires.1.1.0, r.mark_covered.auto.covered))
 
 sides-covered-requires : tie.Need-sides_covered-further-requires
 sides-covered-requires c κs =
     let r = c.before.before.before.before.before in
     let s = start r in
-    (omega (arith, s.pre.1.1.0, r.mark_covered.auto.covered), s.pre.1.0.2)
+    (omega (arith, s.requires.1.1.0, r.mark_covered.auto.covered), s.requires.1.0.2)
 
 same_length : tie.Need-shape_of-covered
 same_length c = search rules

@@ -20,9 +20,8 @@ pub overflow_add-result-2 : goal.overflow_add-result-2
 overflow_add-result-2 c = omega (arith, c.rows-2.ensures.1, c.requires.dim_bound.1)
 
 pub returns : goal.returns
-returns c =
-    (
-      refl,
-      ap (λ (i : ℕ). c.args.b.dim + i) (c.rows.ensures.0 ∙ ap triangle c.get_nblk.ensures),
-      ap (λ (i : ℕ). c.args.b.overlaps + i) c.rows-2.ensures.0,
-    )
+returns c = (
+  refl,
+  ap (λ (i : ℕ). c.args.b.dim + i) (c.rows.ensures.0 ∙ ap triangle c.get_nblk.ensures),
+  ap (λ (i : ℕ). c.args.b.overlaps + i) c.rows-2.ensures.0,
+)

@@ -54,11 +54,14 @@ pub cut_constraints-requires : goal.cut_constraints-requires
 cut_constraints-requires c =
     let t = word_tables c.args.words.now in
     let l = c.args.lengths.now in
-    let w = c.requires.writes.0 in record { well_shaped = (c.requires.well_shaped.0, c.requires.well_shaped.2); fact = (
+    let w = c.requires.writes.0 in record {
+      well_shaped = (c.requires.well_shaped.0, c.requires.well_shaped.2);
+      fact = (
         cut_fits t l w (c.count_at-columns.result - c.count_at-n.result) (ap₂ ◌-◌ c.count_at-columns.ensures.0 c.count_at-n.ensures.0)
             (length-replicate {A = ℕ} 16384 0) (length-replicate {A = ℕ} 16384 0) (length-replicate 8192 zero64) (length-replicate 8192 zero64) (length-replicate {A = ℕ} 16384 0),
         c.count_at-rows.ensures.0 ∙ rows_is t l w,
-      ) }
+      );
+    }
 
 pub overflow_add-a_starts_out : goal.overflow_add-a_starts_out
 overflow_add-a_starts_out c =

@@ -1,4 +1,3 @@
-
 use Rattle.cut_compact.proofs.write_compact_a.Goals as goal
 
 pub with_large_tables-requires : goal.with_large_tables-requires

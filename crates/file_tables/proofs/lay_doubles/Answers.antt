@@ -20,6 +20,9 @@ pub returns : goal.returns
 returns c =
     let a = c.args.end in
     let t = table_bytes 8 c.args.values.now in
-    let gap : List ℕ = replicate (aligned a - a) 0 in record { value = ap (λ (k : ℕ). aligned a + k) (sym (length-table 8 c.args.values.now)); out_after = written_after gap t c.args.out.now (aligned a - a) (sym (length-replicate {A = ℕ} (aligned a - a) 0))
+    let gap : List ℕ = replicate (aligned a - a) 0 in record {
+      value = ap (λ (k : ℕ). aligned a + k) (sym (length-table 8 c.args.values.now));
+      out_after = written_after gap t c.args.out.now (aligned a - a) (sym (length-replicate {A = ℕ} (aligned a - a) 0))
           (omega (arith, length-replicate {A = ℕ} (aligned a - a) 0, aligned_up a, c.requires.1)) c.write_zeros.ensures c.write_doubles.ensures
-          ∙ ap (λ (l : List ℕ). written (gap ++ l) c.args.out.now) (sym (append-nil t)) }
+          ∙ ap (λ (l : List ℕ). written (gap ++ l) c.args.out.now) (sym (append-nil t));
+    }

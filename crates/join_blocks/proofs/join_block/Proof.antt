@@ -63,10 +63,10 @@ fits : (i : tie.In-loop-j invariant-loop decreases-loop) → i.loop-j.t + (i.loo
 fits i = let l = i.before in column_fits (start l).args.first l.loop-j.t l.loop-j.j (length (start l).args.vertices.now) l.loop-j.invariant.1 i.loop-j-test.true
 
 s_fits : (i : tie.In-loop-j invariant-loop decreases-loop) → i.loop-j.t + (i.loop-j.j + 1) ≤ length (start i.before).args.s.now
-s_fits i = le_trans (fits i) (start i.before).pre.1.0.0
+s_fits i = le_trans (fits i) (start i.before).requires.1.0.0
 
 z_fits : (i : tie.In-loop-j invariant-loop decreases-loop) → i.loop-j.t + (i.loop-j.j + 1) ≤ length (start i.before).args.z.now
-z_fits i = le_trans (fits i) (start i.before).pre.1.0.1
+z_fits i = le_trans (fits i) (start i.before).requires.1.0.1
 
 -- the state after column j was joined
 abbrev turn : tie.After-slice_known-in-loop-j-3-1 invariant-loop decreases-loop → tie.After-join_column invariant-loop decreases-loop
@@ -89,30 +89,30 @@ join-column-requires c κs =
     let j = l.loop-j.j in
     let k = l.loop-j.invariant.3 in (
       (
-        s.pre.0.0,
+        s.requires.0.0,
         i.loop-j-test.true,
         value_in l.loop-j.t j (length a.s.now) (s_fits i),
         value_in l.loop-j.t j (length a.z.now) (z_fits i),
       ),
       (
-        (column_in (triangle (suc (get_or a.vertices.now j 0))) (length a.s_out.now) (length l.loop-j.s_out) (s.pre.0.1 j i.loop-j-test.true) k, both_kept l.loop-j.invariant.4 s.pre.1.1.0.0 k, same_le k s.pre.1.1.0.1),
+        (column_in (triangle (suc (get_or a.vertices.now j 0))) (length a.s_out.now) (length l.loop-j.s_out) (s.requires.0.1 j i.loop-j-test.true) k, both_kept l.loop-j.invariant.4 s.requires.1.1.0.0 k, same_le k s.requires.1.1.0.1),
         subst (λ (n : ℕ). Countable a.standard n (suc j) l.loop-j.counts) (sym k)
             (countable_left a.standard (length a.s_out.now) (triangle (length a.vertices.now)) (suc j) (done l) a.counts.now l.loop-j.counts l.loop-j.invariant.5
-            (left_of a.first l.loop-j.t j (triangle (length a.vertices.now)) (length (done l)) l.loop-j.invariant.2 (fits i)) l.loop-j.invariant.8 s.pre.1.1.1),
+            (left_of a.first l.loop-j.t j (triangle (length a.vertices.now)) (length (done l)) l.loop-j.invariant.2 (fits i)) l.loop-j.invariant.8 s.requires.1.1.1),
       ),
     )
 
 add-t : tie.Need-overflow_add-t invariant-loop decreases-loop
-add-t c = let i = inside (turn c) in fits_next 4 i.loop-j-test.taken (start i.before).good.1.0
+add-t c = let i = inside (turn c) in fits_next 4 i.loop-j-test.true (start i.before).well_formed.1.0
 
 add-t-2 : tie.Need-overflow_add-t-in-loop-j invariant-loop decreases-loop
-add-t-2 c = let i = inside (turn c) in fits_count 8 (s_fits i) (start i.before).good.1.1.1.0
+add-t-2 c = let i = inside (turn c) in fits_count 8 (s_fits i) (start i.before).well_formed.1.1.1.0
 
 add-j : tie.Need-overflow_add-j invariant-loop decreases-loop
-add-j c = let i = inside (turn c) in fits_next 4 i.loop-j-test.taken (start i.before).good.1.0
+add-j c = let i = inside (turn c) in fits_next 4 i.loop-j-test.true (start i.before).well_formed.1.0
 
 loop-less : tie.Need-loop-j-smaller invariant-loop decreases-loop
-loop-less c = one_less (inside (turn c)).loop-j-test.taken
+loop-less c = one_less (inside (turn c)).loop-j-test.true
 
 loop-again : tie.Need-loop-j-preserved invariant-loop decreases-loop
 loop-again c =
@@ -126,15 +126,15 @@ loop-again c =
     let w = k.join_column in
     let next : List ℕ = columns_below (pair_row 0) vs (j + 1) in
     let more : done l ++ column l ≡ next = sym (columns_more (pair_row 0) vs j) in (
-      one_more i.loop-j-test.taken,
-      column-next a.first t j l.loop-j.inv.1,
-      sum_as a.first t (j + 1) (length (done l)) (length next) l.loop-j.inv.2 (length_more (pair_row 0) vs j),
-      w.kept.s_out ∙ l.loop-j.inv.3,
-      w.kept.z_out ∙ l.loop-j.inv.4,
-      w.kept.counts ∙ l.loop-j.inv.5,
-      walk-joined add_at (done l) (column l) next a.s.now a.s_out.now a.first t w.ensures.0 l.loop-j.inv.6 l.loop-j.inv.2 more,
-      walk-joined (z_at a.standard) (done l) (column l) next a.z.now a.z_out.now a.first t w.ensures.1.0 l.loop-j.inv.7 l.loop-j.inv.2 more,
-      counts-joined a.standard (done l) (column l) next a.counts.now l.loop-j.counts w.last.1.1.1.1.1.1.1.1.0 w.kept.counts l.loop-j.inv.8
+      one_more i.loop-j-test.true,
+      column-next a.first t j l.loop-j.invariant.1,
+      sum_as a.first t (j + 1) (length (done l)) (length next) l.loop-j.invariant.2 (length_more (pair_row 0) vs j),
+      w.auto.s_out ∙ l.loop-j.invariant.3,
+      w.auto.z_out ∙ l.loop-j.invariant.4,
+      w.auto.counts ∙ l.loop-j.invariant.5,
+      walk-joined add_at (done l) (column l) next a.s.now a.s_out.now a.first t w.ensures.0 l.loop-j.invariant.6 l.loop-j.invariant.2 more,
+      walk-joined (z_at a.standard) (done l) (column l) next a.z.now a.z_out.now a.first t w.ensures.1.0 l.loop-j.invariant.7 l.loop-j.invariant.2 more,
+      counts-joined a.standard (done l) (column l) next a.counts.now l.loop-j.counts w.new.counts w.auto.counts l.loop-j.invariant.8
           w.ensures.1.1 more,
     )
 

@@ -68,7 +68,7 @@ module _ (i : tie.In-loop-i invariant-loop decreases-loop) where
   here = i.before
 
   inside : here.loop-i.i < length (order (start here))
-  inside = lt_same i.loop-i-test.taken (length-reverse (start here).args.offsets.now)
+  inside = lt_same i.loop-i-test.true (length-reverse (start here).args.offsets.now)
 
   -- the offset of this turn's clique, and those of the others
   abbrev next : ℕ
@@ -80,17 +80,17 @@ module _ (i : tie.In-loop-i invariant-loop decreases-loop) where
   first_of : drop here.loop-i.i (order (start here)) ≡ next ∷ others
   first_of =
       drop-cons (order (start here)) here.loop-i.i 0 inside
-      ∙ ap₂ {C = List ℕ} (λ o n. o ∷ drop n (order (start here))) (reverse-at (start here).args.offsets.now here.loop-i.i i.loop-i-test.taken) (sym (add-one here.loop-i.i))
+      ∙ ap₂ {C = List ℕ} (λ o n. o ∷ drop n (order (start here))) (reverse-at (start here).args.offsets.now here.loop-i.i i.loop-i-test.true) (sym (add-one here.loop-i.i))
 
   -- the clique is complete there
   stands : SortableClique (start here).args.words.now (start here).args.ordering.now next
-  stands = (start here).pre.0 (length (start here).args.offsets.now - 1 - here.loop-i.i) (last_in i.loop-i-test.taken)
+  stands = (start here).requires.0 (length (start here).args.offsets.now - 1 - here.loop-i.i) (last_in i.loop-i-test.true)
 
   -- the map entry of its block has the index of the first value
   told : Starts false (start here).args.map.now ((start here).args.entry + here.loop-i.i) here.loop-i.t (sizes (start here) (next ∷ others))
   told =
       subst (λ (os : List ℕ). Starts false (start here).args.map.now ((start here).args.entry + here.loop-i.i) here.loop-i.t (sizes (start here) os)) first_of
-      here.loop-i.inv.1
+      here.loop-i.invariant.1
 
 began : (b : tie.After-block_start-start invariant-loop decreases-loop) → b.block_start-start.result ≡ b.loop-i.t
 began b = b.block_start-start.ensures ∙ (told b.before).1
@@ -104,7 +104,7 @@ module _ (v : tie.After-clique_vertices-k invariant-loop decreases-loop) where
   at-clique = v.before.before.before.before
 
   abbrev found : List ℕ
-  found = take v.clique_vertices-k.result v.clique_vertices-k.last.1.1.1.0
+  found = take v.clique_vertices-k.result v.clique_vertices-k.new.out
 
   block_is : rows_at (start (here at-clique)) (next at-clique) ≡ block_rows_of found
   unfolding rows_here
@@ -133,7 +133,7 @@ loop-holds c =
     )
 
 add-block-start : tie.Need-overflow_add-entry invariant-loop decreases-loop
-add-block-start c = let s = start c.before in omega (arith, c.loop-i-test.true, s.pre.1.1.1.1.1)
+add-block-start c = let s = start c.before in omega (arith, c.loop-i-test.true, s.requires.1.1.1.1.1)
 
 block-start-requires : tie.Need-block_start-start-requires invariant-loop decreases-loop
 block-start-requires c κs = (told c).0
@@ -145,7 +145,7 @@ sub-at-2 : tie.Need-overflow_sub-at-in-loop-i invariant-loop decreases-loop
 sub-at-2 c = last_at c.loop-i-test.true
 
 mul_at : tie.Need-offset_bounds-offsets-offsets invariant-loop decreases-loop
-mul_at c = fits-value (le_of_lt (last_in c.loop-i-test.true)) (start (here c.before)).good.1.1.0
+mul_at c = fits-value (le_of_lt (last_in c.loop-i-test.true)) (start (here c.before)).well_formed.1.1.0
 
 shared-slice-read-at : tie.Need-bounds-offsets-offsets invariant-loop decreases-loop
 shared-slice-read-at c = last_in c.loop-i-test.true
@@ -176,14 +176,14 @@ join-block-requires c κs =
     let a = s.args in
     subst (λ (n : ℕ). BlockFits false (found v) n a.s.now a.z.now l.loop-i.s_out l.loop-i.z_out l.loop-i.counts) (sym (began v.before.before.before))
     (block-fits false a.s.now a.z.now a.first (join (rows_at s) (order s)) a.s_out.now a.z_out.now a.counts.now l.loop-i.t (rows l) l.loop-i.s_out l.loop-i.z_out l.loop-i.counts
-    l.loop-i.inv.3 a.words.now a.ordering.now (next i) (found v) (join (rows_at s) (others i)) v.clique_vertices-k.ensures.1 (more v)
-    s.pre.1.0.0 s.pre.1.0.1 s.pre.1.1.0)
+    l.loop-i.invariant.3 a.words.now a.ordering.now (next i) (found v) (join (rows_at s) (others i)) v.clique_vertices-k.ensures.1 (more v)
+    s.requires.1.0.0 s.requires.1.0.1 s.requires.1.1.0)
 
 add-i : tie.Need-overflow_add-i invariant-loop decreases-loop
-add-i c = let i = at-clique (clique (turn c)) in fits_next 8 i.loop-i-test.taken (start (here i)).good.1.1.0
+add-i c = let i = at-clique (clique (turn c)) in fits_next 8 i.loop-i-test.true (start (here i)).well_formed.1.1.0
 
 loop-less : tie.Need-loop-i-smaller invariant-loop decreases-loop
-loop-less c = one_less (at-clique (clique (turn c))).loop-i-test.taken
+loop-less c = one_less (at-clique (clique (turn c))).loop-i-test.true
 
 loop-again : tie.Need-loop-i-preserved invariant-loop decreases-loop
 loop-again c =
@@ -193,15 +193,15 @@ loop-again c =
     let l = here i in
     let s = start l in
     let a = s.args in
-    let joined : BlockJoined false (found v) l.loop-i.t a.s.now a.z.now l.loop-i.s_out l.loop-i.z_out l.loop-i.counts w.result w.last.1.1.1.1.1.0 w.last.1.1.1.1.1.1.0 w.last.1.1.1.1.1.1.1.0 =
-    subst (λ (n : ℕ). BlockJoined false (found v) n a.s.now a.z.now l.loop-i.s_out l.loop-i.z_out l.loop-i.counts w.result w.last.1.1.1.1.1.0 w.last.1.1.1.1.1.1.0 w.last.1.1.1.1.1.1.1.0) (began v.before.before.before) w.ensures in (
-      one_more i.loop-i-test.taken,
+    let joined : BlockJoined false (found v) l.loop-i.t a.s.now a.z.now l.loop-i.s_out l.loop-i.z_out l.loop-i.counts w.result w.new.s_out w.new.z_out w.new.counts =
+    subst (λ (n : ℕ). BlockJoined false (found v) n a.s.now a.z.now l.loop-i.s_out l.loop-i.z_out l.loop-i.counts w.result w.new.s_out w.new.z_out w.new.counts) (began v.before.before.before) w.ensures in (
+      one_more i.loop-i-test.true,
       next-starts a.map.now a.entry l.loop-i.i l.loop-i.t w.result (length (rows_at s (next i))) (sizes s (others i)) (told i) (joined.0 ∙ ap (λ (n : ℕ). l.loop-i.t + n) (sym (ap length (block_is v) ∙ length-block (found v)))),
-      v.clique_vertices-k.kept.out ∙ l.loop-i.inv.2,
+      v.clique_vertices-k.auto.out ∙ l.loop-i.invariant.2,
       block-left false a.s.now a.z.now a.first (join (rows_at s) (order s)) a.s_out.now a.z_out.now a.counts.now l.loop-i.t (rows l) l.loop-i.s_out l.loop-i.z_out l.loop-i.counts
-          l.loop-i.inv.3 a.words.now a.ordering.now (next i) (found v) (join (rows_at s) (others i)) v.clique_vertices-k.ensures.1 (more v)
-          w.result w.last.1.1.1.1.1.0 w.last.1.1.1.1.1.1.0 w.last.1.1.1.1.1.1.1.0
-          w.kept.s_out w.kept.z_out w.kept.counts joined,
+          l.loop-i.invariant.3 a.words.now a.ordering.now (next i) (found v) (join (rows_at s) (others i)) v.clique_vertices-k.ensures.1 (more v)
+          w.result w.new.s_out w.new.z_out w.new.counts
+          w.auto.s_out w.auto.z_out w.auto.counts joined,
     )
 
 same_length : tie.Need-shape_of-s_out invariant-loop decreases-loop

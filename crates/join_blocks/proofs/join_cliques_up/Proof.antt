@@ -49,20 +49,20 @@ module _ (c : tie.After-here-q invariant-loop decreases-loop) where
   next-whole : Whole (start here).args.words.now c.here-q.result.next (here.loop-left.left - 1)
   next-whole =
       sym (whole-next (start here).args.words.now here.loop-left.at here.loop-left.left _ c.here-q.ensures.0 c.loop-left-test.true c.here-q.result refl)
-      ∙ here.loop-left.inv.0
+      ∙ here.loop-left.invariant.0
 
   first_of : cliques_from (start here).args.words.now here.loop-left.at here.loop-left.left ≡ clique_here (start here).args.words.now here.loop-left.at ∷ others
   first_of =
-      from_next (start here).args.words.now here.loop-left.at here.loop-left.left _ c.here-q.ensures.0 c.loop-left-test.true c.here-q.result refl here.loop-left.inv.0
+      from_next (start here).args.words.now here.loop-left.at here.loop-left.left _ c.here-q.ensures.0 c.loop-left-test.true c.here-q.result refl here.loop-left.invariant.0
       ∙ ap (λ (q : Clique). q ∷ others) (ap (value_or no_clique) c.here-q.ensures.0)
 
   all-sortable : AllSortable (start here).args.ordering.now (clique_here (start here).args.words.now here.loop-left.at ∷ others)
-  all-sortable = subst (AllSortable (start here).args.ordering.now) first_of here.loop-left.inv.1
+  all-sortable = subst (AllSortable (start here).args.ordering.now) first_of here.loop-left.invariant.1
 
   stands : SortableClique (start here).args.words.now (start here).args.ordering.now here.loop-left.at
   stands =
       record {
-        found = first-whole (start here).args.words.now here.loop-left.at here.loop-left.left c.loop-left-test.true here.loop-left.inv.0;
+        found = first-whole (start here).args.words.now here.loop-left.at here.loop-left.left c.loop-left-test.true here.loop-left.invariant.0;
         sortable = all-sortable 0 (omega arith);
       }
 
@@ -75,7 +75,7 @@ module _ (v : tie.After-clique_vertices-k invariant-loop decreases-loop) where
   read = v.before.before
 
   abbrev found : List ℕ
-  found = take v.clique_vertices-k.result v.clique_vertices-k.last.1.1.1.0
+  found = take v.clique_vertices-k.result v.clique_vertices-k.new.out
 
   more : rows (here read) ≡ block_rows_of found ++ rows_up (start (here read)).args.ordering.now (others read)
   unfolding vertices_here
@@ -124,14 +124,14 @@ join-block-requires c κs =
     let s = start l in
     let a = s.args in
     block-fits true a.s.now a.z.now a.first (all s) a.s_out.now a.z_out.now a.counts.now l.loop-left.t (rows l) l.loop-left.s_out l.loop-left.z_out l.loop-left.counts
-    l.loop-left.inv.3 a.words.now a.ordering.now l.loop-left.at (found v) (rows_up a.ordering.now (others (read v))) v.clique_vertices-k.ensures.1 (more v)
-    s.pre.1.0.0 s.pre.1.0.1 s.pre.1.1.0
+    l.loop-left.invariant.3 a.words.now a.ordering.now l.loop-left.at (found v) (rows_up a.ordering.now (others (read v))) v.clique_vertices-k.ensures.1 (more v)
+    s.requires.1.0.0 s.requires.1.0.1 s.requires.1.1.0
 
 sub-left : tie.Need-overflow_sub-left invariant-loop decreases-loop
-sub-left c = omega (arith, (read (clique (turn c))).before.loop-left-test.taken)
+sub-left c = omega (arith, (read (clique (turn c))).before.loop-left-test.true)
 
 loop-less : tie.Need-loop-left-smaller invariant-loop decreases-loop
-loop-less c = omega (arith, (read (clique (turn c))).before.loop-left-test.taken)
+loop-less c = omega (arith, (read (clique (turn c))).before.loop-left-test.true)
 
 loop-again : tie.Need-loop-left-preserved invariant-loop decreases-loop
 loop-again c =
@@ -142,11 +142,11 @@ loop-again c =
     let a = s.args in (
       next-whole (read v),
       (λ k m. all-sortable (read v) (suc k) (omega arith)),
-      v.clique_vertices-k.kept.out ∙ l.loop-left.inv.2,
+      v.clique_vertices-k.auto.out ∙ l.loop-left.invariant.2,
       block-left true a.s.now a.z.now a.first (all s) a.s_out.now a.z_out.now a.counts.now l.loop-left.t (rows l) l.loop-left.s_out l.loop-left.z_out l.loop-left.counts
-          l.loop-left.inv.3 a.words.now a.ordering.now l.loop-left.at (found v) (rows_up a.ordering.now (others (read v))) v.clique_vertices-k.ensures.1 (more v)
-          w.result w.last.1.1.1.1.1.0 w.last.1.1.1.1.1.1.0 w.last.1.1.1.1.1.1.1.0
-          w.kept.s_out w.kept.z_out w.kept.counts w.ensures,
+          l.loop-left.invariant.3 a.words.now a.ordering.now l.loop-left.at (found v) (rows_up a.ordering.now (others (read v))) v.clique_vertices-k.ensures.1 (more v)
+          w.result w.new.s_out w.new.z_out w.new.counts
+          w.auto.s_out w.auto.z_out w.auto.counts w.ensures,
     )
 
 same_length : tie.Need-shape_of-s_out invariant-loop decreases-loop

@@ -78,7 +78,7 @@ row_is i =
     let j = s.args.j in
     let n = l.loop-i.i in
     let first = l.triangular_number-row in
-    row_as first.result (triangle (get_or vs j 0)) (get_or vs n 0) (get_or (rows l) n 0) (row-at 0 vs j n s.pre.0.0 i.loop-i-test.true s.pre.0.1) first.ensures
+    row_as first.result (triangle (get_or vs j 0)) (get_or vs n 0) (get_or (rows l) n 0) (row-at 0 vs j n s.requires.0.0 i.loop-i-test.true s.requires.0.1) first.ensures
 
 inside : (i : tie.In-loop-i invariant-loop decreases-loop) → coded i.before < length (start i.before).args.s_out.now
 inside i =
@@ -88,26 +88,26 @@ inside i =
     let j = s.args.j in
     let n = l.loop-i.i in
     let first = l.triangular_number-row in
-    row_inside (get_or vs j 0) (get_or vs n 0) (length s.args.s_out.now) first.result (rises-le vs n j s.pre.0.0 i.loop-i-test.true s.pre.0.1) s.pre.1.0.0 first.ensures
+    row_inside (get_or vs j 0) (get_or vs n 0) (length s.args.s_out.now) first.result (rises-le vs n j s.requires.0.0 i.loop-i-test.true s.requires.0.1) s.requires.1.0.0 first.ensures
 
 s_inside : (i : tie.In-loop-i invariant-loop decreases-loop) → coded i.before < length i.loop-i.s_out
 s_inside i = lt_same (inside i) i.loop-i.invariant.1
 
 z_inside : (i : tie.In-loop-i invariant-loop decreases-loop) → coded i.before < length i.loop-i.z_out
-z_inside i = lt_same (inside i) (i.loop-i.invariant.2 ∙ (start i.before).pre.1.0.1)
+z_inside i = lt_same (inside i) (i.loop-i.invariant.2 ∙ (start i.before).requires.1.0.1)
 
 o_fits : (i : tie.In-loop-i invariant-loop decreases-loop) → Fits w64 (coded i.before * 8)
-o_fits i = fits-value (le_of_lt (inside i)) (start i.before).good.1.1.1.1.1.1.0
+o_fits i = fits-value (le_of_lt (inside i)) (start i.before).well_formed.1.1.1.1.1.1.0
 
 -- this turn's vertex and values exist
 here : (i : tie.In-loop-i invariant-loop decreases-loop) → i.loop-i.i < length (start i.before).args.vertices.now
-here i = lt_of_le_of_lt i.loop-i-test.true (start i.before).pre.0.1
+here i = lt_of_le_of_lt i.loop-i-test.true (start i.before).requires.0.1
 
 s_here : (i : tie.In-loop-i invariant-loop decreases-loop) → (start i.before).args.t + i.loop-i.i < length (start i.before).args.s.now
-s_here i = let s = start i.before in value_in s.args.t i.loop-i.i s.args.j (length s.args.s.now) i.loop-i-test.true s.pre.0.2
+s_here i = let s = start i.before in value_in s.args.t i.loop-i.i s.args.j (length s.args.s.now) i.loop-i-test.true s.requires.0.2
 
 z_here : (i : tie.In-loop-i invariant-loop decreases-loop) → (start i.before).args.t + i.loop-i.i < length (start i.before).args.z.now
-z_here i = let s = start i.before in value_in s.args.t i.loop-i.i s.args.j (length s.args.z.now) i.loop-i-test.true s.pre.0.3
+z_here i = let s = start i.before in value_in s.args.t i.loop-i.i s.args.j (length s.args.z.now) i.loop-i-test.true s.requires.0.3
 
 size : (l : tie.At-loop-i invariant-loop decreases-loop) → length (rows l) ≡ (start l).args.j + 1
 size l = length-column (pair_row 0) (start l).args.vertices.now (start l).args.j
@@ -141,19 +141,19 @@ loop-holds c =
     )
 
 mul-o : tie.Need-offset_bounds-vertices-i invariant-loop decreases-loop
-mul-o c = fits-number (le_of_lt (here c)) (start c.before).good.1.0
+mul-o c = fits-number (le_of_lt (here c)) (start c.before).well_formed.1.0
 
 shared-slice-read-o : tie.Need-bounds-vertices-i invariant-loop decreases-loop
 shared-slice-read-o c = here c.before
 
 add-o : tie.Need-overflow_add-o invariant-loop decreases-loop
-add-o c = let i = c.before in fits-row (inside i) (start i.before).pre.1.0.2
+add-o c = let i = c.before in fits-row (inside i) (start i.before).requires.1.0.2
 
 cast-o : tie.Need-overflow_cast-o invariant-loop decreases-loop
-cast-o c = let i = c.before in fits_index (inside i) (start i.before).pre.1.0.2
+cast-o c = let i = c.before in fits_index (inside i) (start i.before).requires.1.0.2
 
 add-k : tie.Need-overflow_add-k invariant-loop decreases-loop
-add-k c = let i = c.before in fits_count 8 (le_of_lt (s_here i)) (start i.before).good.1.1.1.1.0
+add-k c = let i = c.before in fits_count 8 (le_of_lt (s_here i)) (start i.before).well_formed.1.1.1.1.0
 
 mul-s-out : tie.Need-offset_bounds-s_out-o invariant-loop decreases-loop
 mul-s-out c = o_fits c.before
@@ -162,7 +162,7 @@ slice-read-s-out : tie.Need-bounds-s_out-o invariant-loop decreases-loop
 slice-read-s-out c = s_inside c.before.before
 
 mul-s-out-2 : tie.Need-offset_bounds-s-k invariant-loop decreases-loop
-mul-s-out-2 c = let i = c.before.before in fits-value (le_of_lt (s_here i)) (start i.before).good.1.1.1.1.0
+mul-s-out-2 c = let i = c.before.before in fits-value (le_of_lt (s_here i)) (start i.before).well_formed.1.1.1.1.0
 
 shared-slice-read-s-out : tie.Need-bounds-s-k invariant-loop decreases-loop
 shared-slice-read-s-out c = s_here c.before.before.before
@@ -180,7 +180,7 @@ slice-read-z-value : tie.Need-bounds-z_out-o invariant-loop decreases-loop
 slice-read-z-value c = z_inside c.before.before.before.before
 
 mul-z-value-2 : tie.Need-offset_bounds-z-k invariant-loop decreases-loop
-mul-z-value-2 c = let i = c.before.before.before.before in fits-value (le_of_lt (z_here i)) (start i.before).good.1.1.1.1.1.0
+mul-z-value-2 c = let i = c.before.before.before.before in fits-value (le_of_lt (z_here i)) (start i.before).well_formed.1.1.1.1.1.0
 
 shared-slice-read-z-value : tie.Need-bounds-z-k invariant-loop decreases-loop
 shared-slice-read-z-value c = z_here c.before.before.before.before.before
@@ -204,7 +204,7 @@ count-column-requires c κs =
     let done : length (take n (rows l)) ≡ n = length-take-le n (rows l) (le_of_lt (in_rows i)) in
     countable_less a.standard (length a.s_out.now) (suc (coded l)) 1 1 l.loop-i.counts (inside i) (le_refl 1)
     (countable_left a.standard (length a.s_out.now) (suc a.j) 1 (take n (rows l)) a.counts.now l.loop-i.counts l.loop-i.invariant.3
-    (turn_counts n a.j (length (take n (rows l))) done i.loop-i-test.true) l.loop-i.invariant.6 s.pre.1.1)
+    (turn_counts n a.j (length (take n (rows l))) done i.loop-i-test.true) l.loop-i.invariant.6 s.requires.1.1)
 
 -- the state after this turn's column was counted
 abbrev counted : tie.After-slice_known-in-loop-i-3-1 invariant-loop decreases-loop → tie.After-count_column invariant-loop decreases-loop
@@ -214,10 +214,10 @@ abbrev turn : tie.After-count_column invariant-loop decreases-loop → tie.In-lo
 turn k = k.before.before.before.before.before.before.before.before
 
 add-i : tie.Need-overflow_add-i invariant-loop decreases-loop
-add-i c = let i = turn (counted c) in fits_next 4 (here i) (start i.before).good.1.0
+add-i c = let i = turn (counted c) in fits_next 4 (here i) (start i.before).well_formed.1.0
 
 loop-less : tie.Need-loop-i-smaller invariant-loop decreases-loop
-loop-less c = let i = turn (counted c) in turn_less i.loop-i.i (start i.before).args.j i.loop-i-test.taken
+loop-less c = let i = turn (counted c) in turn_less i.loop-i.i (start i.before).args.j i.loop-i-test.true
 
 loop-again : tie.Need-loop-i-preserved invariant-loop decreases-loop
 loop-again c =
@@ -230,15 +230,15 @@ loop-again c =
     let so = l.loop-i.s_out in
     let zo = l.loop-i.z_out in
     let o = coded l in (
-      turn_next n a.j i.loop-i-test.taken,
-      length-set so o (add binary64 (get_or so o nan) (get_or a.s.now (a.t + n) nan)) ∙ l.loop-i.inv.1,
-      length-set zo o v.z_value.result ∙ l.loop-i.inv.2,
-      k.count_column.kept.counts ∙ l.loop-i.inv.3,
-      walk_stored add_at (rows l) a.s.now a.s_out.now a.t n o 0 nan refl l.loop-i.inv.4 (row_is i) (in_rows i) (s_here i),
+      turn_next n a.j i.loop-i-test.true,
+      length-set so o (add binary64 (get_or so o nan) (get_or a.s.now (a.t + n) nan)) ∙ l.loop-i.invariant.1,
+      length-set zo o v.z_value.result ∙ l.loop-i.invariant.2,
+      k.count_column.auto.counts ∙ l.loop-i.invariant.3,
+      walk_stored add_at (rows l) a.s.now a.s_out.now a.t n o 0 nan refl l.loop-i.invariant.4 (row_is i) (in_rows i) (s_here i),
       walk_stored (z_at a.standard) (rows l) a.z.now a.z_out.now a.t n o 0 nan
           (ap (set zo o) v.z_value.ensures ∙ z_stored a.standard o (get_or a.z.now (a.t + n) nan) zo)
-          l.loop-i.inv.5 (row_is i) (in_rows i) (z_here i),
-      counts-next a.standard (rows l) n o a.counts.now l.loop-i.counts k.count_column.last.1.0 (in_rows i) (row_is i) k.count_column.kept.counts l.loop-i.inv.6
+          l.loop-i.invariant.5 (row_is i) (in_rows i) (z_here i),
+      counts-next a.standard (rows l) n o a.counts.now l.loop-i.counts k.count_column.new.counts (in_rows i) (row_is i) k.count_column.auto.counts l.loop-i.invariant.6
           k.count_column.ensures,
     )
 

@@ -40,12 +40,12 @@ head h = h.here-p.result
 count : (h : tie.After-here-p) → clique_count (pattern (start h)) ≡ (head h).clique_count
 count h =
     let s = start h in
-    cliques-count s.args.words.now s.args.at (Found (head h)) s.pre.0.0 h.here-p.ensures.0 (head h) refl
+    cliques-count s.args.words.now s.args.at (Found (head h)) s.requires.0.0 h.here-p.ensures.0 (head h) refl
 
 few : (h : tie.After-here-p) → (head h).clique_count ≤ 256
 few h =
     let s = start h in
-    count-few s.args.words.now s.args.at (Found (head h)) s.pre.0.0 h.here-p.ensures.0 (head h) refl s.pre.0.1
+    count-few s.args.words.now s.args.at (Found (head h)) s.requires.0.0 h.here-p.ensures.0 (head h) refl s.requires.0.1
 
 -- the ordering is a part of the words
 ordering-ends : (h : tie.After-here-p) → (head h).ordering ≤ (head h).cliques
@@ -57,12 +57,12 @@ ordering h = take ((head h).cliques - (head h).ordering) (drop (head h).ordering
 ordering_here : (h : tie.After-here-p) → ordering h ≡ (pattern (start h)).ordering
 ordering_here h =
     let s = start h in
-    ordering-part s.args.words.now s.args.at (Found (head h)) s.pre.0.0 h.here-p.ensures.0 (head h) refl h.here-p.ensures.1
+    ordering-part s.args.words.now s.args.at (Found (head h)) s.requires.0.0 h.here-p.ensures.0 (head h) refl h.here-p.ensures.1
 
 covers : (h : tie.After-here-p) → triangle (length (ordering h)) ≤ length (start h).args.s_out.now
 covers h =
     let s = start h in
-    subst (λ (n : ℕ). triangle n ≤ length s.args.s_out.now) (sym (ap length (ordering_here h) ∙ s.pre.0.0.ordered.vertices)) s.pre.1.0.0
+    subst (λ (n : ℕ). triangle n ≤ length s.args.s_out.now) (sym (ap length (ordering_here h) ∙ s.requires.0.0.ordered.vertices)) s.requires.1.0.0
 
 whole_words : (h : tie.After-here-p) → (head h).ordering ≤ length (start h).args.words.now
 whole_words h = le_trans (ordering-ends h) h.here-p.ensures.1.2
@@ -86,7 +86,7 @@ module _ (s : tie.Start) (b : Bool) (route : s.args.standard ≡ b) (os : List �
   size = ap length rows ∙ length-own (pattern s) s.requires.0.0 b
 
   values : s.args.first + length os ≤ length s.args.s.now
-  values = subst (λ (n : ℕ). s.args.first + n ≤ length s.args.s.now) (sym size) s.pre.1.1.0.0
+  values = subst (λ (n : ℕ). s.args.first + n ≤ length s.args.s.now) (sym size) s.requires.1.1.0.0
 
   promised : (r : ℕ) (s₁ z₁ : List Float) (c₁ : List ℕ) → let a = s.args in
       r ≡ a.first + length os → s₁ ≡ add_columns os (drop a.first a.s.now) a.s_out.now
@@ -112,13 +112,13 @@ cliques h = cliques_from (start h).args.words.now (head h).cliques (head h).cliq
 cliques_are : (h : tie.After-here-p) → cliques h ≡ (pattern (start h)).cliques
 cliques_are h =
     let s = start h in
-    sym (ap (λ (p : Pattern). p.cliques) (pattern_here s.args.words.now s.args.at (Found (head h)) s.pre.0.0 h.here-p.ensures.0 (head h) refl))
+    sym (ap (λ (p : Pattern). p.cliques) (pattern_here s.args.words.now s.args.at (Found (head h)) s.requires.0.0 h.here-p.ensures.0 (head h) refl))
 
 up-rows : (h : tie.After-here-p) → rows_up (ordering h) (cliques h) ≡ own_rows true (pattern (start h))
 up-rows h =
     let s = start h in
     ap (λ (ordering : List ℕ). rows_up ordering (cliques h)) (ordering_here h) ∙ ap (rows_up (pattern s).ordering) (cliques_are h)
-    ∙ rows-cliques (pattern s) s.pre.0.0
+    ∙ rows-cliques (pattern s) s.requires.0.0
 
 mul-join-cliques-up : tie.Need-offset_bounds-words-a
 mul-join-cliques-up c = fits-number (whole_words c.before) (start c.before).well_formed.1.0
@@ -140,18 +140,18 @@ join-cliques-up-requires c κs =
     let a = s.args in
     let p = pattern s in (
       (
-        cliques_here a.words.now a.at (Found (head h)) s.pre.0.0 h.here-p.ensures.0 (head h) refl,
+        cliques_here a.words.now a.at (Found (head h)) s.requires.0.0 h.here-p.ensures.0 (head h) refl,
         subst (λ (ordering : List ℕ). AllSortable ordering (cliques h)) (sym (ordering_here h))
-            (subst (AllSortable p.ordering) (sym (cliques_are h)) (clique-sortable p s.pre.0.0 s.pre.0.1)),
+            (subst (AllSortable p.ordering) (sym (cliques_are h)) (clique-sortable p s.requires.0.0 s.requires.0.1)),
       ),
       (
-        (values s true t.if-standard.true (rows_up (ordering h) (cliques h)) (up-rows h), s.pre.1.1.0.1),
+        (values s true t.if-standard.true (rows_up (ordering h) (cliques h)) (up-rows h), s.requires.1.1.0.1),
         (
-          (covers h, s.pre.1.0.1, s.pre.1.0.2),
+          (covers h, s.requires.1.0.1, s.requires.1.0.2),
           (
             subst (λ (n : ℕ). Countable true (length a.s_out.now) n a.counts.now) (sym (size s true t.if-standard.true (rows_up (ordering h) (cliques h)) (up-rows h)))
-                (subst (λ (b : Bool). Countable b (length a.s_out.now) (block_rows p) a.counts.now) t.if-standard.true s.pre.1.1.1.0),
-            s.pre.1.1.1.1.0.1,
+                (subst (λ (b : Bool). Countable b (length a.s_out.now) (block_rows p) a.counts.now) t.if-standard.true s.requires.1.1.1.0),
+            s.requires.1.1.1.1.0.1,
           ),
         ),
       ),
@@ -181,8 +181,8 @@ returns c =
     let w = (up c).join_cliques_up in
     let t = taken (up c) in
     let h = t.before in
-    promised (start h) true t.if-standard.taken (rows_up (ordering h) (cliques h)) (up-rows h) w.result
-    w.last.1.1.1.1.1.1.1.0 w.last.1.1.1.1.1.1.1.1.0 w.last.1.1.1.1.1.1.1.1.1.0 w.ensures.0 w.ensures.1.0 w.ensures.1.1.0 w.ensures.1.1.1
+    promised (start h) true t.if-standard.true (rows_up (ordering h) (cliques h)) (up-rows h) w.result
+    w.new.s_out w.new.z_out w.new.counts w.ensures.0 w.ensures.1.0 w.ensures.1.1.0 w.ensures.1.1.1
 
 -- ---- the compact route
 
@@ -204,7 +204,7 @@ standing : (o : tie.After-clique_offsets) → let s = start (read o) in StandAt 
 standing o =
     let h = read o in
     let s = start h in
-    stand_here s.args.words.now s.args.at (Found (head h)) s.pre.0.0 h.here-p.ensures.0 (head h) refl (offsets o) o.clique_offsets.ensures
+    stand_here s.args.words.now s.args.at (Found (head h)) s.requires.0.0 h.here-p.ensures.0 (head h) refl (offsets o) o.clique_offsets.ensures
 
 -- the rows of the cliques at the offsets are those of the pattern
 abbrev downward : tie.After-clique_offsets → List ℕ
@@ -216,7 +216,7 @@ down-rows o =
     let s = start h in
     let n = (head h).clique_count in
     ap (λ (ordering : List ℕ). join (rows_here 0 s.args.words.now ordering) (reverse (take n (offsets o)))) (ordering_here h)
-    ∙ rows-down (pattern s) s.pre.0.0 s.args.words.now (offsets o) n (count h) (room o) (standing o) 0 0
+    ∙ rows-down (pattern s) s.requires.0.0 s.args.words.now (offsets o) n (count h) (room o) (standing o) 0 0
 
 few-entries : (entry k n : ℕ) → entry ≤ 262144 → k ≡ n → n ≤ 256 → entry + k < 18446744073709551616
 few-entries entry k n h e l = omega arith
@@ -225,8 +225,8 @@ clique-offsets-requires : tie.Need-clique_offsets-requires
 clique-offsets-requires c κs =
     let h = c.before.before in
     let s = start h in (
-      cliques_here s.args.words.now s.args.at (Found (head h)) s.pre.0.0 h.here-p.ensures.0 (head h) refl,
-      le_trans (few h) s.pre.1.1.1.1.0.0,
+      cliques_here s.args.words.now s.args.at (Found (head h)) s.requires.0.0 h.here-p.ensures.0 (head h) refl,
+      le_trans (few h) s.requires.1.1.1.1.0.0,
     )
 
 -- the state after the offsets were written
@@ -237,7 +237,7 @@ cast-k : tie.Need-overflow_cast-k
 cast-k c = Fits-le (few (read (filled c))) (Fits-lit tt)
 
 mul-join-cliques-down : tie.Need-offset_bounds-words-a-2
-mul-join-cliques-down c = let h = read (filled c) in fits-number (whole_words h) (start h).good.1.0
+mul-join-cliques-down c = let h = read (filled c) in fits-number (whole_words h) (start h).well_formed.1.0
 
 sub-join-cliques-down : tie.Need-slice_bounds-join_cliques_down-count
 sub-join-cliques-down c = ordering-ends (read (filled c))
@@ -264,18 +264,18 @@ join-cliques-down-requires c κs =
     let a = s.args in
     let p = pattern s in
     let n = (head h).clique_count in (
-      rw (ordering_here h) (all-stand p s.pre.0.0 a.words.now (offsets o) n (count h) (room o) (standing o) s.pre.0.1),
+      rw (ordering_here h) (all-stand p s.requires.0.0 a.words.now (offsets o) n (count h) (room o) (standing o) s.requires.0.1),
       (
-        (values s false (left o).if-standard.left (downward o) (down-rows o), s.pre.1.1.0.1),
+        (values s false (left o).if-standard.false (downward o) (down-rows o), s.requires.1.1.0.1),
         (
-          (covers h, s.pre.1.0.1, s.pre.1.0.2),
+          (covers h, s.requires.1.0.1, s.requires.1.0.2),
           (
-            s.pre.1.1.1.1.0.1,
+            s.requires.1.1.1.1.0.1,
             (
               subst (λ (ordering : List ℕ). Starts false a.map.now a.entry a.first (map (λ o. length (rows_here 0 a.words.now ordering o)) (reverse (take n (offsets o))))) (sym (ordering_here h))
-                  (subst (Starts false a.map.now a.entry a.first) (sym (sizes-down p s.pre.0.0 a.words.now (offsets o) n (count h) (room o) (standing o)))
-                  (subst (λ (b : Bool). Starts b a.map.now a.entry a.first (down_sizes p)) (left o).if-standard.left s.pre.1.1.1.1.1.0)),
-              few-entries a.entry (length (take n (offsets o))) n s.pre.1.1.1.1.1.1 (length-take-le n (offsets o) (room o)) (few h),
+                  (subst (Starts false a.map.now a.entry a.first) (sym (sizes-down p s.requires.0.0 a.words.now (offsets o) n (count h) (room o) (standing o)))
+                  (subst (λ (b : Bool). Starts b a.map.now a.entry a.first (down_sizes p)) (left o).if-standard.false s.requires.1.1.1.1.1.0)),
+              few-entries a.entry (length (take n (offsets o))) n s.requires.1.1.1.1.1.1 (length-take-le n (offsets o) (room o)) (few h),
             ),
           ),
         ),
@@ -308,8 +308,8 @@ returns-2 : tie.Need-returns
 returns-2 c =
     let w = (down c).join_cliques_down in
     let o = table (down c) in
-    promised (start (read o)) false (left o).if-standard.left (downward o) (down-rows o) w.result
-    w.last.1.1.1.1.1.1.1.1.0 w.last.1.1.1.1.1.1.1.1.1.0 w.last.1.1.1.1.1.1.1.1.1.1.0 w.ensures.0 w.ensures.1.0 w.ensures.1.1 tt
+    promised (start (read o)) false (left o).if-standard.false (downward o) (down-rows o) w.result
+    w.new.s_out w.new.z_out w.new.counts w.ensures.0 w.ensures.1.0 w.ensures.1.1 tt
 
 pub join_pattern_spec : {M : Type 1} → statement M
 join_pattern_spec =

@@ -19,7 +19,7 @@ take-averages-requires : tie.Need-take_averages-requires
 take-averages-requires c κs =
     let t = c.before.before in
     let s = start t in
-    subst (λ (b : Bool). CountsRows b (length s.args.z.now) s.args.counts.now) t.if-standard.true s.pre
+    subst (λ (b : Bool). CountsRows b (length s.args.z.now) s.args.counts.now) t.if-standard.true s.requires
 
 same_length : tie.Need-shape_of-z
 same_length c = (taken c).take_averages.auto.z
@@ -32,9 +32,9 @@ returns c =
     let v = taken c in
     let t = chosen v in
     let a = (start t).args in
-    let standard = sym t.if-standard.taken in (
+    let standard = sym t.if-standard.true in (
       v.take_averages.ensures.0 ∙ ap (λ (b : Bool). z_averaged_by b a.counts.now a.z.now) standard,
-      subst (λ (b : Bool). ClearsRows b (length a.z.now) a.counts.now v.take_averages.last.1.0) standard v.take_averages.ensures.1,
+      subst (λ (b : Bool). ClearsRows b (length a.z.now) a.counts.now v.take_averages.new.counts) standard v.take_averages.ensures.1,
     )
 
 returns-2 : tie.Need-returns-else-standard

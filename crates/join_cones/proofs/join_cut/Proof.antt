@@ -33,7 +33,7 @@ add-e : tie.Need-overflow_add-e
 add-e c = fits_count 8 (start c).requires.1.0.0 (start c).well_formed.1.1.1.1.1.1.1.1.1.1.0
 
 mul-join-rows : tie.Need-offset_bounds-s_out-row
-mul-join-rows c = let s = start c in fits-value (s_rows s) s.good.1.1.1.1.1.1.1.1.1.1.0
+mul-join-rows c = let s = start c in fits-value (s_rows s) s.well_formed.1.1.1.1.1.1.1.1.1.1.0
 
 sub-join-rows : tie.Need-slice_bounds-join_rows-count
 sub-join-rows c = let a = (start c).args in le-add_right a.row a.n
@@ -45,7 +45,7 @@ part-join-rows-end : tie.Need-slice_bounds-join_rows-end
 part-join-rows-end c = (start c).requires.1.0.0
 
 mul-join-rows-2 : tie.Need-offset_bounds-z_out-row
-mul-join-rows-2 c = let s = start (lent c) in fits-value (z_rows s) s.good.1.1.1.1.1.1.1.1.1.1.1.0
+mul-join-rows-2 c = let s = start (lent c) in fits-value (z_rows s) s.well_formed.1.1.1.1.1.1.1.1.1.1.1.0
 
 sub-join-rows-2 : tie.Need-slice_bounds-join_rows-count-2
 sub-join-rows-2 c = let a = (start (lent c)).args in le-add_right a.row a.n
@@ -61,16 +61,16 @@ join-rows-requires c κs =
     let s = start (lent c.before.before.before.before) in
     let a = s.args in
     let s-part : List Float = take (a.row + a.n - a.row) (drop a.row a.s_out.now) in
-    let s-lent : length s-part ≡ a.n = length_part a.row a.n a.s_out.now s.pre.1.0.0 in
-    let z-lent = length_part a.row a.n a.z_out.now s.pre.1.0.1 in (
-      (s.pre.0.0, s.pre.0.1),
+    let s-lent : length s-part ≡ a.n = length_part a.row a.n a.s_out.now s.requires.1.0.0 in
+    let z-lent = length_part a.row a.n a.z_out.now s.requires.1.0.1 in (
+      (s.requires.0.0, s.requires.0.1),
       (
-        (s-lent ∙ s.pre.0.2, z-lent ∙ s.pre.0.2),
+        (s-lent ∙ s.requires.0.2, z-lent ∙ s.requires.0.2),
         (
-          s.pre.1.1.0,
+          s.requires.1.1.0,
           (
-            (rows-kept a.standard a.n (length s-part) a.counts.now a.counts.now (le_of_eq s-lent) refl s.pre.1.1.1.0.0, s.pre.1.1.1.0.1),
-            s.pre.1.1.1.1,
+            (rows-kept a.standard a.n (length s-part) a.counts.now a.counts.now (le_of_eq s-lent) refl s.requires.1.1.1.0.0, s.requires.1.1.1.0.1),
+            s.requires.1.1.1.1,
           ),
         ),
       ),
@@ -87,13 +87,13 @@ same_length : tie.Need-shape_of-s_out
 same_length c =
     let j = end c in
     let a = (first j).args in
-    length-put a.row (a.row + a.n - a.row) a.s_out.now j.join_rows.last.1.1.1.1.1.1.1.1.0 (s_rows (first j)) j.join_rows.kept.s_out
+    length-put a.row (a.row + a.n - a.row) a.s_out.now j.join_rows.new.s_out (s_rows (first j)) j.join_rows.auto.s_out
 
 same-length-2 : tie.Need-shape_of-z_out
 same-length-2 c =
     let j = end c in
     let a = (first j).args in
-    length-put a.row (a.row + a.n - a.row) a.z_out.now j.join_rows.last.1.1.1.1.1.1.1.1.1.0 (z_rows (first j)) j.join_rows.kept.z_out
+    length-put a.row (a.row + a.n - a.row) a.z_out.now j.join_rows.new.z_out (z_rows (first j)) j.join_rows.auto.z_out
 
 same-length-3 : tie.Need-shape_of-counts
 same-length-3 c = (end c).join_rows.auto.counts
@@ -112,9 +112,9 @@ returns c =
     let w = j.join_rows in (
       w.ensures.0,
       (
-        put_same (s_cut a.standard (here s) (drop a.t a.s.now)) w.last.1.1.1.1.1.1.1.1.0 a.s_out.now a.row a.n s.pre.1.0.0 w.ensures.1.0 w.kept.s_out,
+        put_same (s_cut a.standard (here s) (drop a.t a.s.now)) w.new.s_out a.s_out.now a.row a.n s.requires.1.0.0 w.ensures.1.0 w.auto.s_out,
         (
-          put_same (z_cut a.standard (here s) (drop a.t a.z.now)) w.last.1.1.1.1.1.1.1.1.1.0 a.z_out.now a.row a.n s.pre.1.0.1 w.ensures.1.1.0 w.kept.z_out,
+          put_same (z_cut a.standard (here s) (drop a.t a.z.now)) w.new.z_out a.z_out.now a.row a.n s.requires.1.0.1 w.ensures.1.1.0 w.auto.z_out,
           w.ensures.1.1.1,
         ),
       ),

@@ -44,13 +44,13 @@ s_zeros : (f : tie.After-fill_values) → f.fill_values.new.out ≡ zeros (start
 unfolding of_bits
 s_zeros f =
     let s = start f in
-    zeros_as s.args.s_out.now f.fill_values.new.out (length s.args.s_out.now) (triangle (here s).vertex_count) f.fill_values.ensures refl s.pre.1.0.0
+    zeros_as s.args.s_out.now f.fill_values.new.out (length s.args.s_out.now) (triangle (here s).vertex_count) f.fill_values.ensures refl s.requires.1.0.0
 
 z_zeros : (f : tie.After-fill_values-2) → f.fill_values-2.new.out ≡ zeros (start (s-filled f))
 unfolding of_bits
 z_zeros f =
     let s = start (s-filled f) in
-    zeros_as s.args.z_out.now f.fill_values-2.new.out (length s.args.s_out.now) (triangle (here s).vertex_count) f.fill_values-2.ensures (sizes s) s.pre.1.0.1
+    zeros_as s.args.z_out.now f.fill_values-2.new.out (length s.args.s_out.now) (triangle (here s).vertex_count) f.fill_values-2.ensures (sizes s) s.requires.1.0.1
 
 -- once the pattern is joined: the outputs have as many rows as the cone, and the counts
 abbrev z-filled : tie.After-join_pattern-end → tie.After-fill_values-2
@@ -65,14 +65,14 @@ counted j = j.join_pattern-end.new.counts
 size : (j : tie.After-join_pattern-end) → length (z-joined j) ≡ length (start (s-filled (z-filled j))).args.s_out.now
 size j =
     let f = z-filled j in
-    kept_twice j.join_pattern-end.auto.z_out f.fill_values-2.kept.out (sym (sizes (start (s-filled f))))
+    kept_twice j.join_pattern-end.auto.z_out f.fill_values-2.auto.out (sym (sizes (start (s-filled f))))
 
 -- there is a count for each row
 room : (j : tie.After-join_pattern-end) → CountsRows (start (s-filled (z-filled j))).args.standard (length (z-joined j)) (counted j)
 room j =
     let s = start (s-filled (z-filled j)) in
     let a = s.args in
-    rows-kept a.standard (length a.s_out.now) (length (z-joined j)) a.counts.now (counted j) (le_of_eq (size j)) j.join_pattern-end.auto.counts s.pre.1.1.1.0.0
+    rows-kept a.standard (length a.s_out.now) (length (z-joined j)) a.counts.now (counted j) (le_of_eq (size j)) j.join_pattern-end.auto.counts s.requires.1.1.1.0.0
 
 fill-values-requires : tie.Need-fill_values-requires
 fill-values-requires c κs = le_refl (length c.args.s_out.now)
@@ -87,17 +87,17 @@ join-pattern-requires c κs =
     let s = start f in
     let a = s.args in
     let p = here s in
-    let n = f.fill_values.kept.out in
-    let rows : length f.fill_values.last.0 ≡ triangle p.vertex_count = n ∙ s.pre.1.0.0 in (
-      s.pre.0,
+    let n = f.fill_values.auto.out in
+    let rows : length f.fill_values.new.out ≡ triangle p.vertex_count = n ∙ s.requires.1.0.0 in (
+      s.requires.0,
       (
-        (le_of_eq (sym rows), both_kept g.fill_values-2.auto.out (sym (sizes s)) n, same_le rows (few-rows p.vertex_count s.pre.0.1)),
+        (le_of_eq (sym rows), both_kept g.fill_values-2.auto.out (sym (sizes s)) n, same_le rows (few-rows p.vertex_count s.requires.0.1)),
         (
-          (s.pre.1.1.0.1, s.pre.1.1.0.2),
+          (s.requires.1.1.0.1, s.requires.1.1.0.2),
           (
             subst (λ (q : ℕ). Countable a.standard q (block_rows p) a.counts.now) (sym n)
-                (countable a.standard (length a.s_out.now) (block_rows p) a.counts.now s.pre.1.1.0.0 s.pre.1.1.1.0.0 s.pre.1.1.1.0.1),
-            (s.pre.1.1.1.1.0, s.pre.1.1.1.1.1),
+                (countable a.standard (length a.s_out.now) (block_rows p) a.counts.now s.requires.1.1.0.0 s.requires.1.1.1.0.0 s.requires.1.1.1.0.1),
+            (s.requires.1.1.1.1.0, s.requires.1.1.1.1.1),
           ),
         ),
       ),
@@ -114,16 +114,16 @@ abbrev joined : tie.After-average → tie.After-join_pattern-end
 joined v = v.before.before.before.before.before.before.before.before.before.before.before.before.before
 
 same_length : tie.Need-shape_of-s_out
-same_length c = let j = joined (averaged c) in j.join_pattern-end.kept.s_out ∙ (s-filled (z-filled j)).fill_values.auto.out
+same_length c = let j = joined (averaged c) in j.join_pattern-end.auto.s_out ∙ (s-filled (z-filled j)).fill_values.auto.out
 
 same-length-2 : tie.Need-shape_of-z_out
 same-length-2 c =
     let v = averaged c in
     let j = joined v in
-    kept_twice v.average.kept.z j.join_pattern-end.kept.z_out (z-filled j).fill_values-2.kept.out
+    kept_twice v.average.auto.z j.join_pattern-end.auto.z_out (z-filled j).fill_values-2.auto.out
 
 same-length-3 : tie.Need-shape_of-counts
-same-length-3 c = let v = averaged c in v.average.kept.counts ∙ (joined v).join_pattern-end.kept.counts
+same-length-3 c = let v = averaged c in v.average.auto.counts ∙ (joined v).join_pattern-end.auto.counts
 
 same-length-4 : tie.Need-shape_of-offsets
 same-length-4 c = (joined (averaged c)).join_pattern-end.auto.offsets
@@ -141,14 +141,14 @@ returns c =
     let a = s.args in
     let os = own_rows a.standard (here s) in
     let e = j.join_pattern-end.ensures in
-    let clear = s.pre.1.1.1.0.1 in (
+    let clear = s.requires.1.1.1.0.1 in (
       e.0,
       (
         by_same (add_columns os (drop a.t a.s.now)) e.1.0 (s_zeros f),
         (
-          averaged-cut a.standard os a.counts.now (counted j) (drop a.t a.z.now) (zeros s) g.fill_values-2.last.0 (z-joined j) v.average.last.1.0 (room j) clear e.1.1.1
+          averaged-cut a.standard os a.counts.now (counted j) (drop a.t a.z.now) (zeros s) g.fill_values-2.new.out (z-joined j) v.average.new.z (room j) clear e.1.1.1
               v.average.ensures.0 e.1.1.0 (z_zeros g),
-          cleared_again a.standard (here s) (length (z-joined j)) a.counts.now (counted j) v.average.last.1.1.0 (size j ∙ s.pre.1.0.0) clear e.1.1.1 v.average.ensures.1,
+          cleared_again a.standard (here s) (length (z-joined j)) a.counts.now (counted j) v.average.new.counts (size j ∙ s.requires.1.0.0) clear e.1.1.1 v.average.ensures.1,
         ),
       ),
     )

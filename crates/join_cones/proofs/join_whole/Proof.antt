@@ -39,7 +39,7 @@ part-whole-values-end : tie.Need-slice_bounds-whole_values-end
 part-whole-values-end c = (start c).requires.1
 
 mul-whole-values-2 : tie.Need-offset_bounds-values-t
-mul-whole-values-2 c = let s = start c.before in fits-value (values_begin s) s.good.1.1.1.1.0
+mul-whole-values-2 c = let s = start c.before in fits-value (values_begin s) s.well_formed.1.1.1.1.0
 
 sub-whole-values-2 : tie.Need-slice_bounds-whole_values-count-2
 sub-whole-values-2 c = let a = (start c.before).args in le-add_right a.t a.n
@@ -54,7 +54,7 @@ whole-values-requires : tie.Need-whole_values-requires
 whole-values-requires c κs =
     let s = start c.before.before in
     let a = s.args in
-    length_part a.t a.n a.values.now s.pre.0 ∙ sym (length_part a.row a.n a.out.now s.pre.1)
+    length_part a.t a.n a.values.now s.requires.0 ∙ sym (length_part a.row a.n a.out.now s.requires.1)
 
 abbrev end : tie.After-slice_known-2-1 → tie.After-whole_values
 end c = c.before.before
@@ -64,7 +64,7 @@ same_length c =
     let w = end c in
     let s = start w.before.before.before in
     let a = s.args in
-    length-put a.row (a.row + a.n - a.row) a.out.now w.whole_values.last.1.0 (rows_begin s) w.whole_values.kept.out
+    length-put a.row (a.row + a.n - a.row) a.out.now w.whole_values.new.out (rows_begin s) w.whole_values.auto.out
 
 returns : tie.Need-returns
 returns c =
@@ -72,7 +72,7 @@ returns c =
     let s = start w.before.before.before in
     let a = s.args in
     let vs : List Float = part a.t (a.t + a.n) a.values.now in
-    put_same (whole_values a.standard vs) w.whole_values.last.1.0 a.out.now a.row a.n s.pre.1 w.whole_values.ensures w.whole_values.kept.out
+    put_same (whole_values a.standard vs) w.whole_values.new.out a.out.now a.row a.n s.requires.1 w.whole_values.ensures w.whole_values.auto.out
 
 pub join_whole_spec : {M : Type 1} → statement M
 join_whole_spec =

@@ -112,7 +112,7 @@ module _ (c : tie.After-triangular_number-rows invariant-loop decreases-loop) wh
       let k = c.before.before in
       let a = (start_of here).args in
       let q = clique_of a.words.now k.here-q.result in
-      let next : suc number ≡ a.count - (here.loop-left.left - 1) = omega (arith, k.loop-left-test.true, here.loop-left.inv.0) in
+      let next : suc number ≡ a.count - (here.loop-left.left - 1) = omega (arith, k.loop-left-test.true, here.loop-left.invariant.0) in
       ap (down_words a.cone a.pattern number a.start) (first_of k) ∙ down_more a.cone a.pattern number a.start q rest
       ∙ ap₂ (λ (d r : ℕ). down_words a.cone a.pattern d a.start rest ++ (a.cone ∷ a.pattern ∷ number ∷ top ∷ r ∷ [])) next (sym (rows_are c))
 
@@ -126,7 +126,7 @@ module _ (c : tie.After-triangular_number-rows invariant-loop decreases-loop) wh
       let a = (start_of here).args in
       let sums : a.start + sum (map dim_of (cliques_from a.words.now here.loop-left.at here.loop-left.left)) ≡ top + c.triangular_number-rows.result =
       omega (arith, ap (λ (cs : List Clique). sum (map dim_of cs)) (first_of c.before.before), rows_are c) in
-      sym (ap₂ (λ (l : List ℕ) (n : ℕ). begins (drop a.t a.entries.now) l && eqb here.loop-left.row n) words_here sums) ∙ here.loop-left.inv.3
+      sym (ap₂ (λ (l : List ℕ) (n : ℕ). begins (drop a.t a.entries.now) l && eqb here.loop-left.row n) words_here sums) ∙ here.loop-left.invariant.3
 
 sub-if1 : tie.Need-overflow_sub-entries invariant-loop decreases-loop
 sub-if1 c = omega (arith, c.requires.0.1)
@@ -173,7 +173,7 @@ returns-2 c =
     ∙ told-low a.entries.now a.t ((l.loop-left.left - 1) * 5) (others t) (others_long t) a.cone a.pattern (number t) t.triangular_number-rows.result (top t) l.loop-left.row c.if-row-rows.true)
 
 sub-clique : tie.Need-overflow_sub-clique invariant-loop decreases-loop
-sub-clique c = omega (arith, (here c.before).loop-left.inv.0)
+sub-clique c = omega (arith, (here c.before).loop-left.invariant.0)
 
 sub-left : tie.Need-overflow_sub-left invariant-loop decreases-loop
 sub-left c = omega (arith, c.loop-left-test.true)
@@ -182,13 +182,13 @@ cast-entry-right : tie.Need-overflow_cast-left invariant-loop decreases-loop
 cast-entry-right c = search rules
 
 mul-entry-right : tie.Need-overflow_mul-left invariant-loop decreases-loop
-mul-entry-right c = let l = here c.before in omega (arith, l.loop-left.inv.0, room l.before)
+mul-entry-right c = let l = here c.before in omega (arith, l.loop-left.invariant.0, room l.before)
 
 add-entry-right : tie.Need-overflow_add-t invariant-loop decreases-loop
-add-entry-right c = let l = here c.before in omega (arith, l.loop-left.inv.0, room l.before)
+add-entry-right c = let l = here c.before in omega (arith, l.loop-left.invariant.0, room l.before)
 
 entry-right-requires : tie.Need-entry_right-requires invariant-loop decreases-loop
-entry-right-requires c κs = let l = here c.before in omega (arith, l.loop-left.inv.0, room l.before)
+entry-right-requires c κs = let l = here c.before in omega (arith, l.loop-left.invariant.0, room l.before)
 
 returns-3 : tie.Need-returns-then-not-entry_right invariant-loop decreases-loop
 returns-3 c =
@@ -212,9 +212,9 @@ loop-again c =
     let a = (start_of l).args in
     let ws = a.words.now in
     let q = k.here-q.result in (
-      omega (arith, l.loop-left.inv.0),
+      omega (arith, l.loop-left.invariant.0),
       next-whole k,
-      (all_cons (block_at_most 256) (clique_of ws q) (rest t) (cliques_from ws l.loop-left.at l.loop-left.left) (first_of k) l.loop-left.inv.2).1,
+      (all_cons (block_at_most 256) (clique_of ws q) (rest t) (cliques_from ws l.loop-left.at l.loop-left.left) (first_of k) l.loop-left.invariant.2).1,
       sym (told_hit a.entries.now a.t ((l.loop-left.left - 1) * 5) (others t) (others_long t) a.cone a.pattern (number t) t.triangular_number-rows.result (top t) l.loop-left.row r.if-row-rows.false
           (sym r.entry_right.ensures ∙ not-false _ c.if-not-entry_right.false-raw))
           ∙ apart t,

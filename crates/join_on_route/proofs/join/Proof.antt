@@ -30,7 +30,6 @@ returns c = record {
   number = sym (no-route _ _ c.if-route-gt-COMPACT.true);
   tables = record { x = refl; s = refl; z = refl; scalars = refl };
   doubles = s_doubles c.before;
-
 }
 
 abbrev start : tie.Else-route-gt-COMPACT → tie.Start

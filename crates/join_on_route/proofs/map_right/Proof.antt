@@ -108,7 +108,7 @@ rows_whole : (k : tie.In-Whole-2 invariant-loop decreases-loop)
     l.loop-rows.first + g.0.0 + block_row_count (ahead a.cones.now a.words.now g.0.1.0) ≡ block_row_count (joined_parts a.cones.now a.count a.words.now)
 rows_whole k =
     let l = turn k in
-    counted-part part_rows (whole_of k) (ahead_of l) _ l.loop-rows.first _ _ (met_whole k) (knows_whole k).0 l.loop-rows.inv.3
+    counted-part part_rows (whole_of k) (ahead_of l) _ l.loop-rows.first _ _ (met_whole k) (knows_whole k).0 l.loop-rows.invariant.3
 
 -- its entry is there
 same_whole : (c : tie.Else-not-entry_right invariant-loop decreases-loop)
@@ -235,21 +235,21 @@ cast-entry-right : tie.Need-overflow_cast-place invariant-loop decreases-loop
 cast-entry-right c = omega (arith, (knows_whole c.before.before).2)
 
 entry-right-requires : tie.Need-entry_right-requires invariant-loop decreases-loop
-entry-right-requires c κs = (turn c.before.before).loop-rows.inv.0
+entry-right-requires c κs = (turn c.before.before).loop-rows.invariant.0
 
 returns : tie.Need-returns-then-not-entry_right invariant-loop decreases-loop
 returns c =
     let r = c.before in
     let k = r.before.before.before in
     let l = turn k in
-    sym (sym l.loop-rows.inv.2
+    sym (sym l.loop-rows.invariant.2
     ∙ entries_miss (start l).args.entries.now l.loop-rows.t l.loop-rows.first (whole_of k) (ahead_of l) _ (met_whole k) (sym (entry r) ∙ not-true _ c.if-not-entry_right.true-raw))
 
 add-t : tie.Need-overflow_add-t invariant-loop decreases-loop
 add-t c = let l = turn c.before.before.before.before in fits_next l.loop-rows.t 5 (length (start l).args.entries.now) (fits_whole c) (small (start l))
 
 add-first : tie.Need-overflow_add-first invariant-loop decreases-loop
-add-first c = let k = c.before.before.before.before in omega (arith, rows_whole k, (start (turn k)).pre.1)
+add-first c = let k = c.before.before.before.before in omega (arith, rows_whole k, (start (turn k)).requires.1)
 
 loop-less : tie.Need-loop-rows-smaller-in-Whole invariant-loop decreases-loop
 loop-less c = let k = c.before.before.before.before in shorter (whole_of k) (ahead_of (turn k)) _ (met_whole k)
@@ -260,7 +260,7 @@ loop-again c =
     let l = turn k in (
       fits_whole c,
       (knows_whole k).5,
-      sym (entries_hit (start l).args.entries.now l.loop-rows.t l.loop-rows.first (whole_of k) (ahead_of l) _ (met_whole k) (same_whole c) (knows_whole k).0) ∙ l.loop-rows.inv.2,
+      sym (entries_hit (start l).args.entries.now l.loop-rows.t l.loop-rows.first (whole_of k) (ahead_of l) _ (met_whole k) (same_whole c) (knows_whole k).0) ∙ l.loop-rows.invariant.2,
       rows_whole k,
     )
 

@@ -30,13 +30,13 @@ module _ (k : tie.After-here-p) where
   here = let q = k.here-p.result in cliques_from start.args.words.now q.cliques q.clique_count
 
   pattern : given.cliques ≡ here
-  pattern = ap (λ (p : Pattern). p.cliques) (pattern_here start.args.words.now start.args.at _ start.pre.0 k.here-p.ensures.0 k.here-p.result refl)
+  pattern = ap (λ (p : Pattern). p.cliques) (pattern_here start.args.words.now start.args.at _ start.requires.0 k.here-p.ensures.0 k.here-p.result refl)
 
   whole : let q = k.here-p.result in Whole start.args.words.now q.cliques q.clique_count
-  whole = cliques_here start.args.words.now start.args.at _ start.pre.0 k.here-p.ensures.0 k.here-p.result refl
+  whole = cliques_here start.args.words.now start.args.at _ start.requires.0 k.here-p.ensures.0 k.here-p.result refl
 
   small : all (block_at_most 256) here ≡ true
-  small = sym (ap (all (block_at_most 256)) pattern) ∙ blocks-small given 256 start.pre.0 start.pre.1
+  small = sym (ap (all (block_at_most 256)) pattern) ∙ blocks-small given 256 start.requires.0 start.requires.1
 
   -- the rows of their blocks
   rows : sum (map dim_of here) ≡ block_rows given

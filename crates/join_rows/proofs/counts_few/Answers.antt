@@ -1,4 +1,3 @@
-
 use Rattle.join_rows.proofs.counts_few.Goals as goal
 
 pub returns-then-not-standard : goal.returns-then-not-standard

@@ -137,12 +137,12 @@ knows_whole c =
 rows_whole : (c : tie.In-Whole invariant-loop decreases-loop) → (loop_of c).loop-rows.row + c.met-1.given.0.0 ≤ (start (loop_of c)).args.m
 rows_whole c =
     let l = loop_of c in
-    sum_fits l.loop-rows.row c.met-1.given.0.0 (cone_rows (whole_of c)) (rows_of (after-whole c)) (rows_of (left l)) (start l).args.m l.loop-rows.inv.3 (ap rows_of (met_whole c)) (knows_whole c).0
+    sum_fits l.loop-rows.row c.met-1.given.0.0 (cone_rows (whole_of c)) (rows_of (after-whole c)) (rows_of (left l)) (start l).args.m l.loop-rows.invariant.3 (ap rows_of (met_whole c)) (knows_whole c).0
 
 s_whole : (c : tie.In-Whole invariant-loop decreases-loop) → (loop_of c).loop-rows.t + c.met-1.given.0.0 ≤ length (start (loop_of c)).args.s.now
 s_whole c =
     let l = loop_of c in
-    sum_fits l.loop-rows.t c.met-1.given.0.0 (cone_rows (whole_of c)) (block_row_count (after-whole c)) (block_row_count (left l)) (length (start l).args.s.now) l.loop-rows.inv.4
+    sum_fits l.loop-rows.t c.met-1.given.0.0 (cone_rows (whole_of c)) (block_row_count (after-whole c)) (block_row_count (left l)) (length (start l).args.s.now) l.loop-rows.invariant.4
     (ap block_row_count (met_whole c)) (knows_whole c).0
 
 z_same : (s : tie.start-place invariant-loop decreases-loop) → length s.args.z.now ≡ length s.args.s.now
@@ -159,7 +159,7 @@ starts-whole : (c : tie.In-Whole invariant-loop decreases-loop)
 starts-whole c =
     let l = loop_of c in
     let a = (start l).args in
-    subst (λ (ps : List Part). Starts a.standard a.map.now l.loop-rows.entry l.loop-rows.t (block_sizes ps)) (met_whole c) l.loop-rows.inv.9
+    subst (λ (ps : List Part). Starts a.standard a.map.now l.loop-rows.entry l.loop-rows.t (block_sizes ps)) (met_whole c) l.loop-rows.invariant.9
 
 began : (b : tie.After-block_start-start invariant-loop decreases-loop) → b.block_start-start.result ≡ (loop_of b.before).loop-rows.t
 began b =
@@ -205,7 +205,7 @@ named-cut c =
     let a = (start l).args in
     let q = l.loop-rows.place in
     cut-passes (names_its_cone (records a.cones.now)) q.cone q.row q.pattern (drop q.cone (records a.cones.now)) (patterns_ahead a.words.now q)
-    q.cone q.row q.pattern (pattern_of c) (after-cut c) (met_cut c) l.loop-rows.inv.6.named
+    q.cone q.row q.pattern (pattern_of c) (after-cut c) (met_cut c) l.loop-rows.invariant.6.named
 
 -- the indices where the values of its blocks start, and those of the parts after it
 starts-cut : (c : tie.In-Cut invariant-loop decreases-loop)
@@ -218,7 +218,7 @@ starts-cut c =
     let l = loop_of2 c in
     let a = (start l).args in
     starts-append a.standard a.map.now l.loop-rows.entry l.loop-rows.t (down_sizes (pattern_of c)) (block_sizes (after-cut c))
-    (subst (λ (ps : List Part). Starts a.standard a.map.now l.loop-rows.entry l.loop-rows.t (block_sizes ps)) (met_cut c) l.loop-rows.inv.9)
+    (subst (λ (ps : List Part). Starts a.standard a.map.now l.loop-rows.entry l.loop-rows.t (block_sizes ps)) (met_cut c) l.loop-rows.invariant.9)
 
 -- there are at most 256 cliques
 cliques-cut : (c : tie.In-Cut invariant-loop decreases-loop) → clique_count (pattern_of c) ≤ 256
@@ -231,7 +231,7 @@ more_entries : (entry k cone next : ℕ) → entry ≤ cone * 256 → k ≤ 256 
 more_entries entry k cone next h l e = omega arith
 
 few-cut : (c : tie.In-Cut invariant-loop decreases-loop) → block_rows (pattern_of c) ≤ 262144
-few-cut c = let l = loop_of2 c in first-few (block_rows (pattern_of c)) (block_row_count (after-cut c)) (block_row_count (left l)) 262144 (ap block_row_count (met_cut c)) l.loop-rows.inv.5
+few-cut c = let l = loop_of2 c in first-few (block_rows (pattern_of c)) (block_row_count (after-cut c)) (block_row_count (left l)) 262144 (ap block_row_count (met_cut c)) l.loop-rows.invariant.5
 
 -- the cone's rows and values
 abbrev met_of : (r : tie.After-cone_rows-n invariant-loop decreases-loop) → tie.In-Cut invariant-loop decreases-loop
@@ -241,14 +241,14 @@ rows_cut : (r : tie.After-cone_rows-n invariant-loop decreases-loop) → (loop_o
 rows_cut r =
     let c = met_of r in
     let l = loop_of2 c in
-    sum_fits l.loop-rows.row r.cone_rows-n.result (triangle (pattern_of c).vertex_count) (rows_of (after-cut c)) (rows_of (left l)) (start l).args.m l.loop-rows.inv.3 (ap rows_of (met_cut c))
+    sum_fits l.loop-rows.row r.cone_rows-n.result (triangle (pattern_of c).vertex_count) (rows_of (after-cut c)) (rows_of (left l)) (start l).args.m l.loop-rows.invariant.3 (ap rows_of (met_cut c))
     r.cone_rows-n.ensures
 
 s_cut : (c : tie.In-Cut invariant-loop decreases-loop) → (loop_of2 c).loop-rows.t + block_rows (pattern_of c) ≤ length (start (loop_of2 c)).args.s.now
 s_cut c =
     let l = loop_of2 c in
     let k = block_rows (pattern_of c) in
-    sum_fits l.loop-rows.t k k (block_row_count (after-cut c)) (block_row_count (left l)) (length (start l).args.s.now) l.loop-rows.inv.4 (ap block_row_count (met_cut c)) refl
+    sum_fits l.loop-rows.t k k (block_row_count (after-cut c)) (block_row_count (left l)) (length (start l).args.s.now) l.loop-rows.invariant.4 (ap block_row_count (met_cut c)) refl
 
 -- ---- the proof obligations
 
@@ -292,7 +292,7 @@ enum-known-met c = c.in-Whole.keys1
 cast-n : tie.Need-overflow_cast-n invariant-loop decreases-loop
 cast-n c =
     let s = start (loop_of c) in
-    fits_count 8 (part-le (loop_of c).loop-rows.t c.met-1.given.0.0 (length s.args.s.now) (s_whole c)) s.good.1.1.1.1.1.1.0
+    fits_count 8 (part-le (loop_of c).loop-rows.t c.met-1.given.0.0 (length s.args.s.now) (s_whole c)) s.well_formed.1.1.1.1.1.1.0
 
 block-start-requires : tie.Need-block_start-start-requires invariant-loop decreases-loop
 block-start-requires c κs =
@@ -305,14 +305,14 @@ join-whole-requires c κs =
     let b = c.before in
     let k = b.before in
     let l = loop_of k in
-    (subst (λ (n : ℕ). n + k.met-1.given.0.0 ≤ length (start l).args.s.now) (sym (began b)) (s_whole k), le_same (le_trans (rows_whole k) (start l).pre.1.0.0) l.loop-rows.inv.0.size)
+    (subst (λ (n : ℕ). n + k.met-1.given.0.0 ≤ length (start l).args.s.now) (sym (began b)) (s_whole k), le_same (le_trans (rows_whole k) (start l).requires.1.0.0) l.loop-rows.invariant.0.size)
 
 join-whole-requires-2 : tie.Need-join_whole-requires-in-Whole invariant-loop decreases-loop
 join-whole-requires-2 c κs =
     let b = c.before.before.before.before.before in
     let k = b.before in
     let l = loop_of k in
-    (subst (λ (n : ℕ). n + k.met-1.given.0.0 ≤ length (start l).args.z.now) (sym (began b)) (z_whole k), le_same (le_trans (rows_whole k) (start l).pre.1.0.1) l.loop-rows.inv.1.size)
+    (subst (λ (n : ℕ). n + k.met-1.given.0.0 ≤ length (start l).args.z.now) (sym (began b)) (z_whole k), le_same (le_trans (rows_whole k) (start l).requires.1.0.1) l.loop-rows.invariant.1.size)
 
 abbrev begun : tie.After-slice_known-in-Whole-2-1 invariant-loop decreases-loop → tie.After-block_start-start invariant-loop decreases-loop
 begun c = c.before.before.before.before.before.before.before.before
@@ -324,16 +324,16 @@ add_row : tie.Need-overflow_add-row invariant-loop decreases-loop
 add_row c =
     let k = joined-whole c in
     let s = start (loop_of k) in
-    fits_count 8 (le_trans (rows_whole k) s.pre.1.0.0) s.good.1.1.1.1.1.1.1.1.0
+    fits_count 8 (le_trans (rows_whole k) s.requires.1.0.0) s.well_formed.1.1.1.1.1.1.1.1.0
 
 add-t : tie.Need-overflow_add-t invariant-loop decreases-loop
 add-t c =
     let b = begun c in
     let k = b.before in
-    fits_count 8 (subst (λ (n : ℕ). n + k.met-1.given.0.0 ≤ length (start (loop_of k)).args.s.now) (sym (began b)) (s_whole k)) (start (loop_of k)).good.1.1.1.1.1.1.0
+    fits_count 8 (subst (λ (n : ℕ). n + k.met-1.given.0.0 ≤ length (start (loop_of k)).args.s.now) (sym (began b)) (s_whole k)) (start (loop_of k)).well_formed.1.1.1.1.1.1.0
 
 add-entry : tie.Need-overflow_add-entry invariant-loop decreases-loop
-add-entry c = let k = joined-whole c in omega (arith, (loop_of k).loop-rows.inv.10, (knows_whole k).2)
+add-entry c = let k = joined-whole c in omega (arith, (loop_of k).loop-rows.invariant.10, (knows_whole k).2)
 
 loop-less : tie.Need-loop-rows-smaller-in-Whole invariant-loop decreases-loop
 loop-less c = let k = joined-whole c in shorter (whole_of k) (after-whole k) (left (loop_of k)) (met_whole k)
@@ -355,24 +355,24 @@ loop-again c =
     let t = l.loop-rows.t in
     let ps = joined_parts a.cones.now a.count a.words.now in
     let from : (P : ℕ → Type 0) → P t → P b.block_start-start.result = λ P. subst P (sym (began b)) in (
-      from (λ (j : ℕ). Joins (s_part a.standard) a.m (values_from (s_part a.standard) ps (drop (first_of a.standard a.m) a.s.now)) a.s.now a.s_out.now (after-whole k) (row + n) (j + n) v.join_whole.new.out) (joins_whole (s_part a.standard) a.m a.s.now a.s_out.now s.pre.1.0.0 (values_from (s_part a.standard) ps (drop (first_of a.standard a.m) a.s.now)) a.standard q.cone (cone_of k) q.row
-          (after-whole k) (left l) row t n l.loop-rows.s_out v.join_whole.new.out (λ vs. refl) l.loop-rows.inv.0 e (rows_whole k) h.0 (s_whole k)
+      from (λ (j : ℕ). Joins (s_part a.standard) a.m (values_from (s_part a.standard) ps (drop (first_of a.standard a.m) a.s.now)) a.s.now a.s_out.now (after-whole k) (row + n) (j + n) v.join_whole.new.out) (joins_whole (s_part a.standard) a.m a.s.now a.s_out.now s.requires.1.0.0 (values_from (s_part a.standard) ps (drop (first_of a.standard a.m) a.s.now)) a.standard q.cone (cone_of k) q.row
+          (after-whole k) (left l) row t n l.loop-rows.s_out v.join_whole.new.out (λ vs. refl) l.loop-rows.invariant.0 e (rows_whole k) h.0 (s_whole k)
           (by_same (λ (j : ℕ). written_at row (whole_values a.standard (part j (j + n) a.s.now)) l.loop-rows.s_out) v.join_whole.ensures (began b))),
-      from (λ (j : ℕ). Joins (z_part a.standard) a.m (values_from (z_part a.standard) ps (drop (first_of a.standard a.m) a.z.now)) a.z.now a.z_out.now (after-whole k) (row + n) (j + n) w.join_whole-in-Whole.new.out) (joins_whole (z_part a.standard) a.m a.z.now a.z_out.now s.pre.1.0.1 (values_from (z_part a.standard) ps (drop (first_of a.standard a.m) a.z.now)) a.standard q.cone (cone_of k) q.row
-          (after-whole k) (left l) row t n l.loop-rows.z_out w.join_whole-in-Whole.new.out (λ vs. refl) l.loop-rows.inv.1 e (rows_whole k) h.0 (z_whole k)
+      from (λ (j : ℕ). Joins (z_part a.standard) a.m (values_from (z_part a.standard) ps (drop (first_of a.standard a.m) a.z.now)) a.z.now a.z_out.now (after-whole k) (row + n) (j + n) w.join_whole-in-Whole.new.out) (joins_whole (z_part a.standard) a.m a.z.now a.z_out.now s.requires.1.0.1 (values_from (z_part a.standard) ps (drop (first_of a.standard a.m) a.z.now)) a.standard q.cone (cone_of k) q.row
+          (after-whole k) (left l) row t n l.loop-rows.z_out w.join_whole-in-Whole.new.out (λ vs. refl) l.loop-rows.invariant.1 e (rows_whole k) h.0 (z_whole k)
           (by_same (λ (j : ℕ). written_at row (whole_values a.standard (part j (j + n) a.z.now)) l.loop-rows.z_out) w.join_whole-in-Whole.ensures (began b))),
-      l.loop-rows.inv.2,
-      sum-next row n (cone_rows (whole_of k)) (rows_of (after-whole k)) (rows_of (left l)) a.m l.loop-rows.inv.3 (ap rows_of e) h.0,
+      l.loop-rows.invariant.2,
+      sum-next row n (cone_rows (whole_of k)) (rows_of (after-whole k)) (rows_of (left l)) a.m l.loop-rows.invariant.3 (ap rows_of e) h.0,
       from (λ (j : ℕ). j + n + block_row_count (after-whole k) ≡ length a.s.now)
-          (sum-next t n (cone_rows (whole_of k)) (block_row_count (after-whole k)) (block_row_count (left l)) (length a.s.now) l.loop-rows.inv.4 (ap block_row_count e) h.0),
-      rest-few (cone_rows (whole_of k)) (block_row_count (after-whole k)) (block_row_count (left l)) 262144 (ap block_row_count e) l.loop-rows.inv.5,
+          (sum-next t n (cone_rows (whole_of k)) (block_row_count (after-whole k)) (block_row_count (left l)) (length a.s.now) l.loop-rows.invariant.4 (ap block_row_count e) h.0),
+      rest-few (cone_rows (whole_of k)) (block_row_count (after-whole k)) (block_row_count (left l)) 262144 (ap block_row_count e) l.loop-rows.invariant.5,
       h.5,
-      l.loop-rows.inv.7,
-      l.loop-rows.inv.8,
+      l.loop-rows.invariant.7,
+      l.loop-rows.invariant.8,
       from (λ (j : ℕ). Starts a.standard a.map.now (l.loop-rows.entry + 1) (j + n) (block_sizes (after-whole k)))
           (subst (λ (r : ℕ). Starts a.standard a.map.now (l.loop-rows.entry + 1) (t + r) (block_sizes (after-whole k))) (sym h.0)
           (starts-next a.standard a.map.now l.loop-rows.entry t (row_count (cone_of k)) (block_sizes (after-whole k)) (starts-whole k))),
-      more_entries l.loop-rows.entry 1 q.cone k.met-1.given.0.1.0.cone l.loop-rows.inv.10 (lit≤ tt) h.4,
+      more_entries l.loop-rows.entry 1 q.cone k.met-1.given.0.1.0.cone l.loop-rows.invariant.10 (lit≤ tt) h.4,
     )
 
 enum-known-met-2 : tie.Need-enum_known-met-in-Cut-1 invariant-loop decreases-loop
@@ -382,10 +382,10 @@ cone-rows-requires : tie.Need-cone_rows-n-requires invariant-loop decreases-loop
 cone-rows-requires c κs = let h = knows_cut c in (h.1, h.2)
 
 slice-aggregate-join-cut : tie.Need-slice_bounds-join_cut-end invariant-loop decreases-loop
-slice-aggregate-join-cut c = sym (loop_of2 c.before.before.before.before.before).loop-rows.inv.7
+slice-aggregate-join-cut c = sym (loop_of2 c.before.before.before.before.before).loop-rows.invariant.7
 
 slice-aggregate-join-cut-2 : tie.Need-slice_bounds-join_cut-end-in-Cut invariant-loop decreases-loop
-slice-aggregate-join-cut-2 c = sym (loop_of2 c.before.before.before.before.before.before).loop-rows.inv.8
+slice-aggregate-join-cut-2 c = sym (loop_of2 c.before.before.before.before.before.before).loop-rows.invariant.8
 
 join-cut-requires : tie.Need-join_cut-t-requires invariant-loop decreases-loop
 join-cut-requires c κs =
@@ -398,16 +398,16 @@ join-cut-requires c κs =
     let n = r.cone_rows-n.result in (
       (h.1, h.2, r.cone_rows-n.ensures),
       (
-        (le_same (le_trans (rows_cut r) s.pre.1.0.0) l.loop-rows.inv.0.size, le_same (le_trans (rows_cut r) s.pre.1.0.1) l.loop-rows.inv.1.size),
+        (le_same (le_trans (rows_cut r) s.requires.1.0.0) l.loop-rows.invariant.0.size, le_same (le_trans (rows_cut r) s.requires.1.0.1) l.loop-rows.invariant.1.size),
         (
           (few-cut k, s_cut k, z_same s),
           (
             (
               counts-rows a.standard a.m n a.cones.now a.counts.now l.loop-rows.counts (pattern_of k) r.cone_rows-n.ensures (part-le l.loop-rows.row n a.m (rows_cut r)) h.2
-                  l.loop-rows.inv.2.0 (named-cut k) s.pre.1.0.2,
-              l.loop-rows.inv.2.1,
+                  l.loop-rows.invariant.2.0 (named-cut k) s.requires.1.0.2,
+              l.loop-rows.invariant.2.1,
             ),
-            ((le_of_eq (sym l.loop-rows.inv.7), le_of_eq (sym l.loop-rows.inv.8)), ((starts-cut k).0, few-entries l.loop-rows.entry l.loop-rows.place.cone l.loop-rows.inv.10 h.4)),
+            ((le_of_eq (sym l.loop-rows.invariant.7), le_of_eq (sym l.loop-rows.invariant.8)), ((starts-cut k).0, few-entries l.loop-rows.entry l.loop-rows.place.cone l.loop-rows.invariant.10 h.4)),
           ),
         ),
       ),
@@ -423,7 +423,7 @@ add-row-2 : tie.Need-overflow_add-row-in-Cut invariant-loop decreases-loop
 add-row-2 c =
     let r = sized (joined-cut c) in
     let s = start (loop_of2 (met_of r)) in
-    fits_count 8 (le_trans (rows_cut r) s.pre.1.0.0) s.good.1.1.1.1.1.1.1.1.0
+    fits_count 8 (le_trans (rows_cut r) s.requires.1.0.0) s.well_formed.1.1.1.1.1.1.1.1.0
 
 clique-count-requires : tie.Need-clique_count-requires invariant-loop decreases-loop
 clique-count-requires c κs = (knows_cut (met_of (sized (joined-cut c)))).1
@@ -434,7 +434,7 @@ cast-entry c = search rules
 add-entry-2 : tie.Need-overflow_add-entry-in-Cut invariant-loop decreases-loop
 add-entry-2 c =
     let k = met_of (sized (joined-cut c.before)) in
-    omega (arith, (loop_of2 k).loop-rows.inv.10, (knows_cut k).4, cliques-cut k, c.clique_count.ensures)
+    omega (arith, (loop_of2 k).loop-rows.invariant.10, (knows_cut k).4, cliques-cut k, c.clique_count.ensures)
 
 loop-less-2 : tie.Need-loop-rows-smaller invariant-loop decreases-loop
 loop-less-2 c = let k = met_of (sized (joined-cut c.before)) in shorter (cut_of k) (after-cut k) (left (loop_of2 k)) (met_cut k)
@@ -455,23 +455,23 @@ loop-again-2 c =
     let row = l.loop-rows.row in
     let t = l.loop-rows.t in
     let ps = joined_parts a.cones.now a.count a.words.now in (
-      joins_more (s_part a.standard) a.m a.s.now a.s_out.now s.pre.1.0.0 (values_from (s_part a.standard) ps (drop (first_of a.standard a.m) a.s.now)) (cut_of k) (after-cut k) (left l) row t
-          r.cone_rows-n.result w.result l.loop-rows.s_out w.last.1.1.1.1.1.1.1.1.1.1.0 l.loop-rows.inv.0 e (rows_cut r) w.ensures.0
+      joins_more (s_part a.standard) a.m a.s.now a.s_out.now s.requires.1.0.0 (values_from (s_part a.standard) ps (drop (first_of a.standard a.m) a.s.now)) (cut_of k) (after-cut k) (left l) row t
+          r.cone_rows-n.result w.result l.loop-rows.s_out w.new.s_out l.loop-rows.invariant.0 e (rows_cut r) w.ensures.0
           (length_s_cut a.standard p (drop t a.s.now) ∙ sym n) w.ensures.1.0,
-      joins_more (z_part a.standard) a.m a.z.now a.z_out.now s.pre.1.0.1 (values_from (z_part a.standard) ps (drop (first_of a.standard a.m) a.z.now)) (cut_of k) (after-cut k) (left l) row t
-          r.cone_rows-n.result w.result l.loop-rows.z_out w.last.1.1.1.1.1.1.1.1.1.1.1.0 l.loop-rows.inv.1 e (rows_cut r) w.ensures.0
+      joins_more (z_part a.standard) a.m a.z.now a.z_out.now s.requires.1.0.1 (values_from (z_part a.standard) ps (drop (first_of a.standard a.m) a.z.now)) (cut_of k) (after-cut k) (left l) row t
+          r.cone_rows-n.result w.result l.loop-rows.z_out w.new.z_out l.loop-rows.invariant.1 e (rows_cut r) w.ensures.0
           (length_z_cut a.standard p (drop t a.z.now) ∙ sym n) w.ensures.1.1.0,
-      (◌∙◌ {b = length l.loop-rows.counts} w.kept.counts l.loop-rows.inv.2.0, w.ensures.1.1.1),
-      sum-next row r.cone_rows-n.result (triangle p.vertex_count) (rows_of (after-cut k)) (rows_of (left l)) a.m l.loop-rows.inv.3 (ap rows_of e) n,
-      values-next t w.result (block_rows p) (block_row_count (after-cut k)) (block_row_count (left l)) (length a.s.now) l.loop-rows.inv.4 (ap block_row_count e) w.ensures.0,
-      rest-few (block_rows p) (block_row_count (after-cut k)) (block_row_count (left l)) 262144 (ap block_row_count e) l.loop-rows.inv.5,
+      (◌∙◌ {b = length l.loop-rows.counts} w.auto.counts l.loop-rows.invariant.2.0, w.ensures.1.1.1),
+      sum-next row r.cone_rows-n.result (triangle p.vertex_count) (rows_of (after-cut k)) (rows_of (left l)) a.m l.loop-rows.invariant.3 (ap rows_of e) n,
+      values-next t w.result (block_rows p) (block_row_count (after-cut k)) (block_row_count (left l)) (length a.s.now) l.loop-rows.invariant.4 (ap block_row_count e) w.ensures.0,
+      rest-few (block_rows p) (block_row_count (after-cut k)) (block_row_count (left l)) 262144 (ap block_row_count e) l.loop-rows.invariant.5,
       (knows_cut k).6,
-      ◌∙◌ {b = length l.loop-rows.offsets} w.kept.offsets l.loop-rows.inv.7,
-      ◌∙◌ {b = length l.loop-rows.vertices} w.kept.vertices l.loop-rows.inv.8,
+      ◌∙◌ {b = length l.loop-rows.offsets} w.auto.offsets l.loop-rows.invariant.7,
+      ◌∙◌ {b = length l.loop-rows.vertices} w.auto.vertices l.loop-rows.invariant.8,
       subst (λ (n : ℕ). Starts a.standard a.map.now (l.loop-rows.entry + n) w.result (block_sizes (after-cut k))) (sizes-count p ∙ sym count.ensures)
           (subst (λ (n : ℕ). Starts a.standard a.map.now (l.loop-rows.entry + length (down_sizes p)) n (block_sizes (after-cut k)))
           (ap (λ (n : ℕ). t + n) (sizes-sum p) ∙ sym w.ensures.0) (starts-cut k).1),
-      more_entries l.loop-rows.entry count.result l.loop-rows.place.cone k.met-in-Cut-1.given.0.1.0.cone l.loop-rows.inv.10 (same_le count.ensures (cliques-cut k)) (knows_cut k).5,
+      more_entries l.loop-rows.entry count.result l.loop-rows.place.cone k.met-in-Cut-1.given.0.1.0.cone l.loop-rows.invariant.10 (same_le count.ensures (cliques-cut k)) (knows_cut k).5,
     )
 
 enum_told : tie.Need-enum_told-1 invariant-loop decreases-loop
@@ -495,13 +495,13 @@ returns c =
     let ps = joined_parts a.cones.now a.count a.words.now in
     let none : left l ≡ [] = by_same (meets a.cones.now a.words.now l.loop-rows.place) {r = left l} r.next-met.ensures.0 c.enum_told-1.given.1 in
     let all : l.loop-rows.row ≡ a.m = sum_done l.loop-rows.row (rows_of (left l)) a.m l.loop-rows.invariant.3 (ap rows_of none) in
-    let j = s.pre.0 in (
+    let j = s.requires.0 in (
       by_same (λ (xs : List Float). written xs a.s_out.now)
-          (joins_done (s_part a.standard) a.m a.s.now a.s_out.now s.pre.1.0.0 (values_from (s_part a.standard) ps (drop (first_of a.standard a.m) a.s.now)) (left l) l.loop-rows.row l.loop-rows.t
+          (joins_done (s_part a.standard) a.m a.s.now a.s_out.now s.requires.1.0.0 (values_from (s_part a.standard) ps (drop (first_of a.standard a.m) a.s.now)) (left l) l.loop-rows.row l.loop-rows.t
           l.loop-rows.s_out l.loop-rows.invariant.0 none all)
           (joined_s a.standard j),
       by_same (λ (xs : List Float). written xs a.z_out.now)
-          (joins_done (z_part a.standard) a.m a.z.now a.z_out.now s.pre.1.0.1 (values_from (z_part a.standard) ps (drop (first_of a.standard a.m) a.z.now)) (left l) l.loop-rows.row l.loop-rows.t
+          (joins_done (z_part a.standard) a.m a.z.now a.z_out.now s.requires.1.0.1 (values_from (z_part a.standard) ps (drop (first_of a.standard a.m) a.z.now)) (left l) l.loop-rows.row l.loop-rows.t
           l.loop-rows.z_out l.loop-rows.invariant.1 none all)
           (joined_z a.standard j),
     )

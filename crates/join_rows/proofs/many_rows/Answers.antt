@@ -1,4 +1,3 @@
-
 use Rattle.join_rows.proofs.many_rows.Goals as goal
 
 pub returns-then-standard : goal.returns-then-standard

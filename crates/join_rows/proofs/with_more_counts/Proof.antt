@@ -20,7 +20,7 @@ join-parts-requires c κs =
     let t = c.before.before.before in
     let k = t.before in
     let s = start k in
-    (s.pre.0, ((s.pre.1.0.0, s.pre.1.0.1, counts_some s.args.standard s.args.m s.args.cones.now (subst T (sym (sym k.rows_few.ensures ∙ t.if-rows_few.true)) tt)), s.pre.1.1))
+    (s.requires.0, ((s.requires.1.0.0, s.requires.1.0.1, counts_some s.args.standard s.args.m s.args.cones.now (subst T (sym (sym k.rows_few.ensures ∙ t.if-rows_few.true)) tt)), s.requires.1.1))
 
 same_length : tie.Need-shape_of-s_out-then-rows_few
 same_length c = c.join_parts.auto.s_out
@@ -37,7 +37,7 @@ slice-aggregate-join-parts-2 c = filled-length {A = ℕ} 32896 0
 join-parts-requires-2 : tie.Need-join_parts-requires-2
 join-parts-requires-2 c κs =
     let s = start c.before.before.before.before in
-    (s.pre.0, ((s.pre.1.0.0, s.pre.1.0.1, counts-many s.args.standard s.args.m s.args.cones.now), s.pre.1.1))
+    (s.requires.0, ((s.requires.1.0.0, s.requires.1.0.1, counts-many s.args.standard s.args.m s.args.cones.now), s.requires.1.1))
 
 same-length-3 : tie.Need-shape_of-s_out
 same-length-3 c = c.join_parts-2.auto.s_out

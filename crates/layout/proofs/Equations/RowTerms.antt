@@ -8,7 +8,7 @@ use mathlib.Core.Bool.{Bool, true, false, not, cond}
 use mathlib.Core.List.{List, [], ◌∷◌, map}
 use lib.ListN.{length, get_or, set}
 use lib.Dec.{T, T_not, eqb, eqb→eq}
-use lib.IntN.{ℤ, pos, ◌+ℤ◌, ◌-ℤ◌, +ℤ_idl, +ℤ_idr, +ℤ_assoc}
+use lib.IntN.{ℤ, pos, ◌+ℤ◌, ◌-ℤ◌, +ℤ_idr, +ℤ_assoc}
 use lib.Ieee.{Float, nan, fits, binary64}
 use Rattle.layout.specs.General.Lists.{all, keep}
 use Rattle.layout.specs.General.Floats.{count, Doubles, exact_sum}

@@ -1,5 +1,5 @@
 -- The cone map's first rows and row counts: each entry starts where the one before it ends, its rows are its block's, and a joining that
--- walks over the entries gives what a walk over all augmented rows gives. The map's pattern numbers are below the no_pattern_lem mark.
+-- walks over the entries gives what a walk over all augmented rows gives. The map's pattern numbers are below the no-pattern mark.
 use Prim.Native.Nat.{ℕ, zero, suc, ◌+◌, ◌*◌, ◌≤◌, ◌<◌}
 use native.Mathlib.Nat.{not-suc-le-zero, le_of_suc-le-suc, le_refl}
 use native.Mathlib.Omega.{arith}
@@ -235,7 +235,7 @@ rows_word es k d l = sym (get_or-drop (5 * k) (map_words es) 4 0) ∙ ap (λ (ws
 
 -- ---- pattern numbers
 
--- every pattern number in the map is below the no_pattern_lem mark
+-- every pattern number in the map is below the no-pattern mark
 abbrev pub Told : List MapEntry → Type 0
 Told [] = Unit {0}
 Told (whole_cone i first rows ∷ es) = Told es

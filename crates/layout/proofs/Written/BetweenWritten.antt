@@ -1,5 +1,4 @@
 -- Limits of a right side on written outputs, from the contracts of the cut with limits and of the single cuts alone.
-use Prim.Native.Nat.{ℕ}
 use mathlib.Core.Path.{◌≡◌, sym, subst, ◌∙◌}
 use mathlib.Core.Bool.{cond}
 use mathlib.Core.List.{List}

@@ -1,6 +1,6 @@
 -- The joining: its refusal number, its result and its contract. It takes n, m, cone records and patterns, the solution and, on the compact
 -- route, the cone map.
-use Rattle.std.specs.Prelude.{ℕ, ◌+◌, Bool, true, cond, ◌&&◌, List, [], ◌∷◌, map, ◌≡◌, length, leb, eqb, Float}
+use Rattle.std.specs.Prelude.{ℕ, ◌+◌, Bool, true, cond, ◌&&◌, List, [], ◌∷◌, ◌≡◌, length, leb, eqb, Float}
 use Rattle.layout.specs.General.Lists.{all, same_numbers}
 use Rattle.layout.specs.General.Floats.{Doubles}
 use Rattle.layout.specs.Problems.Problem.{Route, standard, compact, Solution}

@@ -63,7 +63,7 @@ abbrev pub raised_map_entry : ℕ → ℕ → ℕ → MapEntry → MapEntry
 raised_map_entry k t a (whole_cone i first rows) = whole_cone (k + i) (a + first) rows
 raised_map_entry k t a (block_of i j c first rows) = block_of (k + i) (t + j) c (a + first) rows
 
--- the same on a cone map's words, five for each entry: the no_pattern_lem mark stays
+-- the same on a cone map's words, five for each entry: the no-pattern mark stays
 abbrev raised_number : ℕ → ℕ → ℕ
 raised_number t j = cond (eqb j no_pattern_number) no_pattern_number (t + j)
 

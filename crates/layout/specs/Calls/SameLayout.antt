@@ -1,5 +1,5 @@
 -- Same layout: checks 1 to 7 of the first problem, then of the second, then whether they agree in all but the values of P, q, A and b.
-use Rattle.std.specs.Prelude.{ℕ, Bool, cond, ◌&&◌, List, [], ◌∷◌, map, ◌≡◌, length, T, eqb}
+use Rattle.std.specs.Prelude.{ℕ, Bool, cond, ◌&&◌, List, [], ◌∷◌, ◌≡◌, length, T, eqb}
 use Rattle.layout.specs.General.Lists.{same_by, same_numbers}
 use Rattle.layout.specs.General.Floats.{same_bits}
 use Rattle.layout.specs.Problems.Problem.{Problem, Csc}

@@ -145,7 +145,7 @@ map_from first (x ∷ ps) = map_part first x ++ map_from (first + part_rows x) p
 abbrev pub cone_map : List Part → List MapEntry
 cone_map ps = map_from 0 ps
 
--- an entry's words: its cone, its pattern or the no_pattern_lem mark, its clique or 0, its first row, its row count
+-- an entry's words: its cone, its pattern or the no-pattern mark, its clique or 0, its first row, its row count
 abbrev pub no_pattern_number : ℕ
 no_pattern_number = 4294967295
 

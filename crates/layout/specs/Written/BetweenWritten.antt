@@ -1,5 +1,5 @@
 -- Limits of a right side: the outputs of the cut with limits compared with those of the cuts of single right sides.
-use Rattle.std.specs.Prelude.{ℕ, ◌≡◌, List, T, Float}
+use Rattle.std.specs.Prelude.{◌≡◌, List, T, Float}
 use Rattle.layout.specs.General.Floats.{Doubles}
 use Rattle.layout.specs.Problems.Problem.{Problem, with_b, compact}
 use Rattle.layout.specs.Checks.{refusal}

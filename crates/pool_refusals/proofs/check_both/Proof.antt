@@ -6,7 +6,7 @@ use Rattle.layout.specs.Problems.Problem.{Problem, problem}
 use Rattle.layout.specs.Calls.Answers.{problem_refusal}
 use Rattle.same_tables.proofs.Alike.{unchecked}
 use Rattle.pool_refusals.specs.Refusals.{second_refusal, both_refusal}
-use Rattle.check_problem-first.proofs.Order.{first-refused, next-given}
+use Rattle.check_problem.proofs.Order.{first-refused, next-given}
 use Rattle.pool_refusals.proofs.check_both.Statement.{statement}
 use Rattle.pool_refusals.proofs.check_both.Tie as tie
 

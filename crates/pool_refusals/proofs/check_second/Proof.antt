@@ -2,7 +2,7 @@ use mathlib.Core.Bool.{cond}
 use lib.Dec.{eqb}
 use Rattle.layout.specs.Problems.Problem.{Problem, problem}
 use Rattle.layout.specs.Calls.Answers.{problem_refusal}
-use Rattle.check_problem-checked.proofs.Order.{first-refused, next-given}
+use Rattle.check_problem.proofs.Order.{first-refused, next-given}
 use Rattle.pool_refusals.proofs.check_second.Statement.{statement}
 use Rattle.pool_refusals.proofs.check_second.Tie as tie
 

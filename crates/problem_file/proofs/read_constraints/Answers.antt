@@ -24,12 +24,16 @@ read_matrix-requires c =
     let room = c.requires.fact in
     let (n, low) = c.count_at-n.ensures in
     let (entries, _) = c.count_at-a.ensures in
-    let (rows, _) = c.count_at-m.ensures in record { first_bound = (omega arith, low); inside = (
-          inside-words ws ok 4 (c.count_at-n.result + 1) (suc (get_or ws 0 0)) (lit< tt) refl (omega (arith, n)),
-          inside-words ws ok 5 c.count_at-a.result (get_or ws 3 0) (lit< tt) refl entries,
-          inside-doubles ws ok 6 c.count_at-a.result (get_or ws 3 0) (lit< tt) refl entries,
-          inside-doubles ws ok 7 c.count_at-m.result (get_or ws 1 0) (lit< tt) refl rows,
-        ); n_in_bounds = (omega (arith, n, room.0), omega (arith, entries, room.1), omega (arith, entries, room.2), omega (arith, rows, room.3)) }
+    let (rows, _) = c.count_at-m.ensures in record {
+      first_bound = (omega arith, low);
+      inside = (
+        inside-words ws ok 4 (c.count_at-n.result + 1) (suc (get_or ws 0 0)) (lit< tt) refl (omega (arith, n)),
+        inside-words ws ok 5 c.count_at-a.result (get_or ws 3 0) (lit< tt) refl entries,
+        inside-doubles ws ok 6 c.count_at-a.result (get_or ws 3 0) (lit< tt) refl entries,
+        inside-doubles ws ok 7 c.count_at-m.result (get_or ws 1 0) (lit< tt) refl rows,
+      );
+      n_in_bounds = (omega (arith, n, room.0), omega (arith, entries, room.1), omega (arith, entries, room.2), omega (arith, rows, room.3));
+    }
 
 pub shape_of-starts_out : goal.shape_of-starts_out
 shape_of-starts_out c = c.read_matrix.auto.starts_out

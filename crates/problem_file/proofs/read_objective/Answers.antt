@@ -20,12 +20,16 @@ read_matrix-requires c =
     let ok = c.requires.well_shaped in
     let room = c.requires.fact in
     let (n, low) = c.count_at-n.ensures in
-    let (entries, _) = c.count_at-p.ensures in record { first_bound = (omega arith, low); inside = (
-          inside-words ws ok 0 (c.count_at-n.result + 1) (suc (get_or ws 0 0)) (lit< tt) refl (omega (arith, n)),
-          inside-words ws ok 1 c.count_at-p.result (get_or ws 2 0) (lit< tt) refl entries,
-          inside-doubles ws ok 2 c.count_at-p.result (get_or ws 2 0) (lit< tt) refl entries,
-          inside-doubles ws ok 3 c.count_at-n.result (get_or ws 0 0) (lit< tt) refl n,
-        ); n_in_bounds = (omega (arith, n, room.0), omega (arith, entries, room.1), omega (arith, entries, room.2), omega (arith, n, room.3)) }
+    let (entries, _) = c.count_at-p.ensures in record {
+      first_bound = (omega arith, low);
+      inside = (
+        inside-words ws ok 0 (c.count_at-n.result + 1) (suc (get_or ws 0 0)) (lit< tt) refl (omega (arith, n)),
+        inside-words ws ok 1 c.count_at-p.result (get_or ws 2 0) (lit< tt) refl entries,
+        inside-doubles ws ok 2 c.count_at-p.result (get_or ws 2 0) (lit< tt) refl entries,
+        inside-doubles ws ok 3 c.count_at-n.result (get_or ws 0 0) (lit< tt) refl n,
+      );
+      n_in_bounds = (omega (arith, n, room.0), omega (arith, entries, room.1), omega (arith, entries, room.2), omega (arith, n, room.3));
+    }
 
 pub shape_of-starts_out : goal.shape_of-starts_out
 shape_of-starts_out c = c.read_matrix.auto.starts_out

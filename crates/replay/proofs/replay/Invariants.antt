@@ -1,8 +1,8 @@
-use Prim.Native.Nat.{◌-◌, ◌≤◌}
+use Rattle.std.proofs.Common.{◌-◌, ◌≤◌}
 use Rattle.replay.proofs.replay.Given as goal
 
 abbrev pub invariant-loop-k : goal.invariant-loop-k
-invariant-loop-k l = l.k ≤ l.cases
+invariant-loop-k g l = l.k ≤ l.cases
 
 abbrev pub decreases-loop-k : goal.decreases-loop-k
-decreases-loop-k l = l.cases - l.k
+decreases-loop-k g l = l.cases - l.k

@@ -1,4 +1,3 @@
-
 use Rattle.reverse_standard.proofs.z_value.Goals as goal
 
 pub returns-then-standard : goal.returns-then-standard

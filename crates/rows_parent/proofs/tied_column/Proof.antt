@@ -26,7 +26,7 @@ start e = e.before.before.before.before.before.before
 found : (e : tie.Else-noted-eq0) → let s = start e in (noted s ≡ suc (noted s - 1)) × (noted s - 1 < 256)
 found e =
     let s = start e in
-    place-small (noted s) e.if-noted-eq0.false (s.pre.1.2.few (get_or s.args.vertices.now s.args.j 0))
+    place-small (noted s) e.if-noted-eq0.false (s.requires.1.2.few (get_or s.args.vertices.now s.args.j 0))
 
 mul-c : tie.Need-offset_bounds-vertices-j
 mul-c c = search rules
@@ -59,7 +59,7 @@ returns c =
     (own-column a.places.now a.vertices.now a.base a.start a.j s.requires.0.2 s.requires.0.0 r.if-noted-eq0.true)
 
 triangular-number-requires : tie.Need-triangular_number-requires
-triangular-number-requires c κs = let s = start c in column-small s.args.base (get_or s.args.vertices.now s.args.j 0) s.pre.1.0
+triangular-number-requires c κs = let s = start c in column-small s.args.base (get_or s.args.vertices.now s.args.j 0) s.requires.1.0
 
 -- the original rows of the column
 rows : (t : tie.After-triangular_number)
@@ -68,14 +68,14 @@ rows : (t : tie.After-triangular_number)
     Fits w32 row × (row + get_or s.args.vertices.now s.args.j 0 ≤ 65536)
 rows t =
     let s = start t.before in
-    row_small s.args.base (get_or s.args.vertices.now s.args.j 0) t.triangular_number.result s.pre.1.0 t.triangular_number.ensures
+    row_small s.args.base (get_or s.args.vertices.now s.args.j 0) t.triangular_number.result s.requires.1.0 t.triangular_number.ensures
 
 -- the rows of the parent's column
 parents : (u : tie.After-triangular_number-2) → 65536 + (start u.before.before).args.start + u.triangular_number-2.result ≤ 393216
 parents u =
     let e = u.before.before in
     let s = start e in
-    tied_small s.args.start (noted s - 1) u.triangular_number-2.result s.pre.1.1 (found e).1 u.triangular_number-2.ensures
+    tied_small s.args.start (noted s - 1) u.triangular_number-2.result s.requires.1.1 (found e).1 u.triangular_number-2.ensures
 
 add_row : tie.Need-overflow_add-row
 add_row c = (rows c).0
@@ -96,7 +96,7 @@ tied-entries-requires : tie.Need-tied_entries-requires
 tied-entries-requires c κs =
     let u = c.before in
     let s = start u.before.before in
-    (s.pre.0, ((rows u.before).1, parents u, s.pre.1.2))
+    (s.requires.0, ((rows u.before).1, parents u, s.requires.1.2))
 
 same-length-2 : tie.Need-shape_of-out
 same-length-2 c = search rules
@@ -112,7 +112,7 @@ returns-2 c =
     r.tied_entries.ensures
     ∙ ap (λ (xs : List ℕ). written xs a.out.now)
     (ap₂ (λ (n m : ℕ). map (tied_entry a.places.now (a.base + n) (65536 + a.start + m)) (column_pairs a.vertices.now a.j)) t.triangular_number.ensures u.triangular_number-2.ensures
-    ∙ tied_column_lem a.places.now a.vertices.now a.base a.start a.j s.pre.0.2 s.pre.0.0 s.pre.1.2 (noted s - 1) (found e).0)
+    ∙ tied_column_lem a.places.now a.vertices.now a.base a.start a.j s.requires.0.2 s.requires.0.0 s.requires.1.2 (noted s - 1) (found e).0)
 
 pub tied_column_spec : {M : Type 1} → statement M
 tied_column_spec =

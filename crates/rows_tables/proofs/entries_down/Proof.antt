@@ -80,7 +80,7 @@ row_is c =
 
 -- there is room for its map entry
 room : (i : tie.In-loop-left invariant-loop decreases-loop) → (i.loop-left.left - 1) * 5 + 5 ≤ length i.loop-left.out
-room i = omega (arith, i.loop-left.invariant.0, i.loop-left.invariant.3, (start i.before).pre.0.1, i.loop-left-test.true)
+room i = omega (arith, i.loop-left.invariant.0, i.loop-left.invariant.3, (start i.before).requires.0.1, i.loop-left-test.true)
 
 loop-holds : tie.Need-loop-left-init invariant-loop decreases-loop
 loop-holds c =
@@ -171,7 +171,7 @@ returns c =
     let full = down_words a.cone a.pattern 0 (base_of s) cs in
     let z : l.loop-left.left ≡ 0 = omega (arith, c.loop-left-test.false) in
     let count : length full ≡ a.count * 5 =
-    omega (arith, entries-length (entries_down a.cone a.pattern 0 (base_of s) cs), down-length a.cone a.pattern 0 (base_of s) cs, many-length read_clique a.count (drop a.first ws) s.pre.0.0) in (
+    omega (arith, entries-length (entries_down a.cone a.pattern 0 (base_of s) cs), down-length a.cone a.pattern 0 (base_of s) cs, many-length read_clique a.count (drop a.first ws) s.requires.0.0) in (
       refl,
       sym (ap (λ (n : ℕ). down_words a.cone a.pattern (a.count - n) (base_of s) (cliques_from ws l.loop-left.at n) ++ drop (n * 5) l.loop-left.out) z) ∙ l.loop-left.invariant.5
           ∙ ap (λ (n : ℕ). full ++ drop n a.out.now) (sym count),

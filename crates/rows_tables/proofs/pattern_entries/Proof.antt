@@ -29,16 +29,16 @@ module _ (k : tie.After-here-p) where
   here = let q = k.here-p.result in cliques_from start.args.words.now q.cliques q.clique_count
 
   pattern : given.cliques ≡ here
-  pattern = ap (λ (p : Pattern). p.cliques) (pattern_here start.args.words.now start.args.at _ start.pre.0.0 k.here-p.ensures.0 k.here-p.result refl)
+  pattern = ap (λ (p : Pattern). p.cliques) (pattern_here start.args.words.now start.args.at _ start.requires.0.0 k.here-p.ensures.0 k.here-p.result refl)
 
   count : clique_count given ≡ k.here-p.result.clique_count
-  count = cliques-count start.args.words.now start.args.at _ start.pre.0.0 k.here-p.ensures.0 k.here-p.result refl
+  count = cliques-count start.args.words.now start.args.at _ start.requires.0.0 k.here-p.ensures.0 k.here-p.result refl
 
   whole : let q = k.here-p.result in Whole start.args.words.now q.cliques q.clique_count
-  whole = cliques_here start.args.words.now start.args.at _ start.pre.0.0 k.here-p.ensures.0 k.here-p.result refl
+  whole = cliques_here start.args.words.now start.args.at _ start.requires.0.0 k.here-p.ensures.0 k.here-p.result refl
 
   small : all (block_at_most 256) here ≡ true
-  small = sym (ap (all (block_at_most 256)) pattern) ∙ blocks-small given 256 start.pre.0.0 start.pre.0.1
+  small = sym (ap (all (block_at_most 256)) pattern) ∙ blocks-small given 256 start.requires.0.0 start.requires.0.1
 
   -- the rows of their blocks
   rows : sum (map dim_of here) ≡ block_rows given
@@ -52,13 +52,13 @@ here-requires : tie.Need-here-p-requires
 here-requires c κs = let s = c.before.before in right-head s.args.words.now s.args.at s.requires.0.0.tree
 
 get-decomposed-dim-and-overlaps-requires : tie.Need-get_decomposed_dim_and_overlaps-blocks-requires
-get-decomposed-dim-and-overlaps-requires c κs = let s = start c in (s.pre.0.0, s.pre.0.1)
+get-decomposed-dim-and-overlaps-requires c κs = let s = start c in (s.requires.0.0, s.requires.0.1)
 
 cast-entries-down : tie.Need-overflow_cast-blocks
-cast-entries-down c = omega (arith, counted c.before, (start c.before.before).pre.0.2)
+cast-entries-down c = omega (arith, counted c.before, (start c.before.before).requires.0.2)
 
 add-entries-down : tie.Need-overflow_add-first
-add-entries-down c = omega (arith, counted c.before, (start c.before.before).pre.0.2)
+add-entries-down c = omega (arith, counted c.before, (start c.before.before).requires.0.2)
 
 entries-down-requires : tie.Need-entries_down-requires
 entries-down-requires c κs =

@@ -9,7 +9,7 @@ use Rattle.layout.specs.Calls.Answers.{or_else, problem_refusal}
 use Rattle.layout.specs.Calls.SameLayout.{same_layout}
 use Rattle.same_tables.proofs.Alike.{unchecked}
 use Rattle.same_layout.proofs.Agreement.{refused, no_room, answered}
-use Rattle.check_problem-first.proofs.Order.{first-refused, next-given}
+use Rattle.check_problem.proofs.Order.{first-refused, next-given}
 use Rattle.same_layout.proofs.same_layout.Statement.{statement}
 use Rattle.same_layout.proofs.same_layout.Tie as tie
 

@@ -3,7 +3,6 @@ use mathlib.Core.Path.{◌≡◌}
 use mathlib.Core.Bool.{◌&&◌}
 use lib.ListN.{length, drop}
 use Rattle.layout.specs.General.Lists.{same_numbers}
-
 use Rattle.same_tables.proofs.same_numbers.Given as goal
 
 -- `same` is whether the first i numbers are the same

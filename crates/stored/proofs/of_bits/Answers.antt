@@ -1,4 +1,4 @@
-use mathlib.Core.Path.{sym}
+use Rattle.std.proofs.Common.{sym}
 use lib.Ieee.{div, of_bits}
 use Rattle.stored.proofs.Floats.{nan_pattern, no_nan_pattern}
 use Rattle.stored.proofs.of_bits.Goals as goal

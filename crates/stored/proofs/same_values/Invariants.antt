@@ -1,8 +1,6 @@
-use Prim.Native.Nat.{◌-◌, ◌≤◌}
-use mathlib.Core.Path.{◌≡◌}
-use lib.ListN.{length, take, drop}
-use Rattle.stored.specs.Same.{alike_values}
+use Rattle.std.proofs.Common.{◌≡◌, ◌-◌, ◌≤◌, length, take, drop}
 use Rattle.layout.specs.General.Lists.{same_by}
+use Rattle.stored.specs.Same.{alike_values}
 use Rattle.stored.proofs.same_values.Given as goal
 
 abbrev pub invariant-loop-k : goal.invariant-loop-k

@@ -1,7 +1,4 @@
-use Prim.Native.Nat.{◌-◌, ◌≤◌}
-use mathlib.Core.Path.{◌≡◌}
-use lib.ListN.{length, take, drop}
-use lib.Dec.{eqb}
+use Rattle.std.proofs.Common.{◌≡◌, ◌-◌, ◌≤◌, length, take, drop, eqb}
 use Rattle.layout.specs.General.Lists.{same_by}
 use Rattle.stored.proofs.same_words.Given as goal
 

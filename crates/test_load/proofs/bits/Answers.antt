@@ -1,4 +1,4 @@
-use mathlib.Core.Path.{sym, ◌∙◌}
+use Rattle.std.proofs.Common.{sym, ◌∙◌}
 use Rattle.layout.proofs.Floats.Nans.{ne_self}
 use Rattle.test_load.proofs.bits.Goals as goal
 
