@@ -61,10 +61,10 @@ class Places:
         self.words = set()
         for home in ("crates", "include", "rust", "c", "compare", "python", "reference"):
             for folder, _, names in os.walk(ROOT / home):
-                if not re.search(r"/(target|__pycache__|data)\b", folder):
+                if not re.search(r"/(target|out|__pycache__|data)\b", folder):
                     for name in names:
                         if name.endswith((".antt", ".rt", ".rs", ".h", ".c", ".py", "run", "solve", "setup", "test", ".toml")):
-                            self.words.update(re.findall(r"[\w′₀₁₂-]+", open(os.path.join(folder, name), errors="replace").read()))
+                            self.words.update(re.findall(r"[\w'₀₁₂-]+", open(os.path.join(folder, name), errors="replace").read()))
                             self.words.update(re.findall(r"\w+", name))
 
     def defined(self, name, crate=None, files=None):
@@ -269,7 +269,7 @@ def check_links(page, text, places, report):
                 report(page, number, f"line {at} of {path} does not hold {label}")
     for number, line in enumerate(text.split("\n"), 1):
         for path in PATH.findall(line):
-            if not re.search(r"\b(NAME|FUNCTION|target)\b", path) and not (ROOT / path).exists():
+            if not re.search(r"\b(NAME|FUNCTION|target|out)\b", path) and not (ROOT / path).exists():
                 report(page, number, f"{path} is not there")
         for name in re.findall(r"(?<![\w/])[A-Z]{4,}\.md", line):
             if not any((ROOT / home / name).exists() for home in ("", "docs", os.path.dirname(page))):
@@ -322,7 +322,7 @@ def check_trust(places, report):
                 if path.split(".")[0] in places.crates and not path.startswith("layout.specs."):
                     report(file.shown, 0, f"uses {path}")
         for number, line in enumerate(file.lines, 1):
-            if re.match(r'\s*(pub )?axiom |\s*extern "C" \{', line):
+            if re.match(r'\s*(pub )?axiom |\s*(unsafe )?extern "C" \{', line):
                 report(file.shown, number, "an axiom or a foreign declaration")
 
 

@@ -51,8 +51,8 @@ class File:
 
     @property
     def is_function(self):
-        """Whether it proves one function, whose contract is then its statement."""
-        return self.module.endswith(".Proof")
+        """Whether it proves one function, whose contract is then its statement: a file in that function's folder, whose name is no module's."""
+        return self.part == "proofs" and bool(re.search(r"(^|\.)[a-z_+]\w*\.(Proof|Invariants|Answers)$", self.module))
 
     def head(self):
         """Returns the file's first comment, as one line; a list of names in it is left out."""
@@ -84,7 +84,7 @@ def imports(file):
         if not found:
             continue
         path, names, other = found.groups()
-        path = re.sub(r"^Rattle·(\w+)(·\w+)?\.", r"\1.", path)
+        path = path.removeprefix("Rattle.")
         for name in re.split(r", *", names) if names else []:
             file.imports[name.split(" as ")[-1].strip()] = path
         if other:
@@ -166,7 +166,7 @@ def read_source(file):
 def listed():
     """Returns the crates of crates.txt, in its order."""
     lines = (ROOT / "crates.txt").read_text().splitlines()
-    return [line.split(":")[0] for line in lines if ":" in line and not line.startswith("#")]
+    return [line.split(":")[0].split()[0] for line in lines if ":" in line and not line.startswith("#")]
 
 
 def read_all():

@@ -19,7 +19,7 @@ def dependencies():
     for line in (ROOT / "crates.txt").read_text().splitlines():
         if ":" in line and not line.startswith("#"):
             name, others = line.split(":")
-            listed[name] = others.split()
+            listed[name.split()[0]] = others.split()
     return {name: [d for d in others if d in listed] for name, others in listed.items()}
 
 
@@ -42,12 +42,12 @@ def functions(crates):
     bodies = {}
     for crate in crates:
         for file in sorted((ROOT / "crates" / crate / "src").glob("*.rt")):
-            text = re.sub(r"//[^\n]*|ghost use[^;]*;|(ensures|requires) \{.*?\}\n", "", file.read_text(), flags=re.S)
+            text = re.sub(r"//[^\n]*|ghost use[^;]*;|(ensures|requires)\*?(?: \w+)? \{.*?\}\n", "", file.read_text(), flags=re.S)
             brought = {}
             for use in re.finditer(r"^use (\w+)::(?:\{([^}]*)\}|(\w+));", text, re.M):
                 for item in (use.group(2) or use.group(3)).split(","):
                     brought[item.strip()] = use.group(1)
-            parts = re.split(r"^\s*(?:#\[no_mangle\]\s*)?(?:pub )?(?:extern \"C\" )?fn (\w+)", text, flags=re.M)
+            parts = re.split(r"^\s*(?:#\[[^\n]*\]\s*)?(?:pub )?(?:extern \"C\" )?fn (\w+)", text, flags=re.M)
             for name, body in zip(parts[1::2], parts[2::2]):
                 calls = bodies.setdefault((crate, name), [])
                 for of, called in re.findall(r"(?:(\w+)::)*(\w+)\(", body):

@@ -6,7 +6,7 @@ TOKEN = re.compile(r"[(){},;]|[^\s(){},;]+")
 INDEX_HEAD = """# Laws
 
 Every public law of the crates, file by file: its comment, and the first line of its statement, with `…` where the statement goes on. What stands
-under `given` has these parameters too. That a function meets its contract (proofs/FUNCTION/Proof.antt) is not listed: the contract stands above the
+under `given` has these parameters too. That a function meets its contract (the folder proofs/FUNCTION) is not listed: the contract stands above the
 function. Written by `docs/check.py --write`.
 """
 
@@ -80,14 +80,20 @@ def split_binders(tokens):
     return out, bound
 
 
+def head(token):
+    """Returns a token up to its first dot: the name of `p.rows` and of the binder `p.`, and nothing of a field alone."""
+    return token.split(".")[0] if token.strip(".") else token
+
+
 def plain(law, own):
     """Returns the law's statement, its module's parameters included, with bound names numbered and other names by their crates."""
     tokens, bound = split_binders(TOKEN.findall(law.telescope + " " + law.statement))
     bound, numbers, out, i = set(bound), {}, [], 0
-    counts = collections.Counter(t.rstrip(".") for t in tokens)
+    # a projection is written tight: `p.rows` is p, and a field of it
+    counts = collections.Counter(head(t) for t in tokens)
     while i < len(tokens):
         token = tokens[i]
-        name = token.rstrip(".") if token != "." else token
+        name = head(token)
         if token == "(" and i + 2 < len(tokens) and tokens[i + 2] == ":" and counts[tokens[i + 1]] == 1:
             depth, close = 1, i
             while depth:
@@ -97,10 +103,10 @@ def plain(law, own):
             continue
         if name in bound and not token.startswith("."):
             out.append("#%d" % numbers.setdefault(name, len(numbers)) + token[len(name):])
-        elif token in own:
+        elif name in own:
             out.append((law.file.shown if law.file.is_function else law.file.crate) + "." + token)
         else:
-            out.append(law.file.imports[token].split(".")[0] + "." + token if token in law.file.imports else token)
+            out.append(law.file.imports[name].split(".")[0] + "." + token if name in law.file.imports else token)
         i += 1
     return " ".join(out)
 
@@ -111,7 +117,7 @@ def repeated(files):
     for file in files:
         own = {item.name for item in file.items}
         for law in file.items:
-            if file.part == "proofs" and law.kind == "law" and not re.search(r"\btie\.|\bstatement\b", law.statement):
+            if file.part == "proofs" and law.kind == "law" and not re.search(r"\b(tie|goal)\.|\bstatement\b", law.telescope + " " + law.statement):
                 groups.setdefault(plain(law, own), []).append(law)
     return [laws for laws in groups.values() if len(laws) > 1]
 
@@ -156,12 +162,12 @@ def uncited(files, documents):
 
 MARKS = re.compile(r"(?:abbrev |unfoldable |pub )*")
 OPENED = re.compile(r"(?:unfoldable |pub |ghost )*use ([^\s{};]+?)(?:\.\{([^}]*)\}| as \S+?)?;?$")
-PATH = re.compile(r"Rattle·[^\s(){},;]+")
+PATH = re.compile(r"Rattle\.[^\s(){},;]+")
 
 
 def plain_path(path):
     """Returns a path with its crate first, as docs/crates.py has it."""
-    return re.sub(r"^Rattle·(\w+)(·\w+)?\.", r"\1.", path)
+    return path.removeprefix("Rattle.")
 
 
 def home_of(file):
@@ -217,7 +223,7 @@ def only_at_home(files, told):
         own.update((item.name, own[item.owner]) for item in file.items if item.kind == "case")
         public = [item for item in file.items if item.public and not item.owner]
         seen = [item for item in public if item.name in used[home_of(file)] or id(item) in told
-                or file.is_function and re.search(r"\bstatement\b", item.statement)]
+                or file.is_function and re.search(r"\bstatement\b|\bgoal\.", item.statement)]
         kept, done = {item.name for item in seen}, set()
         while seen:
             item = seen.pop()

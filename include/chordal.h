@@ -1,4 +1,4 @@
-/* The chordal cut and join of semidefinite problems: the calls of libdoor.a, which `rt staticlib door` makes.
+/* The chordal cut and join of semidefinite problems: the calls of libdoor.a, which `rt lib` makes in crates/door.
  *
  * CALLS
  * Each call returns 0 on success, and otherwise the number of the first check that fails; its outputs are then left

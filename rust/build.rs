@@ -1,4 +1,4 @@
-//! Links libdoor.a: the one in the folder that CHORDAL_DOOR_LIB names, or else the one that `rt staticlib door` makes.
+//! Links libdoor.a: the one in the folder that CHORDAL_DOOR_LIB names, or else the one that `rt lib` makes in crates/door.
 
 use std::path::{Path, PathBuf};
 use std::process::Command;
@@ -40,7 +40,7 @@ fn main() {
         let there = bytes.windows(call.len()).any(|part| part == call.as_bytes());
         assert!(there, "{} has no {call}", archive.display());
     }
-    // linked from a copy, which stays when target/ of the repository is removed
+    // linked from a copy, which stays when out/ of the crate is removed
     let here = PathBuf::from(env::var_os("OUT_DIR").unwrap());
     fs::write(here.join("libdoor.a"), bytes).unwrap();
     println!("cargo:rustc-link-search=native={}", here.display());
@@ -51,15 +51,22 @@ fn main() {
 fn made() -> PathBuf {
     let package = env::var_os("CARGO_MANIFEST_DIR").unwrap();
     let root = Path::new(&package).parent().unwrap();
-    for name in ["crates", "crates.txt"] {
-        println!("cargo:rerun-if-changed={}", root.join(name).display());
+    println!("cargo:rerun-if-changed={}", root.join("crates.txt").display());
+    // each crate's text, and not what is made from it in out/
+    for entry in fs::read_dir(root.join("crates")).unwrap() {
+        for part in ["src", "specs", "proofs"] {
+            let folder = entry.as_ref().unwrap().path().join(part);
+            if folder.is_dir() {
+                println!("cargo:rerun-if-changed={}", folder.display());
+            }
+        }
     }
-    match Command::new("rt").args(["staticlib", "door"]).current_dir(root).output() {
+    match Command::new("rt").arg("lib").current_dir(root.join("crates/door")).output() {
         Err(e) => panic!("rt: {e}; name the folder of a libdoor.a by CHORDAL_DOOR_LIB"),
         Ok(run) if !run.status.success() => {
             let said = [run.stdout, run.stderr].map(|text| String::from_utf8_lossy(&text).into_owned());
-            panic!("rt staticlib door has failed\n{}", said.concat())
+            panic!("rt lib has failed in crates/door\n{}", said.concat())
         }
-        Ok(_) => root.join("target/staticlib/libdoor.a"),
+        Ok(_) => root.join("crates/door/out/libdoor.a"),
     }
 }
