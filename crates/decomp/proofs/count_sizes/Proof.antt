@@ -14,7 +14,7 @@ use Rattle.layout.proofs.Checks.Accepted.{fits-u32, problem_checked}
 use Rattle.layout.proofs.Columns.Columns.{starts-right}
 use Rattle.layout.proofs.Promises.{output-kept}
 use Rattle.check_problem.specs.Counts.{Counts}
-use Rattle.decomp.proofs.Answers.{no-route, few-alphas}
+use Rattle.decomp.proofs.Answers.{no_route, few-alphas}
 use Rattle.decomp.proofs.Refusals.{stopped_early, stopped_late, by-room, accepted, counts_fit, sizes-written, sizes_said, handed_on, columns_added_lem}
 use Rattle.decomp.proofs.count_sizes.Statement.{statement}
 use Rattle.decomp.proofs.count_sizes.Tie as tie
@@ -32,7 +32,7 @@ refused-as-requires : tie.Need-refused_as-requires
 refused-as-requires c κs = tt
 
 returns : tie.Need-returns-then-route-gt-COMPACT
-returns c = handed_on c.IsRefused-as.ensures (λ z. absurd (omega arith)) (record { number = sym (no-route _ _ c.if-route-gt-COMPACT.true); out = refl })
+returns c = handed_on c.IsRefused-as.ensures (λ z. absurd (omega arith)) (record { number = sym (no_route _ _ c.if-route-gt-COMPACT.true); out = refl })
 
 count-problem-requires : tie.Need-count_problem-c-requires
 count-problem-requires c κs = tt

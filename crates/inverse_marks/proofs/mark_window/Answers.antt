@@ -46,8 +46,8 @@ returns-then-w-bit-ne0 c =
     elim c.if-x-window.branch [
       | then-x-window t ↦
           let met : has x (take i ws) ≡ true =
-              not-false _ (sym (seen c.args.window i ws c.loop-i.marks c.loop-i.invariant.1 c.loop-i.invariant.2 t.if-x-window.true)
-              ∙ ne_eqb _ 0 (rw t.bit-is at c.if-w-bit-ne0.true)) in
+          not-false _ (sym (seen c.args.window i ws c.loop-i.marks c.loop-i.invariant.1 c.loop-i.invariant.2 t.if-x-window.true)
+          ∙ ne_eqb _ 0 (rw t.bit-is at c.if-w-bit-ne0.true)) in
           sym (ap (λ (k : List ℕ). distinct (keep p k)) (split_more [] ws i (omega arith))
           ∙ old_more p (take i ws) x (drop (suc i) ws) (inside _ x t.if-x-window.true) met)
       | else-x-window e ↦ absurd (c.if-w-bit-ne0.true (ap (bit_and w) e.bit-is ∙ and_zero_r w))
@@ -63,8 +63,8 @@ loop-i-preserved c =
     elim c.if-x-window.branch [
       | then-x-window t ↦
           let new : has x (take i ws) ≡ false =
-              not-true _ (sym (seen c.args.window i ws c.loop-i.marks c.loop-i.invariant.1 c.loop-i.invariant.2 t.if-x-window.true)
-              ∙ eq-eqb _ 0 (rw t.bit-is at c.if-w-bit-ne0.false)) in (
+          not-true _ (sym (seen c.args.window i ws c.loop-i.marks c.loop-i.invariant.1 c.loop-i.invariant.2 t.if-x-window.true)
+          ∙ eq-eqb _ 0 (rw t.bit-is at c.if-w-bit-ne0.false)) in (
             omega arith,
             simp length-set c.loop-i.invariant.1,
             rw (t.bit-is, take_more [] ws i h) (flagged_more low c.loop-i.marks (take i ws) x (x % 8388608) (omega (arith, t.if-x-window.true)) (omega arith) c.loop-i.invariant.2),

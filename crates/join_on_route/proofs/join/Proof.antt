@@ -11,7 +11,7 @@ use Rattle.layout.specs.Calls.Join.{join_refusal}
 use Rattle.layout.proofs.Lists.Members.{all-at}
 use Rattle.layout.proofs.Promises.{rejoined-kept}
 use Rattle.join_rows.specs.Joined.{Joinable, joined_of}
-use Rattle.decomp.proofs.Answers.{no-route, on_route_lem}
+use Rattle.decomp.proofs.Answers.{no_route, on_route_lem}
 use Rattle.join_on_route.proofs.Order.{Accepted, as_layout, join-accepted, joined-parts, joined-scalars, by_number, tells}
 use Rattle.join_on_route.proofs.join.Statement.{statement}
 use Rattle.join_on_route.proofs.join.Tie as tie
@@ -27,7 +27,7 @@ s_doubles k =
 
 returns : tie.Need-returns-then-route-gt-COMPACT
 returns c = record {
-  number = sym (no-route _ _ c.if-route-gt-COMPACT.true);
+  number = sym (no_route _ _ c.if-route-gt-COMPACT.true);
   tables = record { x = refl; s = refl; z = refl; scalars = refl };
   doubles = s_doubles c.before;
 }

@@ -37,8 +37,11 @@ returns-in_default c =
 
 pub overflow_add-next : goal.overflow_add-next
 overflow_add-next c =
-    omega (arith, counted c.in-Is.cone (record_at c.args.cones.now c.loop-i.i) c.args.alphas.now c.loop-i.next c.alpha_count.result (omega arith)
-    (ap told (sym c.in-Is.is) ∙ c.read_with_alpha.ensures) c.alpha_count.ensures)
+    omega (
+      arith,
+      counted c.in-Is.cone (record_at c.args.cones.now c.loop-i.i) c.args.alphas.now c.loop-i.next c.alpha_count.result (omega arith)
+          (ap told (sym c.in-Is.is) ∙ c.read_with_alpha.ensures) c.alpha_count.ensures,
+    )
 
 pub loop-i-preserved : goal.loop-i-preserved
 loop-i-preserved c =

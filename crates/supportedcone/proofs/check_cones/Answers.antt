@@ -71,7 +71,7 @@ loop-i-preserved c =
       omega (arith, k, total_more row_count cs c.loop-i.i no_cone (omega arith)),
       omega (arith, k),
       c.loop-i.invariant.3 ∙ ap (λ (b : Bool). b && eqb (row_total cs) c.args.m)
-      (all-step reads cs c.loop-i.i no_cone (omega arith) (told_is c.in-Is.cone (record_at c.args.cones.now c.loop-i.i) _ read).0),
+          (all-step reads cs c.loop-i.i no_cone (omega arith) (told_is c.in-Is.cone (record_at c.args.cones.now c.loop-i.i) _ read).0),
     )
 
 pub returns-then-rows-m : goal.returns-then-rows-m
