@@ -387,7 +387,7 @@ module _ {cones : List ℕ} {count : ℕ} {ws : List ℕ} {next least left : ℕ
   passed_done none =
       let z : left ≡ 0 = omega arith in
       at_end next (length ws) h.inside
-      ∙ sym (passed_together ∙ ap (λ (k : ℕ). all_right cones least (read_patterns k (drop next ws))) z ∙ none_right cones least (drop next ws) ∙ ends_at [] ws next)
+      ∙ sym (passed_together ∙ ap (λ (k : ℕ). all_right cones least (read_patterns k (drop next ws))) z ∙ none_right cones least (drop next ws) ∙ ends_at {A = List Pattern} [] ws next)
 
   pub passed_same : {n l k : ℕ} → n ≡ next → l ≡ least → k ≡ left → PassedBefore cones count ws n l k
   passed_same {n} {l} {k} e f g =
@@ -508,7 +508,7 @@ pub going_done : (count : ℕ) (ws : List ℕ) (w : Walk) (left : ℕ) (r : Acce
     → w.next ≡ length ws → r.dim ≡ w.dim → r.cut ≡ w.cut → r.overlaps ≡ w.overlaps → r.cliques ≡ w.cliques → Summed (patterns count ws) r
 going_done count ws w left r z go e d c o k =
     let none : left ≡ 0 = omega arith in
-    let (ends, s) = go (ap (λ (k : ℕ). ends_right (read_patterns k (drop w.next ws))) none ∙ ends_at [] ws w.next ∙ le-leb (length ws) w.next (omega arith)) in
+    let (ends, s) = go (ap (λ (k : ℕ). ends_right (read_patterns k (drop w.next ws))) none ∙ ends_at {A = List Pattern} [] ws w.next ∙ le-leb (length ws) w.next (omega arith)) in
     let same = sym (patterns_start ws count ends) in (
       d ∙ sum_done block_rows ws w.next left w.dim _ z s.dim ∙ ap (λ (ps : List Pattern). sum (map block_rows ps)) same,
       c ∙ sum_done pattern_row_count ws w.next left w.cut _ z s.cut ∙ ap (λ (ps : List Pattern). sum (map pattern_row_count ps)) same,

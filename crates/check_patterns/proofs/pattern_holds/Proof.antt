@@ -41,9 +41,9 @@ here-requires c κs = (held c).head.stands
 
 separators-hold-requires : tie.Need-separators_hold-requires
 separators-hold-requires c κs =
-    let s = c.before.before.before.before.before.before.before.before.before.before.before.before.before.before.before.before in
+    let s = c in
     let h = c.here-p in
-    let v = held c.before.before.before in
+    let v = held c.before.before in
     let k = (v.vertices h.result h.ensures.0 h.ensures.1).1 in (
       (k.stand, le_trans (clique-room s.args.cones.now s.args.words.now s.args.w h.result h.ensures.0 v.head) (le_trans s.requires.0.1 (le_of_eq (sym c.vertices_hold.auto.offsets))), k.starts),
       ((omega (arith, h.ensures.1.0, h.ensures.1.1), h.ensures.1.2), s.requires.1.0),
@@ -60,10 +60,9 @@ same-length-5 c = c.separators_hold.auto.marks
 
 returns-2 : tie.Need-returns
 returns-2 c =
-    let t = c.before.before.before.before.before.before.before.before.before.before.before.before.before.before.before.before.before.before.before in
-    let s = t.args in
+    let s = c.args in
     let h = c.here-p in
-    let v = held c.before.before.before.before.before.before in
+    let v = held c.before.before.before.before.before in
     let k = v.vertices h.result h.ensures.0 h.ensures.1 in
     let ws = s.words.now in
     let holds : 0 < c.separators_hold.result.next → PatternHolds s.cones.now ws s.w c.separators_hold.result =
@@ -71,7 +70,7 @@ returns-2 c =
       agree _ _
           (λ z. pattern_passes s.cones.now ws s.w c.separators_hold.result (holds (ltb-true _ _ z)))
           (λ z. c.separators_hold.ensures.0
-          ∙ holds_fits s.cones.now s.w.least (drop s.w.next ws) (head_of ws h.result) (drop h.result.cliques ws) (sym h.ensures.0) z t.requires.1.1 (ordering-many ws s.w.next h.result h.ensures.1)),
+          ∙ holds_fits s.cones.now s.w.least (drop s.w.next ws) (head_of ws h.result) (drop h.result.cliques ws) (sym h.ensures.0) z c.requires.1.1 (ordering-many ws s.w.next h.result h.ensures.1)),
       λ z. (
         holds z,
         (c.vertices_hold.ensures.1 (not-false _ c.if-not-vertices_hold.false-raw)).1,

@@ -27,7 +27,7 @@ all_read c =
     cones-read s.args.m s.args.cones.now (sym c.check_cones.ensures ∙ c.if-check_cones-ne-DONE.false)
 
 returns : tie.Need-returns-then-not-join_bounded
-returns c = (c.IsRefused-as.ensures ∙ rw (sym c.join_bounded.ensures ∙ not-true _ c.if-not-join_bounded.true-raw), λ z. absurd (omega (arith, c.IsRefused-as.ensures)))
+returns c = (c.refused_as.ensures ∙ rw (sym c.join_bounded.ensures ∙ not-true _ c.if-not-join_bounded.true-raw), λ z. absurd (omega (arith, c.refused_as.ensures)))
 
 check-cones-requires : tie.Need-check_cones-requires
 check-cones-requires c κs =

@@ -105,9 +105,9 @@ returns-2 c =
     let e = c.before.before.before in
     let a = e.args in
     let w = e.patterns_hold-walk.result in (
-      c.IsRefused-as.ensures ∙ n.0
+      c.refused_as.ensures ∙ n.0
           ∙ sym (left-refused a.cones.now a.count a.words.now w.next w.least w.left (stopped e)),
-      λ z. absurd (omega (arith, n.1, c.IsRefused-as.ensures, z)),
+      λ z. absurd (omega (arith, n.1, c.refused_as.ensures, z)),
     )
 
 pub count_patterns_spec : {M : Type 1} → statement M

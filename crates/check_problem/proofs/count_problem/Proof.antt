@@ -55,8 +55,8 @@ returns : tie.Need-returns-then-tables-ne-DONE
 returns c =
     let s = c.before.before.before.before.before.before.before.before.before.before.before.before.before.before in
     let e = c.check_tables-tables.ensures in (
-      c.IsRefused-as.ensures ∙ e ∙ sym (by_lengths s ∙ (problem_order (given s)).0 (λ z. c.if-tables-ne-DONE.true (e ∙ z))),
-      λ z. absurd (c.if-tables-ne-DONE.true (sym c.IsRefused-as.ensures ∙ z)),
+      c.refused_as.ensures ∙ e ∙ sym (by_lengths s ∙ (problem_order (given s)).0 (λ z. c.if-tables-ne-DONE.true (e ∙ z))),
+      λ z. absurd (c.if-tables-ne-DONE.true (sym c.refused_as.ensures ∙ z)),
     )
 
 alphas-as-many-requires : tie.Need-alphas_as_many-requires

@@ -120,7 +120,7 @@ abbrev turn : tie.After-slice_known-in-loop-i-4-1 invariant-loop decreases-loop 
 turn c = c.before.before.before.before.before.before
 
 abbrev clique : tie.After-join_block-t invariant-loop decreases-loop → tie.After-clique_vertices-k invariant-loop decreases-loop
-clique k = k.before.before.before.before.before.before.before
+clique k = k.before.before.before.before.before.before
 
 loop-holds : tie.Need-loop-i-init invariant-loop decreases-loop
 loop-holds c =
@@ -164,12 +164,12 @@ slice-reshare-prefix-join-block c =
 
 slice-aggregate-join-block : tie.Need-slice_bounds-join_block-end-in-loop-i invariant-loop decreases-loop
 slice-aggregate-join-block c =
-    let v = c.before.before.before in
+    let v = c.before.before in
     v.clique_vertices-k.ensures.0 ∙ sym (ap length v.clique_vertices-k.ensures.1)
 
 join-block-requires : tie.Need-join_block-t-requires invariant-loop decreases-loop
 join-block-requires c κs =
-    let v = c.before.before.before.before.before.before in
+    let v = c.before.before.before.before.before in
     let i = at-clique v in
     let l = here i in
     let s = start l in

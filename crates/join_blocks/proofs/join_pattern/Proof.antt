@@ -253,12 +253,12 @@ slice-reshare-prefix-join-cliques-down c = room (filled c.before)
 
 slice-aggregate-join-cliques-down : tie.Need-slice_bounds-join_cliques_down-end-3
 slice-aggregate-join-cliques-down c =
-    let o = filled c.before.before in
+    let o = filled c.before in
     sym (length-take-le (head (read o)).clique_count (offsets o) (room o))
 
 join-cliques-down-requires : tie.Need-join_cliques_down-requires
 join-cliques-down-requires c κs =
-    let o = filled c.before.before.before.before.before.before in
+    let o = filled c.before.before.before.before.before in
     let h = read o in
     let s = start h in
     let a = s.args in
@@ -287,7 +287,7 @@ abbrev down : tie.After-slice_known-10-1 → tie.After-join_cliques_down
 down c = c.before.before.before.before.before.before.before.before
 
 abbrev table : tie.After-join_cliques_down → tie.After-clique_offsets
-table j = filled j.before.before.before.before.before.before.before
+table j = filled j.before.before.before.before.before.before
 
 same-length-5 : tie.Need-shape_of-s_out
 same-length-5 c = (down c).join_cliques_down.auto.s_out

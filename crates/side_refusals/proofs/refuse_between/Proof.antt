@@ -116,9 +116,9 @@ returns c =
     let k = c.before.before in
     let s = start k.before in
     let a = s.args in (
-      c.IsRefused-as.ensures
+      c.refused_as.ensures
           ∙ stopped_early (given s) a.low.now a.high.now (with_another a.high_room a.rooms.now) k.refuse_limits-t.result (ordered k) c.if-t-ne0.true,
-      λ z. absurd (c.if-t-ne0.true (sym c.IsRefused-as.ensures ∙ z)),
+      λ z. absurd (c.if-t-ne0.true (sym c.refused_as.ensures ∙ z)),
     )
 
 sides-right-requires : tie.Need-sides_right-c-requires

@@ -30,8 +30,8 @@ returns : tie.Need-returns-then-counted-ne0
 returns c =
     let k = c.before.before in
     let s = c.before.before.before.before.before.before.before.before.before.before.before.before.before.before.before in (
-      c.IsRefused-as.ensures ∙ stopped_count (given s) s.args.count s.args.sides.now k.check_count-counted.result k.check_count-counted.ensures c.if-counted-ne0.true s.args.rooms.now,
-      λ z. absurd (c.if-counted-ne0.true (sym c.IsRefused-as.ensures ∙ z)),
+      c.refused_as.ensures ∙ stopped_count (given s) s.args.count s.args.sides.now k.check_count-counted.result k.check_count-counted.ensures c.if-counted-ne0.true s.args.rooms.now,
+      λ z. absurd (c.if-counted-ne0.true (sym c.refused_as.ensures ∙ z)),
     )
 
 first-size-requires : tie.Need-first_size-size-requires

@@ -135,9 +135,9 @@ returns c =
     let k = c.before.before in
     let s = start k.before in
     let a = s.args in (
-      c.IsRefused-as.ensures
+      c.refused_as.ensures
           ∙ stopped_early (given s) a.count a.sides.now s.requires.0 s.requires.1 a.rooms.now k.refuse_lengths-t.result (ordered k) c.if-t-ne0.true,
-      λ z. absurd (c.if-t-ne0.true (sym c.IsRefused-as.ensures ∙ z)),
+      λ z. absurd (c.if-t-ne0.true (sym c.refused_as.ensures ∙ z)),
     )
 
 sides-right-requires : tie.Need-sides_right-c-requires
