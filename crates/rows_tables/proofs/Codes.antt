@@ -18,8 +18,6 @@ use Rattle.layout.proofs.Lists.Starts.{length-written}
 use Rattle.layout.proofs.Lists.Buffers.{written_next}
 use Rattle.rows_tables.specs.Tables.{whole_codes, cut_codes, part_codes, codes_from}
 use Rattle.rows_tables.proofs.Laws.{part-done}
-use denote.Enum.Declared.{tag_of}
-use Rattle.rows_tables.specs.contracts.Table.{the_type}
 use Rattle.rows_tables.specs.declared.Table.{Table}
 use Rattle.rows_tables.specs.declared.Table.TheVariants.{HRows, CutRows, StandardCones, CompactCones, ConeMap}
 
@@ -28,32 +26,16 @@ pub renamed : (codes xs : List ℕ) → codes ≡ xs → (r : ℕ) (old new : Li
     → (r ≡ length codes) × (new ≡ written codes old)
 renamed codes xs e r old new n w = (n ∙ sym (ap length e), w ∙ ap (λ (ys : List ℕ). written ys old) (sym e))
 
--- the number of a table's variant, which decides the words of an undecomposed cone
-abbrev tag : Table → ℕ
-tag table = tag_of the_type table
-
 module _ (first i : ℕ) (c : Cone) (row : ℕ) where
-  pub whole-rows : (table : Table) → (tag table ≡ 0) ⊎ (tag table ≡ 1) → whole_codes table first i c row ≡ up_from row (row_count c)
+  pub whole-rows : (table : Table) → (table ≡ HRows) ⊎ (table ≡ CutRows) → whole_codes table first i c row ≡ up_from row (row_count c)
   unfolding whole_codes
-  whole-rows HRows h = refl
-  whole-rows CutRows h = refl
-  whole-rows StandardCones (inl e) = absurd (omega (arith, e))
-  whole-rows StandardCones (inr e) = absurd (omega (arith, e))
-  whole-rows CompactCones (inl e) = absurd (omega (arith, e))
-  whole-rows CompactCones (inr e) = absurd (omega (arith, e))
-  whole-rows ConeMap (inl e) = absurd (omega (arith, e))
-  whole-rows ConeMap (inr e) = absurd (omega (arith, e))
+  whole-rows table (inl e) = ap (λ (t : Table). whole_codes t first i c row) e
+  whole-rows table (inr e) = ap (λ (t : Table). whole_codes t first i c row) e
 
-  pub whole_words : (table : Table) → (tag table ≡ 2) ⊎ (tag table ≡ 3) → whole_codes table first i c row ≡ cone_words c
+  pub whole_words : (table : Table) → (table ≡ StandardCones) ⊎ (table ≡ CompactCones) → whole_codes table first i c row ≡ cone_words c
   unfolding whole_codes
-  whole_words HRows (inl e) = absurd (omega (arith, e))
-  whole_words HRows (inr e) = absurd (omega (arith, e))
-  whole_words CutRows (inl e) = absurd (omega (arith, e))
-  whole_words CutRows (inr e) = absurd (omega (arith, e))
-  whole_words StandardCones h = refl
-  whole_words CompactCones h = refl
-  whole_words ConeMap (inl e) = absurd (omega (arith, e))
-  whole_words ConeMap (inr e) = absurd (omega (arith, e))
+  whole_words table (inl e) = ap (λ (t : Table). whole_codes t first i c row) e
+  whole_words table (inr e) = ap (λ (t : Table). whole_codes t first i c row) e
 
   pub whole-map : (table : Table) → table ≡ ConeMap → whole_codes table first i c row ≡ entry_words (whole_cone i first (row_count c))
   unfolding whole_codes

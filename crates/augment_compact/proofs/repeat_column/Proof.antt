@@ -63,11 +63,11 @@ part-gather-column-start-2 : tie.Need-slice_bounds-gather_column-start-2
 part-gather-column-start-2 c = omega arith
 
 part-gather-column-end-2 : tie.Need-slice_bounds-gather_column-end-2
-part-gather-column-end-2 c = let s = c.before.before.before.before.before.before.before.before.before.before.before in omega (arith, s.requires.1.1, c.repeat_rows.auto.rows_out)
+part-gather-column-end-2 c = let s = c.before.before.before.before.before.before.before.before.before.before in omega (arith, s.requires.1.1, c.repeat_rows.auto.rows_out)
 
 gather-column-requires : tie.Need-gather_column-requires
 gather-column-requires c κs =
-    let r = c.before.before.before.before.before in
+    let r = c.before.before.before.before in
     let s = r.before.before.before.before.before.before.before in
     rw (still r) (
       (s.requires.0.0, le_of_eq (size s ∙ sym (size-out s)), s.requires.0.1),
@@ -85,7 +85,7 @@ same-length-2 c =
 returns : tie.Need-returns
 returns c =
     let g = c.before.before in
-    let r = c.before.before.before.before.before.before.before.before in
+    let r = c.before.before.before.before.before.before.before in
     let s = r.before.before.before.before.before.before.before in
     let a = s.args in
     let stop = a.start + a.count in

@@ -24,7 +24,7 @@ room : {a b c k o p : ℕ} → a ≡ b → c ≡ k → p ≡ o → b + k ≤ o �
 room e f g h = rw (e, f, g) h
 
 write-place-requires : tie.Need-write_place-requires
-write-place-requires c κs = let s = c.before.before.before.before.before.before.before.before.before.before.before in (s.requires.1.0.0, s.requires.1.0.1.few)
+write-place-requires c κs = let s = c.before.before.before.before.before.before.before.before.before.before in (s.requires.1.0.0, s.requires.1.0.1.few)
 
 abbrev M : tie.Start → Csc
 M s = matrix s.args.starts.now s.args.rows.now s.args.values.now
@@ -50,35 +50,35 @@ last_start s = s.requires.0.2.1 s.args.n (le_refl s.args.n)
 
 write-columns-requires : tie.Need-write_columns-requires
 write-columns-requires c κs =
-    let s = c.before.before.before.before.before.before.before.before.before.before.before.before.before.before.before.before.before.before.before in (
+    let s = c.before.before.before.before.before.before.before.before.before.before.before.before.before.before.before.before.before in (
       s.requires.0,
       ((rw c.write_place.ensures s.requires.1.0.1, s.requires.1.0.2), (front (length (tied_rows 0 s.args.codes.now)) refl s.requires.1.1.0, front (2 * s.args.k) refl s.requires.1.1.1)),
     )
 
 mul-count : tie.Need-offset_bounds-run_starts-n
-mul-count c = let s = c.before.before.before.before.before.before.before.before.before.before.before.before.before.before.before.before.before.before.before.before.before.before.before.before.before.before.before.before in omega (arith, s.requires.0.2.0)
+mul-count c = let s = c.before.before.before.before.before.before.before.before.before.before.before.before.before.before.before.before.before.before.before.before.before.before.before.before.before.before in omega (arith, s.requires.0.2.0)
 
 shared-slice-read-count : tie.Need-bounds-run_starts-n
-shared-slice-read-count c = let s = c.before.before.before.before.before.before.before.before.before.before.before.before.before.before.before.before.before.before.before.before.before.before.before.before.before.before.before.before.before in s.requires.0.2.0
+shared-slice-read-count c = let s = c.before.before.before.before.before.before.before.before.before.before.before.before.before.before.before.before.before.before.before.before.before.before.before.before.before.before.before in s.requires.0.2.0
 
 cast-count : tie.Need-overflow_cast-count-2
 cast-count c = omega (arith, c.shared_slice_known-5-1.given c.args.n)
 
-abbrev columns : tie.After-write-overlaps-arg3 → tie.After-write_columns
-columns c = c.before.before.before.before.before.before.before.before.before.before.before.before
+abbrev columns : tie.After-write_overlaps-arg-2-1 → tie.After-write_columns
+columns c = c.before.before.before.before.before.before.before.before.before.before.before
 
 abbrev start : tie.After-write_columns → tie.Start
-start w = w.before.before.before.before.before.before.before.before.before.before.before.before.before.before.before.before.before.before.before.before
+start w = w.before.before.before.before.before.before.before.before.before.before.before.before.before.before.before.before.before.before
 
 write-overlaps-requires : tie.Need-write_overlaps-requires
 write-overlaps-requires c κs =
     let w = columns c in
     let s = start w in
-    let kept = w.write_columns.kept in
+    let kept = w.write_columns.auto in
     rw w.write_columns.ensures.1.1.0 (
-      room (last_start s) refl kept.0 s.pre.1.1.0,
-      room (last_start s) refl kept.1.0 s.pre.1.1.1,
-      s.pre.1.0.1.few,
+      room (last_start s) refl kept.rows_out s.requires.1.1.0,
+      room (last_start s) refl kept.values_out s.requires.1.1.1,
+      s.requires.1.0.1.few,
     )
 
 abbrev overlaps : tie.After-slice_known-12-1 → tie.After-write_overlaps
@@ -94,7 +94,7 @@ same-length-3 : tie.Need-shape_of-codes
 same-length-3 c = (columns (overlaps c).before).write_columns.auto.codes
 
 same-length-4 : tie.Need-shape_of-place
-same-length-4 c = (columns (overlaps c).before).before.before.before.before.before.before.before.before.write_place.auto.place
+same-length-4 c = (columns (overlaps c).before).write_place.auto.place
 
 same-length-5 : tie.Need-shape_of-chunks
 same-length-5 c = (columns (overlaps c).before).write_columns.auto.chunks
@@ -106,11 +106,11 @@ returns c =
     let s = start w in
     let e = w.write_columns.ensures in
     let count = get_or s.args.run_starts.now s.args.n 0 in
-    let tied : Behind count (tied_rows 0 s.args.codes.now) w.write_columns.last.0 (overlaps c).write_overlaps.new.rows_out =
-    subst (λ (codes : List ℕ). Behind count (tied_rows 0 codes) w.write_columns.last.0 (overlaps c).write_overlaps.new.rows_out) e.1.1.0 o.0 in (
-      tied (moved s).rows s.args.rows_out.now (last_start s ∙ sym (rows-count s)) (room (rows-count s) refl refl s.pre.1.1.0) e.0,
+    let tied : Behind count (tied_rows 0 s.args.codes.now) w.write_columns.new.rows_out (overlaps c).write_overlaps.new.rows_out =
+    subst (λ (codes : List ℕ). Behind count (tied_rows 0 codes) w.write_columns.new.rows_out (overlaps c).write_overlaps.new.rows_out) e.1.1.0 o.0 in (
+      tied (moved s).rows s.args.rows_out.now (last_start s ∙ sym (rows-count s)) (room (rows-count s) refl refl s.requires.1.1.0) e.0,
       (
-        o.1 (moved s).values s.args.values_out.now (last_start s ∙ sym (values-count s)) (room (values-count s) (length_pairs minus_one64 one64 s.args.k) refl s.pre.1.1.1) e.1.0,
+        o.1 (moved s).values s.args.values_out.now (last_start s ∙ sym (values-count s)) (room (values-count s) (length_pairs minus_one64 one64 s.args.k) refl s.requires.1.1.1) e.1.0,
         (e.1.1.0, (w.write_place.ensures, e.1.1.1)),
       ),
     )

@@ -262,7 +262,7 @@ rows-marked e =
 
 write-followers-requires : tie.Need-write_followers-d-requires
 write-followers-requires c κs =
-    let e = c.before.before.before in
+    let e = c.before.before in
     let f = e.before.before.before.before.before.before.before.before.before in
     let s = f.before.before.before.before.before.before.before.before.before.before.before.before.before.before.before.before.before.before in
     let a = s.args in (
@@ -277,20 +277,20 @@ write-followers-requires c κs =
     )
 
 mul-put-back : tie.Need-offset_bounds-rows-first
-mul-put-back c = let s = c.before.before.before.before.before.before.before.before.before.before.before.before.before.before.before.before.before.before.before.before.before.before.before.before.before.before.before.before.before.before.before.before.before.before.before.before in omega (arith, within s)
+mul-put-back c = let s = c.before.before.before.before.before.before.before.before.before.before.before.before.before.before.before.before.before.before.before.before.before.before.before.before.before.before.before.before.before.before.before.before.before.before.before in omega (arith, within s)
 
 sub-put-back : tie.Need-slice_bounds-put_back-count
-sub-put-back c = let s = c.before.before.before.before.before.before.before.before.before.before.before.before.before.before.before.before.before.before.before.before.before.before.before.before.before.before.before.before.before.before.before.before.before.before.before.before in (within s).1
+sub-put-back c = let s = c.before.before.before.before.before.before.before.before.before.before.before.before.before.before.before.before.before.before.before.before.before.before.before.before.before.before.before.before.before.before.before.before.before.before.before in (within s).1
 
 part-put-back-start : tie.Need-slice_bounds-put_back-start
-part-put-back-start c = let s = c.before.before.before.before.before.before.before.before.before.before.before.before.before.before.before.before.before.before.before.before.before.before.before.before.before.before.before.before.before.before.before.before.before.before.before.before in (within s).1
+part-put-back-start c = let s = c.before.before.before.before.before.before.before.before.before.before.before.before.before.before.before.before.before.before.before.before.before.before.before.before.before.before.before.before.before.before.before.before.before.before.before in (within s).1
 
 part-put-back-end : tie.Need-slice_bounds-put_back-end
-part-put-back-end c = let s = c.before.before.before.before.before.before.before.before.before.before.before.before.before.before.before.before.before.before.before.before.before.before.before.before.before.before.before.before.before.before.before.before.before.before.before.before in (within s).2
+part-put-back-end c = let s = c.before.before.before.before.before.before.before.before.before.before.before.before.before.before.before.before.before.before.before.before.before.before.before.before.before.before.before.before.before.before.before.before.before.before.before in (within s).2
 
 put-back-requires : tie.Need-put_back-requires
 put-back-requires c κs =
-    let e = c.before.before.before.before.before.before.before.before.before.before in
+    let e = c.before.before.before.before.before.before.before.before.before in
     let f = e.before.before.before.before.before.before.before.before.before in
     let s = f.before.before.before.before.before.before.before.before.before.before.before.before.before.before.before.before.before.before in
     let a = s.args in
@@ -316,7 +316,7 @@ returns-2 : tie.Need-returns
 returns-2 c =
     let b = c.before.before in
     let w = b.before.before.before.before.before.before.before in
-    let e = w.before.before.before.before in
+    let e = w.before.before.before in
     let f = e.before.before.before.before.before.before.before.before.before in
     let s = f.before.before.before.before.before.before.before.before.before.before.before.before.before.before.before.before.before.before in
     let a = s.args in

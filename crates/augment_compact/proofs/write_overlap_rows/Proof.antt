@@ -2,7 +2,6 @@ use Prim.Native.Nat.{◌≤◌, ◌<◌, ◌-◌, ◌+◌}
 use native.Mathlib.Omega.{arith}
 use mathlib.Core.List.{[], ◌∷◌, ◌++◌, append-nil}
 use mathlib.Core.Path.{◌≡◌, ap, sym, ◌∙◌}
-use mathlib.Core.Logic.{⊎_elim}
 use lib.ListN.{length, get_or, take, length-set, length-append}
 use lib.Seq.{take_all}
 use borrow.Author.Tests.{lt-ltb, le-ltb}
@@ -13,6 +12,7 @@ use Rattle.augment_compact.proofs.Steps.{tied_more, tied_le}
 use Rattle.augment_compact.specs.Cut.{tie, tied_rows}
 use Rattle.augment_compact.proofs.write_overlap_rows.Statement.{statement}
 use Rattle.augment_compact.proofs.write_overlap_rows.Tie as tie
+use Rattle.augment_compact.proofs.write_overlap_rows.Lts.{then-c-ge-FIRST_OVERLAP, else-c-ge-FIRST_OVERLAP}
 
 abbrev invariant-loop : tie.invariant-loop-r
 invariant-loop out₀ codes w₀ r₀ out w r =
@@ -89,24 +89,24 @@ loop-again c =
     let codes = a.codes.now in
     let r = l.loop-r.r in
     let done = tied_rows 0 (take r codes) in
-    ⊎_elim
-    (λ w.
-    let t : tie.Then-c-ge-FIRST_OVERLAP invariant-loop decreases-loop = record { before = c.before; if1 = w.0 } in
+    elim c.if-c-ge-FIRST_OVERLAP.branch [
+    | then-c-ge-FIRST_OVERLAP w ↦
+    let t : tie.Then-c-ge-FIRST_OVERLAP invariant-loop decreases-loop = record { before = c.before; if-c-ge-FIRST_OVERLAP = w.if-c-ge-FIRST_OVERLAP } in
     let e = more t in
     let n = ap length e ∙ length-append done ((get_or codes r 0 - 65536) ∷ r ∷ []) in (
       omega arith,
-      ap length w.1 ∙ simp length-set l.loop-r.invariant.1,
-      omega (arith, n, w.2, l.loop-r.invariant.2),
-      w.1 ∙ rw (l.loop-r.invariant.3, e) (two_more done a.out.now (get_or codes r 0 - 65536) r l.loop-r.w l.loop-r.invariant.2 (room t)),
-    ))
-    (λ w.
-    let e = rw (lt-ltb (get_or codes r 0) 65536 w.0.left, append-nil done) at (tied_more codes r (omega arith)) in (
+      ap length w.out-is ∙ simp length-set l.loop-r.invariant.1,
+      omega (arith, n, w.w-is, l.loop-r.invariant.2),
+      w.out-is ∙ rw (l.loop-r.invariant.3, e) (two_more done a.out.now (get_or codes r 0 - 65536) r l.loop-r.w l.loop-r.invariant.2 (room t)),
+    )
+    | else-c-ge-FIRST_OVERLAP w ↦
+    let e = rw (lt-ltb (get_or codes r 0) 65536 w.if-c-ge-FIRST_OVERLAP.false, append-nil done) at (tied_more codes r (omega arith)) in (
       omega arith,
-      ap length w.1 ∙ l.loop-r.invariant.1,
-      w.2 ∙ l.loop-r.invariant.2 ∙ ap length (sym e),
-      w.1 ∙ rw e l.loop-r.invariant.3,
-    ))
-    c.if-c-ge-FIRST_OVERLAP.branch
+      ap length w.out-is ∙ l.loop-r.invariant.1,
+      w.w-is ∙ l.loop-r.invariant.2 ∙ ap length (sym e),
+      w.out-is ∙ rw e l.loop-r.invariant.3,
+    )
+    ]
 
 same_length : tie.Need-shape_of-out invariant-loop decreases-loop
 same_length c = c.loop-r.invariant.1

@@ -67,13 +67,13 @@ mark-covered-requires c κs = let s = c.before.before.before.before.before.befor
 
 first-covered-requires : tie.Need-first_covered-right-requires
 first-covered-requires c κs =
-    let r = c.before.before.before in
+    let r = c.before.before in
     let s = start r in
     (λ k l. omega (arith, inside s k l, r.mark_covered.auto.covered), omega (arith, s.requires.1.0.1, s.requires.1.1.0, r.mark_covered.auto.covered))
 
 sides-covered-requires : tie.Need-sides_covered-further-requires
 sides-covered-requires c κs =
-    let r = c.before.before.before.before.before in
+    let r = c.before.before.before in
     let s = start r in
     (omega (arith, s.requires.1.1.0, r.mark_covered.auto.covered), s.requires.1.0.2)
 
@@ -82,7 +82,7 @@ same_length c = search rules
 
 returns : tie.Need-returns
 returns c =
-    let r = c.before.before.before.before.before.before in
+    let r = c.before.before.before.before in
     (c.first_covered-right.ensures ∙ first_test r, c.sides_covered-further.ensures ∙ further_test r)
 
 pub sides_right_by_spec : {M : Type 1} → statement M

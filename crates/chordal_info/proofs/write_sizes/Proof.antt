@@ -1,6 +1,5 @@
 use Prim.Native.Nat.{ℕ, ◌+◌, ◌*◌, ◌≤◌}
 use mathlib.Core.Path.{◌≡◌, ap, subst, ◌∙◌}
-use mathlib.Core.Logic.{⊎_elim}
 use mathlib.Core.List.{List}
 use lib.Dec.{T}
 use Rattle.layout.specs.General.Lists.{written}
@@ -14,6 +13,7 @@ use native.Mathlib.Omega.{arith}
 use borrow.Author.Rules.{rules}
 use Rattle.chordal_info.proofs.write_sizes.Statement.{statement}
 use Rattle.chordal_info.proofs.write_sizes.Tie as tie
+use Rattle.chordal_info.proofs.write_sizes.Lts.{then-route-eq-STANDARD, else-route-eq-STANDARD}
 
 few : (s : tie.Start) → s.args.rows ≤ 262144
 few s = rows_few (route_of s.args.route) s.args.m s.args.rows s.args.overlaps s.requires.1.2
@@ -29,7 +29,10 @@ tall c =
 short : (j : tie.Joined-route-eq-STANDARD) → j.if-route-eq-STANDARD.added ≤ 262144
 short j =
     let s = j.before.before in
-    ⊎_elim (λ w. omega (arith, w.1, few s)) (λ w. omega (arith, w.1, few s, s.requires.1.3)) j.if-route-eq-STANDARD.branch
+    elim j.if-route-eq-STANDARD.branch [
+      | then-route-eq-STANDARD w ↦ omega (arith, w.added-is, few s)
+      | else-route-eq-STANDARD w ↦ omega (arith, w.added-is, few s, s.requires.1.3)
+    ]
 
 -- the computed lengths are those of the route
 lengths : (j : tie.Joined-route-eq-STANDARD)
@@ -39,12 +42,12 @@ lengths : (j : tie.Joined-route-eq-STANDARD)
     ≡ route_sizes (route_of a.route) a.n a.m a.p_entries a.a_entries a.alphas a.rows a.overlaps a.cones
 lengths j =
     let a = j.args in
-    ⊎_elim
-    (λ w. lengths_standard a.n a.m a.p_entries a.a_entries a.alphas a.rows a.overlaps a.cones
-    (route_standard a.route w.0.taken) w.1 w.2 w.3 w.4)
-    (λ w. lengths_compact a.n a.m a.p_entries a.a_entries a.alphas a.rows a.overlaps a.cones
-    (route_compact a.route w.0.left) w.1 w.2 w.3 w.4)
-    j.if-route-eq-STANDARD.branch
+    elim j.if-route-eq-STANDARD.branch [
+      | then-route-eq-STANDARD w ↦ lengths_standard a.n a.m a.p_entries a.a_entries a.alphas a.rows a.overlaps a.cones
+        (route_standard a.route w.if-route-eq-STANDARD.true) w.added-is w.b-is w.cone_words-is w.map_words-is
+      | else-route-eq-STANDARD w ↦ lengths_compact a.n a.m a.p_entries a.a_entries a.alphas a.rows a.overlaps a.cones
+        (route_compact a.route w.if-route-eq-STANDARD.false) w.added-is w.b-is w.cone_words-is w.map_words-is
+    ]
 
 cast-added : tie.Need-overflow_cast-added
 cast-added c = omega (arith, few c.before)

@@ -1,21 +1,16 @@
-use native.Mathlib.Omega.{arith}
-use lib.ListN.{length-set}
+use Prim.Native.Nat.{ℕ}
+use mathlib.Core.Path.{ap}
+use mathlib.Core.List.{List, ◌++◌}
+use lib.ListN.{drop}
 use Rattle.compact_file.proofs.Laws.{digit_written, digits_written}
 use Rattle.compact_file.proofs.refuse.Goals as goal
 
-pub bounds-out-9 : goal.bounds-out-9
-bounds-out-9 c = simp length-set (omega (arith, c.requires.1, c.copy.auto.1.0))
-
 pub returns-then-number-lt10 : goal.returns-then-number-lt10
 returns-then-number-lt10 c =
-    digit_written c.args.number c.args.out.now c.if-number-lt10.true c.requires.1 c.copy.ensures.1
-
-pub bounds-out-9-2 : goal.bounds-out-9-2
-bounds-out-9-2 c = simp length-set (omega (arith, c.requires.1, c.copy.auto.1.0))
-
-pub bounds-out-10 : goal.bounds-out-10
-bounds-out-10 c = simp length-set (omega (arith, c.requires.1, c.copy.auto.1.0))
+    let old = c.args.out.now in
+    digit_written c.args.number old c.if-number-lt10.true c.requires.1 (ap (λ (l : List ℕ). l ++ drop 8 old) c.copy_from_slice.ensures.after)
 
 pub returns : goal.returns
 returns c =
-    digits_written c.args.number c.args.out.now c.if-number-lt10.false c.requires.1 c.copy.ensures.1
+    let old = c.args.out.now in
+    digits_written c.args.number old c.if-number-lt10.false c.requires.1 (ap (λ (l : List ℕ). l ++ drop 8 old) c.copy_from_slice.ensures.after)

@@ -29,7 +29,7 @@ codes : (w : tie.After-write_sides)
     → let s = start w in
     (take s.args.rows (table w) ≡ map cut_code (compact_rows (joined_parts s.args.cones.now s.args.count s.args.words.now)))
     × (s.args.rows ≤ length (table w))
-codes w = let s = start w in coded s.pre.0.accepted s.pre.0.blocks (few s) w.write_sides.ensures.0
+codes w = let s = start w in coded s.requires.0.accepted s.requires.0.blocks (few s) w.write_sides.ensures.0
 
 write-starts-requires : tie.Need-write_starts-requires
 write-starts-requires c κs =
@@ -74,11 +74,11 @@ slice-aggregate-write-entries-3 c =
 
 write-entries-requires : tie.Need-write_entries-requires
 write-entries-requires c κs =
-    let w = c.before.before.before.before.before.before.before.before.before.before.before in
+    let w = c.before.before.before.before.before.before.before.before.before.before in
     let s = start w in
     let a = s.args in
-    let f = s.pre.0 in
-    (columns_right f.accepted a.k a.a_starts_out.now f.starts c.write_starts.ensures, placeable f.accepted f.blocks 2048 32 a.k (length a.a_rows_out.now) (length a.a_values_out.now) (codes w).0 s.pre.1.1.1 (few s) (lit≤ tt) f.overlaps f.entries f.values)
+    let f = s.requires.0 in
+    (columns_right f.accepted a.k a.a_starts_out.now f.starts c.write_starts.ensures, placeable f.accepted f.blocks 2048 32 a.k (length a.a_rows_out.now) (length a.a_values_out.now) (codes w).0 s.requires.1.1.1 (few s) (lit≤ tt) f.overlaps f.entries f.values)
 
 same_length : tie.Need-shape_of-a_starts_out
 same_length c = c.write_starts.auto.out
@@ -97,10 +97,10 @@ same-length-5 c = c.write_sides.auto.others_out
 
 returns : tie.Need-returns
 returns c =
-    let w = c.before.before.before.before.before.before.before.before.before.before.before.before.before.before.before.before.before.before.before in
+    let w = c.before.before.before.before.before.before.before.before.before.before.before.before.before.before.before.before.before.before in
     let s = start w in
     let a = s.args in
-    let f = s.pre.0 in
+    let f = s.requires.0 in
     let A = matrix a.a_starts.now a.a_rows.now a.a_values.now in
     let moved = c.write_entries.ensures in
     let sides = w.write_sides.ensures.1 in (

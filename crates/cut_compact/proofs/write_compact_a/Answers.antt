@@ -1,7 +1,7 @@
 use Rattle.cut_compact.proofs.write_compact_a.Goals as goal
 
 pub with_large_tables-requires : goal.with_large_tables-requires
-with_large_tables-requires c = (let it = c.requires in record { fact = it.0; movable_sides = it.1 })
+with_large_tables-requires c = record { fact = c.requires.fact; movable_sides = c.requires.movable_sides }
 
 pub shape_of-a_starts_out-then-rows-gt2048 : goal.shape_of-a_starts_out-then-rows-gt2048
 shape_of-a_starts_out-then-rows-gt2048 c = c.with_large_tables.auto.a_starts_out
@@ -22,7 +22,7 @@ pub returns-then-rows-gt2048 : goal.returns-then-rows-gt2048
 returns-then-rows-gt2048 c = c.with_large_tables.ensures
 
 pub with_large_tables-requires-then-m-gt2048 : goal.with_large_tables-requires-then-m-gt2048
-with_large_tables-requires-then-m-gt2048 c = (let it = c.requires in record { fact = it.0; movable_sides = it.1 })
+with_large_tables-requires-then-m-gt2048 c = record { fact = c.requires.fact; movable_sides = c.requires.movable_sides }
 
 pub shape_of-a_starts_out-then-m-gt2048 : goal.shape_of-a_starts_out-then-m-gt2048
 shape_of-a_starts_out-then-m-gt2048 c = c.with_large_tables-then-m-gt2048.auto.a_starts_out

@@ -28,7 +28,7 @@ filled w = w.write_table.new.out
 
 -- the codes are a prefix of the table
 taken : (w : tie.After-write_table) → (take (start w).args.rows (filled w) ≡ codes (start w)) × ((start w).args.rows ≤ length (filled w))
-taken w = let s = start w in front (codes s) s.args.table.now (count s) s.pre.1.0.2 w.write_table.ensures.1
+taken w = let s = start w in front (codes s) s.args.table.now (count s) s.requires.1.0.2 w.write_table.ensures.1
 
 -- the precondition of the writer of right sides, for either list
 movable : (w : tie.After-write_table) (sides : List Float) (n : ℕ) (out : List Float)
@@ -38,7 +38,7 @@ movable : (w : tie.After-write_table) (sides : List Float) (n : ℕ) (out : List
 movable w sides n out fit =
     let s = start w in
     subst (λ (cs : List ℕ). (n * length cs ≤ length out) × (n * s.args.m ≤ length sides) × RowsInside s.args.m cs) (sym (taken w).0)
-    (subst (λ (k : ℕ). n * k ≤ length out) (count s) fit.0, fit.1, s.pre.1.1.0)
+    (subst (λ (k : ℕ). n * k ≤ length out) (count s) fit.0, fit.1, s.requires.1.1.0)
 
 write-table-requires : tie.Need-write_table-requires
 write-table-requires c κs =
@@ -50,28 +50,28 @@ slice-reshare-prefix-move-sides c = (taken c.before.before.before).1
 
 slice-aggregate-move-sides : tie.Need-slice_bounds-move_sides-end-2
 slice-aggregate-move-sides c =
-    let w = c.before.before.before.before in
+    let w = c.before.before.before in
     sym (length-take-le (start w).args.rows (filled w) (taken w).1)
 
 move-sides-requires : tie.Need-move_sides-requires
 move-sides-requires c κs =
-    let w = c.before.before.before.before in
+    let w = c.before.before.before in
     let s = start w in
-    movable w s.args.sides.now s.args.side_count s.args.sides_out.now s.pre.1.1.1.0
+    movable w s.args.sides.now s.args.side_count s.args.sides_out.now s.requires.1.1.1.0
 
 slice-reshare-prefix-move-sides-2 : tie.Need-slice_bounds-move_sides-end-3
-slice-reshare-prefix-move-sides-2 c = (taken c.before.before.before.before.before.before.before.before).1
+slice-reshare-prefix-move-sides-2 c = (taken c.before.before.before.before.before.before.before).1
 
 slice-aggregate-move-sides-2 : tie.Need-slice_bounds-move_sides-end-4
 slice-aggregate-move-sides-2 c =
-    let w = c.before.before.before.before.before.before.before.before.before in
+    let w = c.before.before.before.before.before.before.before in
     sym (length-take-le (start w).args.rows (filled w) (taken w).1)
 
 move-sides-requires-2 : tie.Need-move_sides-requires-2
 move-sides-requires-2 c κs =
-    let w = c.before.before.before.before.before.before.before.before.before in
+    let w = c.before.before.before.before.before.before.before in
     let s = start w in
-    movable w s.args.others.now s.args.other_count s.args.others_out.now s.pre.1.1.1.1
+    movable w s.args.others.now s.args.other_count s.args.others_out.now s.requires.1.1.1.1
 
 same_length : tie.Need-shape_of-table
 same_length c = c.write_table.auto.out
@@ -84,7 +84,7 @@ same-length-3 c = c.move_sides-2.auto.out
 
 returns : tie.Need-returns
 returns c =
-    let w = c.before.before.before.before.before.before.before.before.before.before.before.before in
+    let w = c.before.before.before.before.before.before.before.before.before.before in
     let a = (start w).args in
     (w.write_table.ensures.1, (renamed a.sides_out.now (ap (λ (cs : List ℕ). moved_sides a.m cs a.sides.now a.side_count) (taken w).0) c.move_sides.ensures, renamed a.others_out.now (ap (λ (cs : List ℕ). moved_sides a.m cs a.others.now a.other_count) (taken w).0) c.move_sides-2.ensures))
 

@@ -1,8 +1,6 @@
 use lib.Ieee.{of_bits}
 use Rattle.cut_standard.proofs.write_objective.Goals as goal
 
-}
-
 pub extend_starts-requires : goal.extend_starts-requires
 extend_starts-requires c =
     record { t = c.requires.right; k_in_bounds = c.requires.starts }
@@ -42,3 +40,4 @@ returns c = record {
   p_values = c.copy_values.ensures;
   q = c.extend_values.ensures;
   alphas = c.copy_values-2.ensures;
+}

@@ -32,7 +32,7 @@ refused-as-requires : tie.Need-refused_as-requires
 refused-as-requires c κs = tt
 
 returns : tie.Need-returns-then-route-gt-COMPACT
-returns c = handed_on c.IsRefused-as.ensures (λ z. absurd (omega arith)) (record { number = sym (no_route _ _ c.if-route-gt-COMPACT.true); out = refl })
+returns c = handed_on c.refused_as.ensures (λ z. absurd (omega arith)) (record { number = sym (no_route _ _ c.if-route-gt-COMPACT.true); out = refl })
 
 count-problem-requires : tie.Need-count_problem-c-requires
 count-problem-requires c κs = tt

@@ -41,7 +41,7 @@ roomy : (c : tie.Else-out-header) → let s = c.before.before.before.before.befo
 roomy c = let s = c.before.before.before.before.before.before.before.before.before.before.before.before.before.before.before.before.before.before in subst (λ (k : ℕ). k ≤ length s.args.out.now) (said c.before.before) c.if-out-header.false
 
 check-lengths-requires : tie.Need-check_lengths-refused-requires
-check-lengths-requires c κs = tt
+check-lengths-requires c κs = search rules
 
 returns : tie.Need-returns-then-refused-ne-DONE
 returns c =

@@ -29,11 +29,11 @@ slice-reshare-prefix-count-columns c =
     omega (arith, d.draw_rows-d.ensures.0.1, rows_few (drawn_ordering s.args.seed s.args.v) s.args.v s.args.w s.requires.1, d.draw_rows-d.auto.rows, s.requires.3)
 
 slice-aggregate-count-columns : tie.Need-slice_bounds-count_columns-end-2
-slice-aggregate-count-columns c = let d = c.before.before.before in d.draw_rows-d.ensures.0.1 ∙ sym (ap length (front d))
+slice-aggregate-count-columns c = let d = c.before.before in d.draw_rows-d.ensures.0.1 ∙ sym (ap length (front d))
 
 count-columns-requires : tie.Need-count_columns-requires
 count-columns-requires c κs =
-    let d = c.before.before.before in
+    let d = c.before.before in
     let s = d.before.before.before in
     (omega (arith, ap length (front d), rows_few (drawn_ordering s.args.seed s.args.v) s.args.v s.args.w s.requires.1), s.requires.2)
 
@@ -42,7 +42,7 @@ same_length c = search rules
 
 returns : tie.Need-returns
 returns c =
-    let d = c.before.before.before.before in
+    let d = c.before.before.before in
     let n = d.args.n in
     c.count_columns.ensures
     ∙ ap₂ (λ (s : ℕ) (rs : List ℕ). sum (map length (drawn_columns s rs n))) d.draw_rows-d.ensures.0.0 (front d)

@@ -47,7 +47,7 @@ few-rows d =
     let s = start d in
     let (_, few, _, _, _, _) = bounds s in
     let h = rows_few (drawn_ordering s.args.seed s.args.v) s.args.v s.args.w few in
-    (omega (arith, h, d.draw_rows-d.ensures.0.1, d.draw_rows-d.auto.rows, s.pre.0.1), omega (arith, h, d.draw_rows-d.ensures.0.1))
+    (omega (arith, h, d.draw_rows-d.ensures.0.1, d.draw_rows-d.auto.rows, s.requires.0.1), omega (arith, h, d.draw_rows-d.ensures.0.1))
 
 low : (t : tie.After-triangular_number-m) → Below t.triangular_number-m.result (rows (drawn t))
 low t =
@@ -74,20 +74,20 @@ slice-reshare-prefix-write-once : tie.Need-slice_bounds-write_once-end
 slice-reshare-prefix-write-once c = (few-rows (drawn c.before.before)).0
 
 slice-aggregate-write-once : tie.Need-slice_bounds-write_once-end-then-are_kept
-slice-aggregate-write-once c = counted (drawn c.before.before.before)
+slice-aggregate-write-once c = counted (drawn c.before.before)
 
 cast-write-once : tie.Need-overflow_cast-m
 cast-write-once c = omega arith
 
 write-once-requires : tie.Need-write_once-requires
 write-once-requires c κs =
-    let p = c.before.before.before.before.before in
+    let p = c.before.before.before.before in
     let m = p.before.before in
     let d = drawn m in
     let s = start d in
     let (_, few, _, narrow, _, columns) = bounds s in
     let fewer = subst (λ (k : ℕ). s.args.n * k < 8192) (counted d) (p.are_kept.ensures p.if-are_kept.true) in
-    ((narrow, few, columns, fewer, m.triangular_number-m.ensures, low m), s.pre.1)
+    ((narrow, few, columns, fewer, m.triangular_number-m.ensures, low m), s.requires.1)
 
 same_length : tie.Need-shape_of-rows-then-are_kept
 same_length c = search rules
@@ -107,18 +107,18 @@ same-length-5 c = search rules
 returns : tie.Need-returns-then-are_kept
 returns c =
     let y = c.before.before.before.before.before.before.before.before in
-    let m = y.before.before.before.before.before.before.before.before in
+    let m = y.before.before.before.before.before.before.before in
     let d = drawn m in
     let s = start d in
     let a = s.args in
     let w = y.write_once.ensures in
     let r = y.write_once.result in
     let A = drawn_A a.seed a.v a.w a.n d.draw_rows-d.result.state (rows d) d.draw_rows-d.ensures.0.0 (front d) in (
-      w.0 ∙ drawn_rooms a.seed a.v a.w a.n d.draw_rows-d.result.state (rows d) d.draw_rows-d.ensures.0.0 (front d) s.pre.0.0 a.rooms.now,
+      w.0 ∙ drawn_rooms a.seed a.v a.w a.n d.draw_rows-d.result.state (rows d) d.draw_rows-d.ensures.0.0 (front d) s.requires.0.0 a.rooms.now,
       (
         w.1.0 ∙ ap (λ (M : Csc). output r M.starts a.a_starts_out.now) A,
         (
-          w.1.1.0 ∙ ap (λ (M : Csc). output r M.rows-1 a.a_rows_out.now) A,
+          w.1.1.0 ∙ ap (λ (M : Csc). output r M.rows a.a_rows_out.now) A,
           (
             w.1.1.1.0 ∙ ap (λ (M : Csc). output r M.values a.a_values_out.now) A,
             w.1.1.1.1
@@ -133,18 +133,18 @@ slice-reshare-prefix-write-twice : tie.Need-slice_bounds-write_twice-end
 slice-reshare-prefix-write-twice c = (few-rows (drawn c.before.before)).0
 
 slice-aggregate-write-twice : tie.Need-slice_bounds-write_twice-end-2
-slice-aggregate-write-twice c = counted (drawn c.before.before.before)
+slice-aggregate-write-twice c = counted (drawn c.before.before)
 
 cast-write-twice : tie.Need-overflow_cast-m-2
 cast-write-twice c = omega arith
 
 write-twice-requires : tie.Need-write_twice-requires
 write-twice-requires c κs =
-    let m = c.before.before.before.before.before.before.before in
+    let m = c.before.before.before.before.before.before in
     let d = drawn m in
     let s = start d in
     let (_, few, _, narrow, _, columns) = bounds s in
-    ((narrow, few, columns, omega (arith, counted d, (few-rows d).1), m.triangular_number-m.ensures, low m), s.pre.1)
+    ((narrow, few, columns, omega (arith, counted d, (few-rows d).1), m.triangular_number-m.ensures, low m), s.requires.1)
 
 same-length-6 : tie.Need-shape_of-rows
 same-length-6 c = search rules
@@ -164,18 +164,18 @@ same-length-10 c = search rules
 returns-2 : tie.Need-returns
 returns-2 c =
     let y = c.before.before.before.before.before.before.before.before in
-    let m = y.before.before.before.before.before.before.before.before in
+    let m = y.before.before.before.before.before.before.before in
     let d = drawn m in
     let s = start d in
     let a = s.args in
     let w = y.write_twice.ensures in
     let r = y.write_twice.result in
     let A = drawn_A a.seed a.v a.w a.n d.draw_rows-d.result.state (rows d) d.draw_rows-d.ensures.0.0 (front d) in (
-      w.0 ∙ drawn_rooms a.seed a.v a.w a.n d.draw_rows-d.result.state (rows d) d.draw_rows-d.ensures.0.0 (front d) s.pre.0.0 a.rooms.now,
+      w.0 ∙ drawn_rooms a.seed a.v a.w a.n d.draw_rows-d.result.state (rows d) d.draw_rows-d.ensures.0.0 (front d) s.requires.0.0 a.rooms.now,
       (
         w.1.0 ∙ ap (λ (M : Csc). output r M.starts a.a_starts_out.now) A,
         (
-          w.1.1.0 ∙ ap (λ (M : Csc). output r M.rows-1 a.a_rows_out.now) A,
+          w.1.1.0 ∙ ap (λ (M : Csc). output r M.rows a.a_rows_out.now) A,
           (
             w.1.1.1.0 ∙ ap (λ (M : Csc). output r M.values a.a_values_out.now) A,
             w.1.1.1.1

@@ -39,11 +39,11 @@ abbrev kept : tie.After-keep_columns-d → List ℕ
 kept k = k.keep_columns-d.new.kept
 
 -- the starts are a prefix of their table
-front : (k : tie.After-keep_columns-d) → take (k.args.n + 1) (starts k) ≡ (csc (columns k.before.before.before.before.before.before.before.before.before.before)).starts-1
+front : (k : tie.After-keep_columns-d) → take (k.args.n + 1) (starts k) ≡ (csc (columns k.before.before.before.before.before.before.before.before.before.before)).starts
 front k =
     let s = k.before.before.before.before.before.before.before.before.before.before in
     ap (λ (i : ℕ). take i (starts k)) (sym (starts-many s.args.s s.args.rows.now s.args.n))
-    ∙ front_read (csc (columns s)).starts-1 (replicate 65 0) k.keep_columns-d.ensures.1.0
+    ∙ front_read (csc (columns s)).starts (replicate 65 0) k.keep_columns-d.ensures.1.0
 
 -- the tables are long enough for what they keep
 long : (k : tie.After-keep_columns-d)

@@ -54,4 +54,9 @@ returns c =
     let (n, low) = c.count_at-n.ensures in
     let (entries, _) = c.count_at-a.ensures in
     let (rows, _) = c.count_at-m.ensures in
-    let starts : c.count_at-n.result + 1 ≡ suc (get_or ws 0 0) = omega (arith, n) in record { starts_out_after = call.0 ∙ ap (λ (k : ℕ). written (words_at ws 4 k) c.args.starts_out.now) starts; rows_out_after = call.1.0 ∙ ap (λ (k : ℕ). written (words_at ws 5 k) c.args.rows_out.now) entries; values_out_after = call.1.1.0 ∙ ap (λ (k : ℕ). written (pairs_of (words_at ws 6 (2 * k))) c.args.values_out.now) entries; b_out_after = call.1.1.1 ∙ ap (λ (k : ℕ). written (pairs_of (words_at ws 7 (2 * k))) c.args.b_out.now) rows }
+    let starts : c.count_at-n.result + 1 ≡ suc (get_or ws 0 0) = omega (arith, n) in record {
+      starts_out_after = call.starts_out_after ∙ ap (λ (k : ℕ). written (words_at ws 4 k) c.args.starts_out.now) starts;
+      rows_out_after = call.rows_out_after ∙ ap (λ (k : ℕ). written (words_at ws 5 k) c.args.rows_out.now) entries;
+      values_out_after = call.values_out_after ∙ ap (λ (k : ℕ). written (pairs_of (words_at ws 6 (2 * k))) c.args.values_out.now) entries;
+      b_out_after = call.side_out_after ∙ ap (λ (k : ℕ). written (pairs_of (words_at ws 7 (2 * k))) c.args.b_out.now) rows;
+    }

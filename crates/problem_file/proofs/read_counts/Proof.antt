@@ -14,17 +14,17 @@ eight : (s : tie.Start) → length (take 8 s.args.words.now) ≡ 8
 eight s = length-take-le 8 s.args.words.now (omega (arith, stands_long s.args.words.now s.requires.0))
 
 slice-aggregate-copy-numbers : tie.Need-slice_bounds-copy_numbers-end
-slice-aggregate-copy-numbers c = sym (eight c.before.before.before.before)
+slice-aggregate-copy-numbers c = sym (eight c.before.before.before)
 
 copy-numbers-requires : tie.Need-copy_numbers-requires
-copy-numbers-requires c κs = let s = c.before.before.before.before in omega (arith, eight s, s.requires.1)
+copy-numbers-requires c κs = let s = c.before.before.before in omega (arith, eight s, s.requires.1)
 
 same_length : tie.Need-shape_of-counts_out
 same_length c = search rules
 
 returns : tie.Need-returns
 returns c =
-    let s = c.before.before.before.before.before.before.before in
+    let s = c.before.before.before.before.before.before in
     c.copy_numbers.ensures
     ∙ ap (λ (xs : List ℕ). written xs s.args.counts_out.now) (counts_front s.args.words.now s.requires.0)
 

@@ -1,3 +1,4 @@
+use borrow.Author.Rules.{rules}
 use mathlib.Core.Path.{◌≡◌, refl, sym, ◌∙◌}
 use Rattle.layout.specs.Files.File.{counts_in}
 use Rattle.layout.specs.Files.FileWords.{word_tables}
@@ -28,7 +29,7 @@ slice-aggregate-refuse-read : tie.Need-slice_bounds-refuse_read-end
 slice-aggregate-refuse-read c = refl
 
 refuse-read-requires : tie.Need-refuse_read-refused-requires
-refuse-read-requires c κs = tt
+refuse-read-requires c κs = search rules
 
 returns : tie.Need-returns-then-refused-ne-DONE
 returns c =

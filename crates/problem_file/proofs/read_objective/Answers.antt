@@ -49,4 +49,9 @@ returns c =
     let call = c.read_matrix.ensures in
     let (n, low) = c.count_at-n.ensures in
     let (entries, _) = c.count_at-p.ensures in
-    let starts : c.count_at-n.result + 1 ≡ suc (get_or ws 0 0) = omega (arith, n) in record { starts_out_after = call.0 ∙ ap (λ (k : ℕ). written (words_at ws 0 k) c.args.starts_out.now) starts; rows_out_after = call.1.0 ∙ ap (λ (k : ℕ). written (words_at ws 1 k) c.args.rows_out.now) entries; values_out_after = call.1.1.0 ∙ ap (λ (k : ℕ). written (pairs_of (words_at ws 2 (2 * k))) c.args.values_out.now) entries; q_out_after = call.1.1.1 ∙ ap (λ (k : ℕ). written (pairs_of (words_at ws 3 (2 * k))) c.args.q_out.now) n }
+    let starts : c.count_at-n.result + 1 ≡ suc (get_or ws 0 0) = omega (arith, n) in record {
+      starts_out_after = call.starts_out_after ∙ ap (λ (k : ℕ). written (words_at ws 0 k) c.args.starts_out.now) starts;
+      rows_out_after = call.rows_out_after ∙ ap (λ (k : ℕ). written (words_at ws 1 k) c.args.rows_out.now) entries;
+      values_out_after = call.values_out_after ∙ ap (λ (k : ℕ). written (pairs_of (words_at ws 2 (2 * k))) c.args.values_out.now) entries;
+      q_out_after = call.side_out_after ∙ ap (λ (k : ℕ). written (pairs_of (words_at ws 3 (2 * k))) c.args.q_out.now) n;
+    }

@@ -6,7 +6,6 @@ use lib.Ieee.{nan, le}
 use Rattle.layout.specs.General.Lists.{same_by}
 use Rattle.layout.proofs.Lists.Walks.{same_lengths, same_step, same_miss, same_done}
 use native.Mathlib.Omega.{arith}
-use borrow.Author.Tests.{not-true, not-false}
 use Rattle.side_numbers.proofs.at_most.Goals as goal
 use Rattle.side_numbers.proofs.at_most.Goals.{then-not-low-i, else-not-low-i}
 
@@ -22,8 +21,8 @@ loop-i-preserved c =
     let left : Bool → Bool = λ b. c.loop-i.holds && b in
     let next : Bool → Bool = λ b. b && same_by le (drop (i + 1) low) (drop (i + 1) high) in
     elim c.if-not-low-i.branch [
-      | then-not-low-i w ↦ (omega arith, c.loop-i.invariant.1 ∙ ap left (same_miss le low high nan i (omega arith) (omega arith) (not-true _ w.if-not-low-i.true)) ∙ and-false c.loop-i.holds ∙ ap next (sym w.holds-is))
-      | else-not-low-i w ↦ (omega arith, c.loop-i.invariant.1 ∙ ap left (same_step le low high nan i (omega arith) (omega arith) (not-false _ w.if-not-low-i.false)) ∙ ap next (sym w.holds-is))
+      | then-not-low-i w ↦ (omega arith, c.loop-i.invariant.1 ∙ ap left (same_miss le low high nan i (omega arith) (omega arith) w.if-not-low-i.true) ∙ and-false c.loop-i.holds ∙ ap next (sym w.holds-is))
+      | else-not-low-i w ↦ (omega arith, c.loop-i.invariant.1 ∙ ap left (same_step le low high nan i (omega arith) (omega arith) w.if-not-low-i.false) ∙ ap next (sym w.holds-is))
     ]
 
 pub returns : goal.returns

@@ -38,11 +38,11 @@ first-size-requires : tie.Need-first_size-size-requires
 first-size-requires c κs = tt
 
 slice-aggregate-refuse-sides : tie.Need-slice_bounds-refuse_sides-end
-slice-aggregate-refuse-sides c = let f = c.before in sym (length-take-le f.first_size-size.result f.args.sides.now (front f).0)
+slice-aggregate-refuse-sides c = let f = c in sym (length-take-le f.first_size-size.result f.args.sides.now (front f).0)
 
 refuse-sides-requires : tie.Need-refuse_sides-requires
 refuse-sides-requires c κs =
-    let f = c.before in
+    let f = c in
     let e = f.before in
     let (some, few) = count-right e.args.count e.check_count-counted.result e.check_count-counted.ensures e.if-counted-ne0.false in
     (some, few, (front f).1)

@@ -11,7 +11,7 @@ use Rattle.walk_cones.specs.Ahead.{patterns_ahead}
 use Rattle.walk_cones.proofs.Laws.{few-cones, row_fits, whole-ahead, whole-stands, none_left, first_read, head-inside, not_mine, cut-ahead, cut_right, cut-rows, cut-few, cut_stands}
 use native.Mathlib.Omega.{arith}
 use Rattle.walk_cones.proofs.Place.next.Goals as goal
-use Rattle.walk_cones.proofs.Place.next.Goals.{then-self-gt0, else-self-gt0}
+use Rattle.walk_cones.proofs.Place.next.Goals.{then-self-gt0+else-words-at, else-self-gt0}
 
 pub returns-then-cones-i : goal.returns-then-cones-i
 returns-then-cones-i c =
@@ -81,7 +81,7 @@ returns c =
     let e = c.cone_rows-rows.ensures in
     let free : is_cut p.cone (patterns_ahead words p) ≡ false =
     elim c.if-self-gt0.branch [
-      | then-self-gt0 w ↦ not_mine m cones words p h l w.if-self-gt0.true w.if-words-at.false
+      | then-self-gt0+else-words-at w ↦ not_mine m cones words p h l w.if-self-gt0.true w.if-words-at.false
       | else-self-gt0 w ↦ none_left m cones words p h l (omega (arith, w.if-self-gt0.false))
     ] in
     record {
