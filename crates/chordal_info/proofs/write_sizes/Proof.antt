@@ -44,9 +44,9 @@ lengths j =
     let a = j.args in
     elim j.if-route-eq-STANDARD.branch [
       | then-route-eq-STANDARD w ↦ lengths_standard a.n a.m a.p_entries a.a_entries a.alphas a.rows a.overlaps a.cones
-        (route_standard a.route w.if-route-eq-STANDARD.true) w.added-is w.b-is w.cone_words-is w.map_words-is
+          (route_standard a.route w.if-route-eq-STANDARD.true) w.added-is w.b-is w.cone_words-is w.map_words-is
       | else-route-eq-STANDARD w ↦ lengths_compact a.n a.m a.p_entries a.a_entries a.alphas a.rows a.overlaps a.cones
-        (route_compact a.route w.if-route-eq-STANDARD.false) w.added-is w.b-is w.cone_words-is w.map_words-is
+          (route_compact a.route w.if-route-eq-STANDARD.false) w.added-is w.b-is w.cone_words-is w.map_words-is
     ]
 
 cast-added : tie.Need-overflow_cast-added

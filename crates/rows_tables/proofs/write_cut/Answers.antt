@@ -22,7 +22,11 @@ standard_pattern_rows-requires c =
     let a = c.args in
     let p = pattern_at a.words.now a.at in
     let e = cut_h a.table a.first a.place.cone a.place.row a.place.pattern p c.in-HRows.is in
-    ?
+    record {
+      right_pattern = c.requires.right_pattern.0;
+      at_bound = (c.requires.right_pattern.1, c.requires.right_pattern.2);
+      at_in_bounds = omega (arith, ap length e, standard_rows-count p c.requires.right_pattern.0 a.place.row, c.requires.at_in_bounds);
+    }
 
 pub overflow_cast-first : goal.overflow_cast-first
 overflow_cast-first c =
@@ -36,7 +40,11 @@ compact_pattern_rows-requires c =
     let p = pattern_at a.words.now a.at in
     let e = cut-cut a.table a.first a.place.cone a.place.row a.place.pattern p c.in-CutRows.is in
     let few : a.first + block_rows p ≤ 262144 = subst (λ (x : Table). Few x (a.first + block_rows p)) c.in-CutRows.is c.requires.few in
-    ?
+    record {
+      right_pattern = c.requires.right_pattern.0;
+      at_bound = (c.requires.right_pattern.1, c.requires.right_pattern.2);
+      at_bound_2 = (few, omega (arith, ap length e, (length-map (pattern_rows p a.place.row a.first) cut_code ∙ rows-count p c.requires.right_pattern.0 a.place.row a.first), c.requires.at_in_bounds));
+    }
 
 pub pattern_cones-requires : goal.pattern_cones-requires
 pattern_cones-requires c =
