@@ -18,4 +18,4 @@ returns c =
     let a = c.args in
     let ps = joined_parts a.cones.now a.count a.words.now in
     let put : List Float → List Float → List Float = λ out vs. written (compact_order ps vs) out in
-    let done = c.move_parts.ensures in record { s_out_after = done.0 ∙ ap (put a.s_out.now) (rest-whole a.m a.s.now); z_out_after = done.1 ∙ ap (put a.z_out.now) (rest-whole a.m a.z.now) }
+    let done = c.move_parts.ensures in record { s_out_after = done.s_out_after ∙ ap (put a.s_out.now) (rest-whole a.m a.s.now); z_out_after = done.z_out_after ∙ ap (put a.z_out.now) (rest-whole a.m a.z.now) }
