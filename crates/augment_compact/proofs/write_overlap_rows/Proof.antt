@@ -90,22 +90,22 @@ loop-again c =
     let r = l.loop-r.r in
     let done = tied_rows 0 (take r codes) in
     elim c.if-c-ge-FIRST_OVERLAP.branch [
-    | then-c-ge-FIRST_OVERLAP w ↦
-    let t : tie.Then-c-ge-FIRST_OVERLAP invariant-loop decreases-loop = record { before = c.before; if-c-ge-FIRST_OVERLAP = w.if-c-ge-FIRST_OVERLAP } in
-    let e = more t in
-    let n = ap length e ∙ length-append done ((get_or codes r 0 - 65536) ∷ r ∷ []) in (
-      omega arith,
-      ap length w.out-is ∙ simp length-set l.loop-r.invariant.1,
-      omega (arith, n, w.w-is, l.loop-r.invariant.2),
-      w.out-is ∙ rw (l.loop-r.invariant.3, e) (two_more done a.out.now (get_or codes r 0 - 65536) r l.loop-r.w l.loop-r.invariant.2 (room t)),
-    )
-    | else-c-ge-FIRST_OVERLAP w ↦
-    let e = rw (lt-ltb (get_or codes r 0) 65536 w.if-c-ge-FIRST_OVERLAP.false, append-nil done) at (tied_more codes r (omega arith)) in (
-      omega arith,
-      ap length w.out-is ∙ l.loop-r.invariant.1,
-      w.w-is ∙ l.loop-r.invariant.2 ∙ ap length (sym e),
-      w.out-is ∙ rw e l.loop-r.invariant.3,
-    )
+      | then-c-ge-FIRST_OVERLAP w ↦
+          let t : tie.Then-c-ge-FIRST_OVERLAP invariant-loop decreases-loop = record { before = c.before; if-c-ge-FIRST_OVERLAP = w.if-c-ge-FIRST_OVERLAP } in
+          let e = more t in
+          let n = ap length e ∙ length-append done ((get_or codes r 0 - 65536) ∷ r ∷ []) in (
+            omega arith,
+            ap length w.out-is ∙ simp length-set l.loop-r.invariant.1,
+            omega (arith, n, w.w-is, l.loop-r.invariant.2),
+            w.out-is ∙ rw (l.loop-r.invariant.3, e) (two_more done a.out.now (get_or codes r 0 - 65536) r l.loop-r.w l.loop-r.invariant.2 (room t)),
+          )
+      | else-c-ge-FIRST_OVERLAP w ↦
+          let e = rw (lt-ltb (get_or codes r 0) 65536 w.if-c-ge-FIRST_OVERLAP.false, append-nil done) at (tied_more codes r (omega arith)) in (
+            omega arith,
+            ap length w.out-is ∙ l.loop-r.invariant.1,
+            w.w-is ∙ l.loop-r.invariant.2 ∙ ap length (sym e),
+            w.out-is ∙ rw e l.loop-r.invariant.3,
+          )
     ]
 
 same_length : tie.Need-shape_of-out invariant-loop decreases-loop
