@@ -3,6 +3,7 @@
 #![tactic(auto)]
 
 ghost use Rattle.std.specs.Prelude.{◌≡◌, ◌≤◌, ◌<◌, length};
+ghost use Rattle.std.specs.Io.{ReadsAtMost};
 ghost use Rattle.layout.specs.General.Lists.{written};
 ghost use Rattle.layout.specs.General.Floats.{floats};
 ghost use Rattle.layout.specs.Files.File.{refused_text};
@@ -12,6 +13,7 @@ ghost use Rattle.compact_file.specs.Program.{cut_tables_output, Small, words_out
 
 use compact_tables::OUT_BYTES;
 use constants::{file_table, refusal};
+use std::io::{self, Read};
 
 // The longest file that is read, and the largest numbers of words and doubles in it.
 const IN_BYTES: usize = 8192;
@@ -19,6 +21,23 @@ const IN_BYTES: usize = 8192;
 const IN_WORDS: usize = IN_BYTES / file_table::WORD_BYTES;
 
 const IN_DOUBLES: usize = IN_BYTES / file_table::DOUBLE_BYTES;
+
+// ---- the input
+
+// Reads from `input` until it ends or `out` is full. Returns the number of bytes read.
+pub fn read_full<R: Read>(input: &mut R, out: &mut [u8]) -> io::Result<usize>
+    ensures { ReadsAtMost result out.new }
+{
+    let mut length = 0;
+    while length < out.len() {
+        let count = input.read(&mut out[length..])?;
+        if count == 0 {
+            break;
+        }
+        length += count;
+    }
+    Ok(length)
+}
 
 // ---- the refusal line
 

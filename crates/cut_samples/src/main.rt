@@ -3,24 +3,14 @@
 
 ghost use Rattle.std.specs.Io.{ReadsAtMost};
 
-use std::fs;
-use std::io::{self, Read};
 use std::rt::Files;
+use std::{fs, io};
 
 // Reads the file `name` into `out`. Returns the number of bytes read: all, or as many as `out` has room for.
 fn load(rt: &impl Files, name: &str, out: &mut [u8]) -> io::Result<usize>
     ensures { ReadsAtMost result out.new }
 {
-    let mut file = fs::open(rt, name)?;
-    let mut length = 0;
-    while length < out.len() {
-        let count = file.read(&mut out[length..])?;
-        if count == 0 {
-            break;
-        }
-        length += count;
-    }
-    Ok(length)
+    compact_file::read_full(&mut fs::open(rt, name)?, out)
 }
 
 // Cuts the file `name`, and prints whether the result has the bytes of the file `stored`.

@@ -1,5 +1,5 @@
 use Rattle.std.proofs.Common.{length, ◌-◌, ◌≡◌, ◌≤◌}
-use Rattle.cut_file.proofs.read_full.Given as goal
+use Rattle.compact_file.proofs.read_full.Given as goal
 
 abbrev pub invariant-loop-length : goal.invariant-loop-length
 invariant-loop-length g l = (l.length ≤ length l.out) × (length l.out ≡ length l.initial.out)
