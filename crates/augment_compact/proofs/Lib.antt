@@ -3,3 +3,4 @@ pub mod Columns
 pub mod Places
 pub mod Cut
 pub mod Groups
+pub mod Followers

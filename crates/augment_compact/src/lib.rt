@@ -26,13 +26,10 @@ pub fn write_place(place: &mut [u32], codes: &[u32])
     requires { RowsInside (length place.old) codes.now × (length codes.now ≤ 262144) }
     ensures { place.new ≡ row_table 0 codes.now place.old }
 {
-    let mut r = 0;
-    while r < codes.len() {
-        let c = codes[r] as usize;
-        if c < scratch::ROWS {
-            place[c] = r as u32;
+    for (r, &c) in codes.iter().enumerate() {
+        if (c as usize) < scratch::ROWS {
+            place[c as usize] = r as u32;
         }
-        r += 1;
     }
 }
 
@@ -44,18 +41,6 @@ pub fn write_starts(out: &mut [u32], n: u32, starts: &[u32], rows: &[u32], k: us
 {
     let entries = csc::write_run_starts(&mut *out, n, starts, rows);
     augment_standard::write_h_starts(&mut out[starts.len()..], entries, k);
-}
-
-// Copies the `count` rows at `from` to `start`.
-fn repeat_rows(rows_out: &mut [u32], from: usize, start: usize, count: usize)
-    requires { (from + count ≤ start) × (start + count ≤ length rows_out.old) }
-    ensures { rows_out.new ≡ written (take start rows_out.old ++ part from (from + count) rows_out.old) rows_out.old }
-{
-    let mut i = 0;
-    while i < count {
-        rows_out[start + i] = rows_out[from + i];
-        i += 1;
-    }
 }
 
 // Writes a column with the rows of an earlier one, whose `count` output rows start at `from` and whose marks are in `codes`: the same output rows at
@@ -78,7 +63,7 @@ fn repeat_column(
 {
     let end = from + count;
     let stop = start + count;
-    repeat_rows(&mut *rows_out, from, start, count);
+    rows_out.copy_within(from..end, start);
     cut_columns::gather_column(
         &mut values_out[start..stop],
         codes,
@@ -126,10 +111,9 @@ fn write_followers(
     let columns = n as usize;
     let from = run_starts[c] as usize;
     let count = run_starts[c + 1] as usize - from;
-    let mut d = c + 1;
-    while d < columns {
+    for d in c + 1..columns {
         if !same_rows(starts, rows, c, d) {
-            break;
+            return d;
         }
         let first = starts[d] as usize;
         let end = starts[d + 1] as usize;
@@ -144,9 +128,8 @@ fn write_followers(
             start,
             count,
         );
-        d += 1;
     }
-    d
+    columns
 }
 
 // Writes column `c` of A over the augmented rows and, where it was sorted by marks, the columns after it with the same rows. `codes` and the flags in
@@ -247,15 +230,12 @@ pub fn write_overlap_rows(out: &mut [u32], codes: &[u32])
     ensures { out.new ≡ written (tied_rows 0 codes.now) out.old }
 {
     let mut w = 0;
-    let mut r = 0;
-    while r < codes.len() {
-        let c = codes[r];
+    for (r, &c) in codes.iter().enumerate() {
         if c >= FIRST_OVERLAP {
             out[w] = c - FIRST_OVERLAP;
             out[w + 1] = r as u32;
             w += 2;
         }
-        r += 1;
     }
 }
 

@@ -11,11 +11,9 @@ pub fn write_h_starts(out: &mut [u32], entries: u32, k: usize)
     ensures { out.new ≡ written (h_starts entries k) out.old }
 {
     let mut end = entries;
-    let mut i = 0;
-    while i < k {
+    for i in 0..k {
         end += 2;
         out[i] = end;
-        i += 1;
     }
 }
 
@@ -25,13 +23,9 @@ pub fn spread_rows(out: &mut [u32], k: usize, m: u32)
     requires { (2 * k ≤ length out.old) × (m + k ≤ 262144) }
     ensures { out.new ≡ written (h_rows m (take k (drop k out.old))) out.old }
 {
-    let mut t = 0;
-    let mut i = 0;
-    while i < k {
-        out[t] = out[k + i];
-        out[t + 1] = m + i as u32;
-        t += 2;
-        i += 1;
+    for i in 0..k {
+        out[2 * i] = out[k + i];
+        out[2 * i + 1] = m + i as u32;
     }
 }
 
@@ -40,13 +34,9 @@ pub fn write_pairs(out: &mut [f64], k: usize, first: f64, second: f64)
     requires { 2 * k ≤ length out.old }
     ensures { out.new ≡ written (pair_values first second k) out.old }
 {
-    let mut t = 0;
-    let mut i = 0;
-    while i < k {
-        out[t] = first;
-        out[t + 1] = second;
-        t += 2;
-        i += 1;
+    for i in 0..k {
+        out[2 * i] = first;
+        out[2 * i + 1] = second;
     }
 }
 
@@ -55,7 +45,7 @@ pub fn write_starts(out: &mut [u32], starts: &[u32], entries: u32, k: usize)
     requires { (length starts.now + k ≤ length out.old) × (entries + 2 * k < 4294967296) }
     ensures { out.new ≡ written (beside_starts starts.now entries k) out.old }
 {
-    csc::copy_numbers(&mut *out, starts);
+    csc::copy_front(&mut *out, starts);
     write_h_starts(&mut out[starts.len()..], entries, k);
 }
 
@@ -64,6 +54,6 @@ pub fn write_values(out: &mut [f64], values: &[f64], k: usize)
     requires { length values.now + 2 * k ≤ length out.old }
     ensures { out.new ≡ written (beside_values values.now k) out.old }
 {
-    csc::copy_values(&mut *out, values);
+    csc::copy_front(&mut *out, values);
     write_pairs(&mut out[values.len()..], k, 1.0, -1.0);
 }

@@ -4,31 +4,15 @@
 ghost use Rattle.std.specs.Prelude.{◌≡◌, ◌+◌, ◌≤◌, length, take, drop};
 ghost use Rattle.join_cones.specs.Parts.{written_at};
 
-// Copies the four values from index `from` of `values` on to index `to` of `out`. All are read before the first is written, so that the compiler
-// moves them two at a time.
-fn move_four(from: usize, values: &[f64], to: usize, out: &mut [f64])
-    requires { (from + 4 ≤ length values.now) × (to + 4 ≤ length out.old) }
-    ensures { out.new ≡ written_at to (take 4 (drop from values.now)) out.old }
+// Copies the `N` values from index `from` of `values` on to index `to` of `out`. All are read before the first is written, and `N` is a constant, so
+// that the compiler moves them two at a time, without a loop.
+fn move_run<const N: usize>(from: usize, values: &[f64], to: usize, out: &mut [f64])
+    requires { (from + N ≤ length values.now) × (to + N ≤ length out.old) }
+    ensures { out.new ≡ written_at to (take N (drop from values.now)) out.old }
 {
-    let first = values[from];
-    let second = values[from + 1];
-    let third = values[from + 2];
-    let fourth = values[from + 3];
-    out[to] = first;
-    out[to + 1] = second;
-    out[to + 2] = third;
-    out[to + 3] = fourth;
-}
-
-// Copies the two values from index `from` of `values` on to index `to` of `out`.
-fn move_two(from: usize, values: &[f64], to: usize, out: &mut [f64])
-    requires { (from + 2 ≤ length values.now) × (to + 2 ≤ length out.old) }
-    ensures { out.new ≡ written_at to (take 2 (drop from values.now)) out.old }
-{
-    let first = values[from];
-    let second = values[from + 1];
-    out[to] = first;
-    out[to + 1] = second;
+    let mut run = [0.0; N];
+    run.copy_from_slice(&values[from..from + N]);
+    out[to..to + N].copy_from_slice(&run);
 }
 
 // Copies `k` values from index `from` of `values` on to index `to` of `out`: four at a time, then two, then one.
@@ -38,19 +22,16 @@ pub fn move_values(k: usize, from: usize, values: &[f64], to: usize, out: &mut [
 {
     let mut i = 0;
     while 4 <= k - i {
-        move_four(from + i, values, to + i, &mut *out);
+        move_run::<4>(from + i, values, to + i, &mut *out);
         i += 4;
     }
     if 2 <= k - i {
-        move_two(from + i, values, to + i, &mut *out);
+        move_run::<2>(from + i, values, to + i, &mut *out);
         i += 2;
     }
-    if i == k {
-        return;
+    if i < k {
+        move_run::<1>(from + i, values, to + i, out);
     }
-    let a = from + i;
-    let b = to + i;
-    out[b] = values[a];
 }
 
 // Copies `k` values of `s` and of `z` in one loop, as `move_values` copies those of one list.
@@ -70,22 +51,19 @@ fn move_few(
 {
     let mut i = 0;
     while 4 <= k - i {
-        move_four(from + i, s, to + i, &mut *s_out);
-        move_four(from + i, z, to + i, &mut *z_out);
+        move_run::<4>(from + i, s, to + i, &mut *s_out);
+        move_run::<4>(from + i, z, to + i, &mut *z_out);
         i += 4;
     }
     if 2 <= k - i {
-        move_two(from + i, s, to + i, &mut *s_out);
-        move_two(from + i, z, to + i, &mut *z_out);
+        move_run::<2>(from + i, s, to + i, &mut *s_out);
+        move_run::<2>(from + i, z, to + i, &mut *z_out);
         i += 2;
     }
-    if i == k {
-        return;
+    if i < k {
+        move_run::<1>(from + i, s, to + i, s_out);
+        move_run::<1>(from + i, z, to + i, z_out);
     }
-    let a = from + i;
-    let b = to + i;
-    s_out[b] = s[a];
-    z_out[b] = z[a];
 }
 
 // The number of values from which s and z are copied one after the other.

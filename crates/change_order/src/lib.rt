@@ -39,15 +39,13 @@ fn move_blocks(
     let mut from = 0usize;
     let mut to = s_out.len();
     let mut at = first;
-    let mut left = count;
-    while 0 < left {
+    for _ in 0..count {
         let q = Clique::here(words, at);
         let k = scalarmath::triangular_number(q.get_nblk() as u32) as usize;
         to -= k;
         move_both(k, from, s, z, to, &mut *s_out, &mut *z_out);
         from += k;
         at = q.next;
-        left -= 1;
     }
 }
 
@@ -103,20 +101,19 @@ fn move_parts(
     let mut place = Place::start(m, cones, count, words);
     let mut t = 0usize;
     loop {
-        let met = place.next(m, cones, words);
-        match met {
-            Met::Whole(rows, next) => {
+        match place.next(m, cones, words) {
+            Some(Met::Whole(rows, next)) => {
                 let k = rows as usize;
                 move_values(k, t, s, t, &mut *s_out);
                 move_values(k, t, z, t, &mut *z_out);
                 t += k;
                 place = next;
             }
-            Met::Cut(at, next) => {
+            Some(Met::Cut(at, next)) => {
                 t = move_cut(words, at, t, s, z, &mut *s_out, &mut *z_out);
                 place = next;
             }
-            Met::Done => {
+            None => {
                 break;
             }
         }
@@ -162,5 +159,5 @@ pub fn change_x(n: u32, x: &[f64], added: u64, out: &mut [f64])
     ensures { out.new ≡ written (take n x.now ++ replicate added zero64) out.old }
 {
     let k = n as usize;
-    csc::extend_values(out, &x[..k], added as usize, 0.0);
+    csc::extend_front(out, &x[..k], added as usize, 0.0);
 }

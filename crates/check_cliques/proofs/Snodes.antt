@@ -15,7 +15,7 @@ use Rattle.layout.proofs.Lists.Keeps.{keep_append}
 use Rattle.layout.proofs.Lists.Walks.{all_append, all_both}
 use Rattle.supernode_tree.specs.Reads.{Whole, cliques_from, clique_of, clique_read, CliqueInside}
 use Rattle.supernode_tree.specs.declared.Clique.{Clique as CliqueAt}
-use Rattle.supernode_tree.specs.declared.CliqueRead.TheVariants.{Clique as Found}
+use Rattle.std.specs.Prelude.{Some}
 use Rattle.supernode_tree.proofs.Cliques.{whole-next, from_next, from-none, snode-size}
 use Rattle.check_cliques.specs.Trees.{snodes_of, fills, snodes_fill, snodes_ok}
 
@@ -36,9 +36,9 @@ pub counting_start : (n : ℕ) (ws : List ℕ) (first count : ℕ) → Whole ws 
 counting_start n ws first count w = record { stand = w; full = refl; sum = omega arith; low = omega arith }
 
 module _ (n : ℕ) (ws : List ℕ) (first count total at left : ℕ) (k : Counting n ws first count total at left) where
-  module _ (more : 0 < left) (q : CliqueAt) (e : clique_read ws (Found q) ≡ read_clique (drop at ws)) (i : CliqueInside (length ws) at (Found q)) where
+  module _ (more : 0 < left) (q : CliqueAt) (e : clique_read ws (Some q) ≡ read_clique (drop at ws)) (i : CliqueInside (length ws) at (Some q)) where
     first_is : cliques_from ws at left ≡ clique_of ws q ∷ cliques_from ws q.next (left - 1)
-    first_is = from_next ws at left (Found q) e more q refl k.stand
+    first_is = from_next ws at left (Some q) e more q refl k.stand
 
     cases : (fills n (clique_of ws q) ≡ false → all (fills n) (cliques_from ws first count) ≡ false)
         × (fills n (clique_of ws q) ≡ true → all (fills n) (cliques_from ws first count) ≡ all (fills n) (cliques_from ws q.next (left - 1)))
@@ -62,7 +62,7 @@ module _ (n : ℕ) (ws : List ℕ) (first count total at left : ℕ) (k : Counti
     pub counting_goes : (q.snode_count ≡ 0 → ⊥) → all (λ x. ltb x n) (clique_of ws q).snode ≡ true
         → Counting n ws first count (total + q.snode_count) q.next (left - 1)
     counting_goes h b = record {
-      stand = sym (whole-next ws at left (Found q) e more q refl) ∙ k.stand;
+      stand = sym (whole-next ws at left (Some q) e more q refl) ∙ k.stand;
       full = cases.1 (and-true _ _ (some h) ∙ b);
       sum = omega (arith, k.sum, ap (λ (cs : List Clique). length (snodes_of cs)) first_is, length-append (clique_of ws q).snode (snodes_of (cliques_from ws q.next (left - 1))), (snode-size ws at q i));
       low = omega (arith, k.low);

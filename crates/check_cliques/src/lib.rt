@@ -35,14 +35,12 @@ pub fn tree_right(words: &[u32], at: usize) -> bool
     let p = Pattern::here(words, at);
     let count = p.clique_count;
     let mut next = p.cliques;
-    let mut c = 0;
-    while c < count {
+    for c in 0..count {
         let q = Clique::here(words, next);
         if !parent_right(q, c, count) {
             return false;
         }
         next = q.next;
-        c += 1;
     }
     0 < count
 }
@@ -53,91 +51,74 @@ pub fn trees_right(count: u32, words: &[u32]) -> bool
     ensures { result ≡ all tree_right (patterns count words.now) }
 {
     let mut at = 0;
-    let mut left = count;
-    while 0 < left {
+    for i in 0..count {
         if !tree_right(words, at) {
             return false;
         }
-        if left == 1 {
+        if i + 1 == count {
             return true;
         }
         at = supernode_tree::pattern_next(words, at);
-        left -= 1;
     }
     true
 }
 
 // ---- check 7: snodes
 
-// Checks that no snode of the `count` cliques from offset `first` is empty, that all snode members are below `n`, and that there are `n`
-// members in all.
-fn snodes_fill(words: &[u32], first: usize, count: u32, n: usize) -> bool
-    requires { Whole words.now first count }
-    ensures { result ≡ snodes_fill n (cliques_from words.now first count) }
+// Checks that no snode of `p` is empty, that all snode members are below its vertex count, and that there are as many members in all.
+fn snodes_fill(words: &[u32], p: Pattern) -> bool
+    requires { Whole words.now p.cliques p.clique_count }
+    ensures { result ≡ snodes_fill p.vertex_count (cliques_from words.now p.cliques p.clique_count) }
 {
     let mut total = 0;
-    let mut at = first;
-    let mut left = count;
-    while 0 < left {
+    let mut at = p.cliques;
+    for _ in 0..p.clique_count {
         let q = Clique::here(words, at);
         if q.snode_count == 0 {
             return false;
         }
-        let a = q.snode;
-        let e = q.separator;
-        if !utils::all_below(&words[a..e], n) {
+        if !utils::all_below(&words[q.snode..q.separator], p.vertex_count) {
             return false;
         }
         total += q.snode_count;
         at = q.next;
-        left -= 1;
     }
-    total == n
+    total == p.vertex_count
 }
 
 // Checks that the snodes hold no number twice, among the numbers from `low` to `low + marks.len() - 1` (a window). `marks` is overwritten.
-fn snodes_once_within(
-    words: &[u32],
-    first: usize,
-    count: u32,
-    low: usize,
-    marks: &mut [bool],
-) -> bool
-    requires { Whole words.now first count }
-    ensures { result ≡ distinct (keep (within low (length marks.old)) (snodes_of (cliques_from words.now first count))) }
+fn snodes_once_within(words: &[u32], p: Pattern, low: usize, marks: &mut [bool]) -> bool
+    requires { Whole words.now p.cliques p.clique_count }
+    ensures { result ≡ distinct (keep (within low (length marks.old)) (snodes_of (cliques_from words.now p.cliques p.clique_count))) }
 {
     utils::clear(&mut *marks);
-    let mut at = first;
-    let mut left = count;
-    while 0 < left {
+    let mut at = p.cliques;
+    for _ in 0..p.clique_count {
         let q = Clique::here(words, at);
-        let a = q.snode;
-        let e = q.separator;
-        if !utils::mark(&words[a..e], low, &mut *marks) {
+        if !utils::mark(&words[q.snode..q.separator], low, &mut *marks) {
             return false;
         }
         at = q.next;
-        left -= 1;
     }
     true
 }
 
-// Checks that no snode is empty and that the snodes together hold each number below `n` exactly once. Marks one window of `marks.len()`
-// numbers at a time.
-fn snodes_right(words: &[u32], first: usize, count: u32, n: usize, marks: &mut [bool]) -> bool
-    requires whole { Whole words.now first count }
+// Checks that no snode is empty and that the snodes together hold each number below the vertex count exactly once. Marks one window of
+// `marks.len()` numbers at a time.
+fn snodes_right(words: &[u32], p: Pattern, marks: &mut [bool]) -> bool
+    requires whole { Whole words.now p.cliques p.clique_count }
     requires marks_nonzero { 0 < length marks.old }
-    ensures { result ≡ snodes_ok n (cliques_from words.now first count) }
+    ensures { result ≡ snodes_ok p.vertex_count (cliques_from words.now p.cliques p.clique_count) }
 {
-    if !snodes_fill(words, first, count, n) {
+    if !snodes_fill(words, p) {
         return false;
     }
     let mut low = 0;
     loop {
-        if !snodes_once_within(words, first, count, low, &mut *marks) {
+        if !snodes_once_within(words, p, low, &mut *marks) {
             return false;
         }
-        if n - low <= marks.len() {
+        if p.vertex_count - low <= marks.len() {
             return true;
         }
         low += marks.len();
@@ -167,50 +148,54 @@ pub fn separator_right(
 // Checks the separator of each clique. `offsets` holds the offset of every `step`-th clique, from which parents are found.
 fn separators_by(
     words: &[u32],
-    first: usize,
-    count: u32,
-    n: usize,
+    p: Pattern,
     step: u32,
     offsets: &[usize],
     marks: &mut [bool],
 ) -> bool
-    requires whole { Whole words.now first count }
-    requires step_nonzero { (0 < step) × (count ≤ length offsets.now * step) }
-    requires offsets_every { OffsetsEvery step words.now first count offsets.now }
+    requires whole { Whole words.now p.cliques p.clique_count }
+    requires step_nonzero { (0 < step) × (p.clique_count ≤ length offsets.now * step) }
+    requires offsets_every { OffsetsEvery step words.now p.cliques p.clique_count offsets.now }
     requires marks_nonzero { 0 < length marks.old }
-    ensures { result ≡ separators_below n (cliques_from words.now first count) }
+    ensures { result ≡ separators_below p.vertex_count (cliques_from words.now p.cliques p.clique_count) }
 {
-    let mut at = first;
-    let mut left = count;
-    while 0 < left {
+    let mut at = p.cliques;
+    for _ in 0..p.clique_count {
         let q = Clique::here(words, at);
-        let m = supernode_tree::members_by(words, first, count, step, offsets, q.parent);
-        if !separator_right(words, q.separator, q.next, m.start, m.end, n, &mut *marks) {
+        let m = supernode_tree::members_by(
+            words,
+            p.cliques,
+            p.clique_count,
+            step,
+            offsets,
+            q.parent,
+        );
+        if !separator_right(
+            words,
+            q.separator,
+            q.next,
+            m.start,
+            m.end,
+            p.vertex_count,
+            &mut *marks,
+        ) {
             return false;
         }
         at = q.next;
-        left -= 1;
     }
     true
 }
 
 // Checks the separator of each clique. Fills `offsets` with the offset of every `step`-th clique, with `step` large enough for them to fit,
 // so that parents are found fast.
-fn separators_right(
-    words: &[u32],
-    first: usize,
-    count: u32,
-    n: usize,
-    marks: &mut [bool],
-    offsets: &mut [usize],
-) -> bool
-    requires whole { Whole words.now first count }
+fn separators_right(words: &[u32], p: Pattern, marks: &mut [bool], offsets: &mut [usize]) -> bool
+    requires whole { Whole words.now p.cliques p.clique_count }
     requires marks_nonzero { (0 < length marks.old) × (256 ≤ length offsets.old) }
-    ensures { result ≡ separators_below n (cliques_from words.now first count) }
+    ensures { result ≡ separators_below p.vertex_count (cliques_from words.now p.cliques p.clique_count) }
 {
-    let step = (count as usize / offsets.len() + 1) as u32;
-    supernode_tree::offsets_every(words, first, count, step, &mut *offsets);
-    separators_by(words, first, count, n, step, offsets, marks)
+    let step = (p.clique_count as usize / offsets.len() + 1) as u32;
+    supernode_tree::offsets_every(words, p.cliques, p.clique_count, step, &mut *offsets);
+    separators_by(words, p, step, offsets, marks)
 }
 
 // ---- check 7
@@ -223,57 +208,34 @@ fn cliques_right_by(words: &[u32], at: usize, marks: &mut [bool], offsets: &mut 
     ensures { result ≡ cliques_right (pattern_at words.now at) }
 {
     let p = Pattern::here(words, at);
-    if !snodes_right(
-        words,
-        p.cliques,
-        p.clique_count,
-        p.vertex_count,
-        &mut *marks,
-    ) {
-        return false;
-    }
-    separators_right(
-        words,
-        p.cliques,
-        p.clique_count,
-        p.vertex_count,
-        marks,
-        offsets,
-    )
+    snodes_right(words, p, &mut *marks) && separators_right(words, p, marks, offsets)
 }
 
-// Makes check 7 with small buffers on the stack: up to 256 vertices take one window.
-fn few_cliques_right(words: &[u32], at: usize) -> bool
-    requires { (is_whole (read_pattern (drop at words.now)) ≡ true) × (tree_right (pattern_at words.now at) ≡ true) }
+// Makes check 7 with scratch buffers on the stack.
+fn cliques_right_with<const MARKS: usize, const OFFSETS: usize>(words: &[u32], at: usize) -> bool
+    requires words_value { (is_whole (read_pattern (drop at words.now)) ≡ true) × (tree_right (pattern_at words.now at) ≡ true) }
+    requires buffers { (0 < MARKS) × (MARKS ≤ 65536) × (256 ≤ OFFSETS) × (OFFSETS ≤ 65536) }
     ensures { result ≡ cliques_right (pattern_at words.now at) }
 {
-    let mut marks = [false; scratch::VERTICES];
-    let mut offsets = [0usize; scratch::VERTICES];
+    let mut marks = [false; MARKS];
+    let mut offsets = [0usize; OFFSETS];
     cliques_right_by(words, at, &mut marks, &mut offsets)
 }
 
+// The sizes of the scratch buffers for many vertices.
 const MANY_MARKS: usize = 65536;
 
 const MANY_OFFSETS: usize = 4096;
 
-// Makes check 7 with buffers for many vertices.
-fn many_cliques_right(words: &[u32], at: usize) -> bool
-    requires { (is_whole (read_pattern (drop at words.now)) ≡ true) × (tree_right (pattern_at words.now at) ≡ true) }
-    ensures { result ≡ cliques_right (pattern_at words.now at) }
-{
-    let mut marks = [false; MANY_MARKS];
-    let mut offsets = [0usize; MANY_OFFSETS];
-    cliques_right_by(words, at, &mut marks, &mut offsets)
-}
-
-// Makes check 7 on the pattern at offset `at`, which passes check 6. Patterns with at most 256 vertices use smaller buffers, faster to clear.
+// Makes check 7 on the pattern at offset `at`, which passes check 6. Patterns with at most 256 vertices take one window of smaller buffers,
+// faster to clear.
 pub fn cliques_right(words: &[u32], at: usize) -> bool
     requires { (is_whole (read_pattern (drop at words.now)) ≡ true) × (tree_right (pattern_at words.now at) ≡ true) }
     ensures { result ≡ cliques_right (pattern_at words.now at) }
 {
     let p = Pattern::here(words, at);
     if p.vertex_count <= scratch::VERTICES {
-        return few_cliques_right(words, at);
+        return cliques_right_with::<{ scratch::VERTICES }, { scratch::VERTICES }>(words, at);
     }
-    many_cliques_right(words, at)
+    cliques_right_with::<MANY_MARKS, MANY_OFFSETS>(words, at)
 }

@@ -29,10 +29,8 @@ fn mark_range(first: u32, count: u32, covered: &mut [bool])
     requires { (first + count ≤ length covered.old) × (first + count < 4294967296) }
     ensures { covered.new ≡ marked true (up_from first count) covered.old }
 {
-    let mut i = 0;
-    while i < count {
+    for i in 0..count {
         covered[(first + i) as usize] = true;
-        i += 1;
     }
 }
 
@@ -44,10 +42,8 @@ fn mark_column(vertices: &[u32], j: usize, base: u32, covered: &mut [bool])
 {
     let c = vertices[j];
     let row = base + triangular_number(c);
-    let mut i = 0;
-    while i <= j {
+    for i in 0..j + 1 {
         covered[(row + vertices[i]) as usize] = true;
-        i += 1;
     }
 }
 
@@ -56,10 +52,8 @@ fn mark_block(vertices: &[u32], base: u32, covered: &mut [bool])
     requires { T (rises vertices.now) × ColumnsFit base vertices.now 65536 × ColumnsFit base vertices.now (length covered.old) }
     ensures { covered.new ≡ marked true (map (pair_row base) (pairs vertices.now)) covered.old }
 {
-    let mut j = 0;
-    while j < vertices.len() {
+    for j in 0..vertices.len() {
         mark_column(vertices, j, base, &mut *covered);
-        j += 1;
     }
 }
 
@@ -80,9 +74,7 @@ fn mark_cliques(words: &[u32], ordering: &[u32], offsets: &[usize], base: u32, c
     requires block_fits { BlockFits base (length ordering.now) (length covered.old) }
     ensures { covered.new ≡ marked true (join (rows_here base words.now ordering.now) (reverse offsets.now)) covered.old }
 {
-    let mut c = offsets.len();
-    while 0 < c {
-        c -= 1;
+    for c in (0..offsets.len()).rev() {
         mark_clique(words, ordering, offsets[c], base, &mut *covered);
     }
 }
@@ -110,17 +102,16 @@ fn mark_covered(m: u32, cones: &[u32], count: u32, words: &[u32], covered: &mut 
 {
     let mut place = Place::start(m, cones, count, words);
     loop {
-        let met = place.next(m, cones, words);
-        match met {
-            Met::Whole(size, next) => {
+        match place.next(m, cones, words) {
+            Some(Met::Whole(size, next)) => {
                 mark_range(place.row, size, &mut *covered);
                 place = next;
             }
-            Met::Cut(at, next) => {
+            Some(Met::Cut(at, next)) => {
                 mark_pattern(words, at, place.row, &mut *covered);
                 place = next;
             }
-            Met::Done => {
+            None => {
                 return;
             }
         }
@@ -134,12 +125,10 @@ fn entries_covered(covered: &[bool], rows: &[u32]) -> bool
     ensures { result ≡ rows_marked covered.now rows.now }
 {
     let mut holds = true;
-    let mut i = 0;
-    while i < rows.len() {
-        if !covered[rows[i] as usize] {
+    for &row in rows {
+        if !covered[row as usize] {
             holds = false;
         }
-        i += 1;
     }
     holds
 }
@@ -148,10 +137,7 @@ fn entries_covered(covered: &[bool], rows: &[u32]) -> bool
 fn may_have(v: f64, marked: bool) -> bool
     ensures { result ≡ (eq v zero64 || marked) }
 {
-    if v == 0.0 {
-        return true;
-    }
-    marked
+    v == 0.0 || marked
 }
 
 // Checks that the nonzero values of `b` are in marked rows. The walk goes on after one that is not, so that the compiler tests several at a time.
@@ -160,12 +146,10 @@ fn values_covered(covered: &[bool], b: &[f64]) -> bool
     ensures { result ≡ values_marked covered.now b.now }
 {
     let mut holds = true;
-    let mut i = 0;
-    while i < b.len() {
-        if !may_have(b[i], covered[i]) {
+    for (i, &v) in b.iter().enumerate() {
+        if !may_have(v, covered[i]) {
             holds = false;
         }
-        i += 1;
     }
     holds
 }
@@ -177,13 +161,11 @@ fn sides_covered(covered: &[bool], m: u32, sides: &[f64], first: u32, last: u32)
     ensures { result ≡ sides_marked covered.now m first last sides.now }
 {
     let size = m as usize;
-    let mut k = first;
-    while k < last {
+    for k in first..last {
         let start = k as usize * size;
         if !values_covered(covered, &sides[start..start + size]) {
             return false;
         }
-        k += 1;
     }
     true
 }
@@ -193,10 +175,7 @@ fn first_covered(covered: &[bool], a_rows: &[u32], b: &[f64]) -> bool
     requires { Below (length covered.now) a_rows.now × (length b.now ≤ length covered.now) }
     ensures { result ≡ (rows_marked covered.now a_rows.now && values_marked covered.now b.now) }
 {
-    if !entries_covered(covered, a_rows) {
-        return false;
-    }
-    values_covered(covered, b)
+    entries_covered(covered, a_rows) && values_covered(covered, b)
 }
 
 // The results of check 9: `first` on A and b, `further` on the values of further right sides.

@@ -15,7 +15,7 @@ use Rattle.layout.proofs.Lists.Members.{has-cons, has-append, has-keep, all-has}
 use Rattle.layout.proofs.Lists.Distinct.{distinct-keep}
 use Rattle.layout.proofs.Lists.Keeps.{keep_append}
 use Rattle.utils.specs.Windows.{within, Marked}
-use Rattle.utils.proofs.Windows.{has_more, new_more, old_more, within_in, window_none, window_more, keep_all}
+use Rattle.utils.proofs.Windows.{has_more, new_more, old_more, within_before, within-after, within_in, window_none, window_more, keep_all}
 use Rattle.check_members.specs.OnceIn.{once_in}
 use Rattle.layout.proofs.Lists.Walks.{all_append}
 
@@ -25,6 +25,9 @@ in_window h = omega arith
 
 pub past_window : {low x n : ℕ} → low ≤ x → n ≤ x - low → low + n ≤ x
 past_window h k = omega arith
+
+pub outside : (low size x : ℕ) → (x < low) ⊎ (low + size ≤ x) → within low size x ≡ false
+outside low size x out = ⊎_elim (λ h. within_before low size x h) (λ h. within-after low size x (omega arith) (omega arith)) out
 
 -- ---- marks not yet cleared
 

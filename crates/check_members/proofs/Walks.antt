@@ -1,15 +1,16 @@
 -- Passes over the members of a list.
-use Prim.Native.Nat.{ℕ, suc, ◌+◌, ◌≤◌, ◌<◌}
+use Prim.Native.Nat.{ℕ, suc, ◌+◌, ◌-◌, ◌≤◌, ◌<◌}
 use native.Mathlib.Numerals.{add-one}
 use native.Mathlib.Omega.{arith}
 use mathlib.Core.Bool.{Bool, true, false, ◌&&◌}
 use mathlib.Core.Logic.{⊎_elim}
 use mathlib.Core.Path.{◌≡◌, refl, sym, ap, ◌∙◌}
 use mathlib.Core.List.{List, [], ◌∷◌}
-use lib.ListN.{length, get_or, drop, drop_of_length-le}
-use lib.Seq.{drop-cons}
-use lib.Dec.{T, leb, ltb, leb→le}
-use borrow.Author.Tests.{eq-eqb, ne_eqb, lt-ltb, le-ltb, le-leb, lt-leb}
+use lib.ListN.{length, get_or, take, drop, length-drop, drop_of_length-le}
+use lib.Seq.{drop-cons, take_all}
+use Rattle.std.specs.List.{list_any}
+use lib.Dec.{T, eqb, leb, ltb, leb→le}
+use borrow.Author.Tests.{eq-eqb, ne_eqb, eqb-true, eqb-false, lt-ltb, le-ltb, le-leb, lt-leb}
 use Rattle.layout.specs.General.Lists.{has, all, distinct}
 use Rattle.layout.proofs.Lists.Tests.{and_iff, and-true, and-false, and_right, differ, passed, passes}
 use Rattle.layout.proofs.Lists.Members.{has-cons}
@@ -33,6 +34,21 @@ distinct-not a k h e = ap distinct (drop-cons a k 0 h ∙ ap (λ (n : ℕ). get_
 
 pub distinct-done : (a : List ℕ) (k : ℕ) → length a ≤ k → distinct (drop k a) ≡ true
 distinct-done a k h = rw (drop_of_length-le a h)
+
+eqb_swap : (m n : ℕ) → eqb m n ≡ eqb n m
+eqb_swap m n = go (eqb m n) refl
+  where
+    go : (b : Bool) → eqb m n ≡ b → eqb m n ≡ eqb n m
+    go true q = q ∙ sym (eq-eqb n m (sym (eqb-true m n q)))
+    go false q = q ∙ sym (ne_eqb n m (λ e. eqb-false m n q (sym e)))
+
+-- `contains` on the end of a slice
+pub tail_has : (a : List ℕ) (k x : ℕ) → list_any (λ y. eqb y x) (take (length a - k) (drop k a)) ≡ has x (drop k a)
+tail_has a k x = rw (take_all (length a - k) (drop k a) (omega (arith, length-drop k a))) (go (drop k a))
+  where
+    go : (l : List ℕ) → list_any (λ y. eqb y x) l ≡ has x l
+    go [] = refl
+    go (y ∷ l) = rw (eqb_swap y x, go l)
 
 -- ---- strictly increasing numbers below n
 

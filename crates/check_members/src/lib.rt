@@ -8,29 +8,12 @@ ghost use Rattle.check_members.specs.OnceIn.{once_in, rises_below, once_below, o
 
 // ---- by searching
 
-// Checks whether `x` occurs in `a` at index `i` or later.
-fn stands_from(a: &[u32], i: usize, x: u32) -> bool
-    ensures { result ≡ has x (drop i a.now) }
-{
-    let mut j = i;
-    while j < a.len() {
-        if x == a[j] {
-            return true;
-        }
-        j += 1;
-    }
-    false
-}
-
 // Checks that `a` is duplicate-free.
 pub fn is_distinct(a: &[u32]) -> bool
     ensures { result ≡ distinct a.now }
 {
-    let mut i = 0;
-    while i < a.len() {
-        let x = a[i];
-        i += 1;
-        if stands_from(a, i, x) {
+    for (i, x) in a.iter().enumerate() {
+        if a[i + 1..].contains(x) {
             return false;
         }
     }
@@ -42,17 +25,12 @@ pub fn rises_below(us: &[u32], n: usize) -> bool
     ensures { result ≡ rises_below 0 n us.now }
 {
     let mut least = 0;
-    let mut i = 0;
-    while i < us.len() {
-        let v = us[i] as usize;
-        if v < least {
-            return false;
-        }
-        if n <= v {
+    for &u in us {
+        let v = u as usize;
+        if v < least || n <= v {
             return false;
         }
         least = v + 1;
-        i += 1;
     }
     true
 }
@@ -61,13 +39,7 @@ pub fn rises_below(us: &[u32], n: usize) -> bool
 fn once_below(us: &[u32], n: usize) -> bool
     ensures { result ≡ once_below n us.now }
 {
-    if rises_below(us, n) {
-        return true;
-    }
-    if !utils::all_below(us, n) {
-        return false;
-    }
-    is_distinct(us)
+    rises_below(us, n) || (utils::all_below(us, n) && is_distinct(us))
 }
 
 // Checks that each member of `us` is in `ms`. Each search starts after the last match and wraps around once, so members in the same order
@@ -77,9 +49,7 @@ pub fn held(us: &[u32], ms: &[u32]) -> bool
 {
     let mut ok = true;
     let mut j = 0;
-    let mut i = 0;
-    'walk: while i < us.len() {
-        let x = us[i];
+    'walk: for &x in us {
         let mut around = false;
         loop {
             if ms.len() <= j {
@@ -97,7 +67,6 @@ pub fn held(us: &[u32], ms: &[u32]) -> bool
             j += 1;
         }
         j += 1;
-        i += 1;
     }
     ok
 }
@@ -106,10 +75,7 @@ pub fn held(us: &[u32], ms: &[u32]) -> bool
 fn once_in_walk(us: &[u32], ms: &[u32], n: usize) -> bool
     ensures { result ≡ once_below_in n ms.now us.now }
 {
-    if !once_below(us, n) {
-        return false;
-    }
-    held(us, ms)
+    once_below(us, n) && held(us, ms)
 }
 
 // ---- with marks
@@ -119,18 +85,11 @@ fn mark_only(words: &[u32], low: usize, marks: &mut [bool])
     ensures { Marked low marks.new words.now }
 {
     utils::clear(&mut *marks);
-    let mut i = 0;
-    while i < words.len() {
-        let x = words[i] as usize;
-        i += 1;
-        if x < low {
-            continue;
+    for &word in words {
+        let x = word as usize;
+        if low <= x && x - low < marks.len() {
+            marks[x - low] = true;
         }
-        let v = x - low;
-        if marks.len() <= v {
-            continue;
-        }
-        marks[v] = true;
     }
 }
 
@@ -138,21 +97,14 @@ fn mark_only(words: &[u32], low: usize, marks: &mut [bool])
 fn unmark(words: &[u32], low: usize, marks: &mut [bool]) -> bool
     ensures { Unmarks low marks.old words.now result }
 {
-    let mut i = 0;
-    while i < words.len() {
-        let x = words[i] as usize;
-        i += 1;
-        if x < low {
-            continue;
+    for &word in words {
+        let x = word as usize;
+        if low <= x && x - low < marks.len() {
+            if !marks[x - low] {
+                return false;
+            }
+            marks[x - low] = false;
         }
-        let v = x - low;
-        if marks.len() <= v {
-            continue;
-        }
-        if !marks[v] {
-            return false;
-        }
-        marks[v] = false;
     }
     true
 }
@@ -185,13 +137,8 @@ pub fn once_in(us: &[u32], ms: &[u32], n: usize, marks: &mut [bool]) -> bool
     requires { 0 < length marks.old }
     ensures { result ≡ once_below_in n ms.now us.now }
 {
-    if us.len() <= FEW {
-        if ms.len() <= FEW {
-            return once_in_walk(us, ms, n);
-        }
+    if us.len() <= FEW && ms.len() <= FEW {
+        return once_in_walk(us, ms, n);
     }
-    if !utils::all_below(us, n) {
-        return false;
-    }
-    once_in_by(us, ms, n, marks)
+    utils::all_below(us, n) && once_in_by(us, ms, n, marks)
 }

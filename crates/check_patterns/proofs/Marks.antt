@@ -14,7 +14,7 @@ use Rattle.layout.specs.General.Lists.{has, all, distinct, is_permutation}
 use Rattle.layout.proofs.Lists.Tests.{and_iff, passed, passes, failed, differ, lt_or_le}
 use Rattle.layout.proofs.Lists.Members.{has-cons, has-append, all-has}
 use Rattle.layout.proofs.Lists.Distinct.{distinct_append, permutation-has}
-use Rattle.utils.proofs.Windows.{has_more, take_more}
+use Rattle.utils.proofs.Windows.{has_more, take_more, split_more}
 use Rattle.supernode_tree.proofs.Words.{drop-next, part-part}
 use Rattle.check_members.specs.OnceIn.{once_below}
 use Rattle.check_patterns.specs.Accepted.{AllClear, Met}
@@ -138,6 +138,10 @@ pub part-not-once : (n : ℕ) (met ws : List ℕ) (a e i : ℕ) → a ≤ i → 
     → (n ≤ get_or ws i 0) ⊎ T (has (get_or ws i 0) (met ++ take (i - a) (drop a ws))) → false ≡ once_below n (met ++ take (e - a) (drop a ws))
 part-not-once n met ws a e i l h f bad =
     sym (ap (once_below n) (part_around met ws a e i l h f) ∙ not-once n (met ++ take (i - a) (drop a ws)) (get_or ws i 0) _ bad)
+
+pub once_not : (n : ℕ) (met ws : List ℕ) (i : ℕ) → i < length ws → (n ≤ get_or ws i 0) ⊎ T (has (get_or ws i 0) (met ++ take i ws))
+    → false ≡ once_below n (met ++ ws)
+once_not n met ws i h bad = sym (ap (once_below n) (split_more met ws i h) ∙ not-once n (met ++ take i ws) (get_or ws i 0) (drop (suc i) ws) bad)
 
 -- if a list has no duplicates and only numbers below n, so has each prefix of it
 pub once_front : (n : ℕ) (xs ys : List ℕ) → once_below n (xs ++ ys) ≡ true → once_below n xs ≡ true

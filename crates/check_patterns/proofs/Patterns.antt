@@ -16,7 +16,7 @@ use Rattle.layout.specs.Rows.Blocks.{block_rows, overlap_rows}
 use Rattle.layout.specs.Checks.{cones_bounded, sizes_bounded, no_cone, names_its_cone, orderings_right, patterns_read, tree_right, cliques_right, RightPattern}
 use Rattle.supernode_tree.specs.Reads.{head_of, pattern_read, PatternInside, value_or, is_whole, rest, pattern_at}
 use Rattle.supernode_tree.specs.declared.Pattern.{Pattern as PatternAt}
-use Rattle.supernode_tree.specs.declared.PatternRead.TheVariants.{Pattern as FoundPattern}
+use Rattle.std.specs.Prelude.{Some}
 use Rattle.supernode_tree.proofs.Sizes.{triangle-small, blocks-small}
 use Rattle.supernode_tree.proofs.Many.{whole-read, ends-whole, many-length}
 use Rattle.supernode_tree.proofs.Words.{ends_made, ends_at, length_part}
@@ -63,8 +63,8 @@ abbrev made : ℕ → ℕ → ℕ → ℕ → ℕ → PatternAt
 made o v k a c = record { orig_index = o; vertex_count = v; clique_count = k; ordering = a; cliques = c }
 
 -- two patterns read at one offset with the same head are equal
-same_pattern : (ws : List ℕ) (at : ℕ) (p r : PatternAt) → pattern_read ws (FoundPattern p) ≡ pattern_read ws (FoundPattern r)
-    → PatternInside (length ws) at (FoundPattern p) → PatternInside (length ws) at (FoundPattern r) → p ≡ r
+same_pattern : (ws : List ℕ) (at : ℕ) (p r : PatternAt) → pattern_read ws (Some p) ≡ pattern_read ws (Some r)
+    → PatternInside (length ws) at (Some p) → PatternInside (length ws) at (Some r) → p ≡ r
 same_pattern ws at p r e f g =
     let h : head_of ws p ≡ head_of ws r = ap (value_or no_head) e in
     let o : p.orig_index ≡ r.orig_index = ap (λ (i : Head). i.orig_index) h in
@@ -98,7 +98,7 @@ head-held cones ws at least t =
     }
 
 -- the part of the words that is the ordering
-module _ (ws : List ℕ) (at : ℕ) (p : PatternAt) (i : PatternInside (length ws) at (FoundPattern p)) where
+module _ (ws : List ℕ) (at : ℕ) (p : PatternAt) (i : PatternInside (length ws) at (Some p)) where
   pub ordering-fits : (p.ordering ≤ p.cliques) × (p.cliques ≤ length ws)
   ordering-fits = (omega (arith, i.1), i.2)
 
@@ -121,7 +121,7 @@ module _ (ws : List ℕ) (at : ℕ) (p : PatternAt) (i : PatternInside (length w
         met_turn p.vertex_count new (head_of ws p).ordering
         (subst (Met true p.vertex_count new) part ((m [] (met_start p.vertex_count marks clear)).1 held)) ordering-many
 
-module _ (cones ws : List ℕ) (w : Walk) (p : PatternAt) (e : pattern_read ws (FoundPattern p) ≡ read_head (drop w.next ws))
+module _ (cones ws : List ℕ) (w : Walk) (p : PatternAt) (e : pattern_read ws (Some p) ≡ read_head (drop w.next ws))
     (f : HeadHolds cones ws w.next w.least) where
   -- the head at the walk's offset is that of the pattern read there
   same_head : head_at ws w.next ≡ head_of ws p
@@ -140,7 +140,7 @@ module _ (cones ws : List ℕ) (w : Walk) (p : PatternAt) (e : pattern_read ws (
   pub vertex_room : p.vertex_count ≤ 256
   vertex_room = subst (λ (h : Head). h.vertex_count ≤ 256) same_head f.small
 
-  pub vertices_hold_lem : (offsets : List ℕ) → PatternInside (length ws) w.next (FoundPattern p) → is_permutation (head_of ws p).ordering ≡ true
+  pub vertices_hold_lem : (offsets : List ℕ) → PatternInside (length ws) w.next (Some p) → is_permutation (head_of ws p).ordering ≡ true
       → SnodesHold ws p offsets → VerticesHold cones ws w offsets
   vertices_hold_lem offsets inside ordering s = record {
     head = f;

@@ -13,7 +13,7 @@ use Rattle.layout.specs.Problems.Patterns.{block_size, read_clique, read_cliques
 use Rattle.supernode_tree.specs.Sizes.{dim_of, overlaps_of}
 use Rattle.supernode_tree.specs.Reads.{is_whole, Whole, rest, cliques_from, clique_of, clique_read, CliqueInside}
 use Rattle.supernode_tree.specs.declared.Clique.{Clique as CliqueAt}
-use Rattle.supernode_tree.specs.declared.CliqueRead.TheVariants.{Clique as Found}
+use Rattle.std.specs.Prelude.{Some}
 use Rattle.supernode_tree.specs.declared.Pattern.{Pattern as PatternAt}
 use Rattle.supernode_tree.proofs.Cliques.{whole-next, rest-next, rest-none, from_next, from-none, separator-part, separator-size, block_size_lem, clique_goes, clique_stops}
 use Rattle.supernode_tree.proofs.Sizes.{triangle-small, sum-cons, sum-none}
@@ -32,7 +32,6 @@ pub record Seen (ws : List ℕ) (p : PatternAt) (b : Blocks) (left : ℕ) : Type
   pub few-overlaps : b.overlaps + left * 32896 ≤ p.clique_count * 32896
   pub after : rest (read_cliques p.clique_count (drop p.cliques ws)) ≡ rest (read_cliques left (drop b.next ws))
   pub inside : b.next ≤ length ws
-  pub past : 0 < b.next
 
 pub seen_none : (ws : List ℕ) (p : PatternAt) (b : Blocks) → Whole ws p.cliques p.clique_count → (0 < p.cliques) × (p.cliques ≤ length ws)
     → (b.next ≡ p.cliques) × (b.dim ≡ 0) × (b.overlaps ≡ 0) → Seen ws p b p.clique_count
@@ -47,7 +46,6 @@ seen_none ws p b w l e =
       few-overlaps = omega (arith, e.2);
       after = ap (λ (i : ℕ). rest (read_cliques p.clique_count (drop i ws))) n;
       inside = omega (arith, e.0, l.1);
-      past = omega (arith, e.0, l.0);
     }
 
 abbrev made : ℕ → ℕ → ℕ → Blocks
@@ -58,7 +56,7 @@ same_blocks r b n d o =
     ap (λ (i : ℕ). made i r.dim r.overlaps) n ∙ ap (λ (i : ℕ). made b.next i r.overlaps) d ∙ ap (λ (i : ℕ). made b.next b.dim i) o
 
 -- a separator starts before it ends, inside the words
-pub block-fits : (ws : List ℕ) (at : ℕ) (q : CliqueAt) → CliqueInside (length ws) at (Found q) → (q.separator ≤ q.next) × (q.next ≤ length ws)
+pub block-fits : (ws : List ℕ) (at : ℕ) (q : CliqueAt) → CliqueInside (length ws) at (Some q) → (q.separator ≤ q.next) × (q.next ≤ length ws)
 block-fits ws at q inside = (omega (arith, inside.2), inside.3)
 
 module _ (ws : List ℕ) (p : PatternAt) (b : Blocks) (left : ℕ) (s : Seen ws p b left) where
@@ -72,7 +70,7 @@ module _ (ws : List ℕ) (p : PatternAt) (b : Blocks) (left : ℕ) (s : Seen ws 
     less : (d t k : ℕ) → t ≤ 32896 → d + left * 32896 ≤ k → d + t + (left - 1) * 32896 ≤ k
     less d t k h l = omega arith
 
-    module _ (q : CliqueAt) (e : clique_read ws (Found q) ≡ read_clique (drop b.next ws)) (inside : CliqueInside (length ws) b.next (Found q))
+    module _ (q : CliqueAt) (e : clique_read ws (Some q) ≡ read_clique (drop b.next ws)) (inside : CliqueInside (length ws) b.next (Some q))
         (r : Bool) (so : r ≡ (leb (q.snode_count + q.separator_count) 256 && separator_below p.vertex_count (cliques_of ws p) q.parent (take (q.next - q.separator) (drop q.separator ws)))) where
       -- the result is whether the clique's separator fits
       fit : r ≡ separator_fits p.vertex_count (cliques_of ws p) (clique_of ws q)
@@ -84,25 +82,24 @@ module _ (ws : List ℕ) (p : PatternAt) (b : Blocks) (left : ℕ) (s : Seen ws 
       fits-small held = leb-true _ _ (and_parts (leb (q.snode_count + q.separator_count) 256) _ (sym so ∙ held)).0
 
       pub seen_stops : r ≡ false → separators_fit p.vertex_count (cliques_of ws p) ≡ false
-      seen_stops fell = clique_stops ws b.next left (Found q) e more q refl s.stand (separator_fits p.vertex_count (cliques_of ws p)) _ r s.later fit fell
+      seen_stops fell = clique_stops ws b.next left (Some q) e more q refl s.stand (separator_fits p.vertex_count (cliques_of ws p)) _ r s.later fit fell
 
       first : cliques_from ws b.next left ≡ clique_of ws q ∷ cliques_from ws q.next (left - 1)
-      first = from_next ws b.next left (Found q) e more q refl s.stand
+      first = from_next ws b.next left (Some q) e more q refl s.stand
 
       abbrev beside : Blocks
       beside = made q.next (b.dim + triangle (q.snode_count + q.separator_count)) (b.overlaps + triangle q.separator_count)
 
       seen : r ≡ true → Seen ws p beside (left - 1)
       seen held = record {
-        stand = sym (whole-next ws b.next left (Found q) e more q refl) ∙ s.stand;
-        later = clique_goes ws b.next left (Found q) e more q refl s.stand (separator_fits p.vertex_count (cliques_of ws p)) _ r s.later fit held;
+        stand = sym (whole-next ws b.next left (Some q) e more q refl) ∙ s.stand;
+        later = clique_goes ws b.next left (Some q) e more q refl s.stand (separator_fits p.vertex_count (cliques_of ws p)) _ r s.later fit held;
         dim = sum-cons dim_of (clique_of ws q) (cliques_from ws q.next (left - 1)) _ b.dim (triangle (q.snode_count + q.separator_count)) _ first (ap triangle (sym (block_size_lem ws b.next q inside))) s.dim;
         overlaps = sum-cons overlaps_of (clique_of ws q) (cliques_from ws q.next (left - 1)) _ b.overlaps (triangle q.separator_count) _ first (ap triangle (sym (separator-size ws b.next q inside))) s.overlaps;
         few-rows = less b.dim (triangle (q.snode_count + q.separator_count)) _ (triangle-small (q.snode_count + q.separator_count) (fits-small held)) s.few-rows;
         few-overlaps = less b.overlaps (triangle q.separator_count) _ (triangle-small q.separator_count (omega (arith, fits-small held))) s.few-overlaps;
-        after = s.after ∙ rest-next ws b.next left (Found q) e more q refl;
+        after = s.after ∙ rest-next ws b.next left (Some q) e more q refl;
         inside = inside.3;
-        past = omega (arith, inside.0, inside.1, inside.2);
       }
 
       pub seen_more : r ≡ true → (r : Blocks)

@@ -15,7 +15,7 @@ use Rattle.layout.proofs.Lists.Starts.{join-append}
 use Rattle.supernode_tree.specs.Reads.{clique_of, clique_read, CliqueInside, is_whole, rest, value_or, clique_here}
 use Rattle.supernode_tree.specs.declared.Clique.{Clique as CliqueAt}
 use Rattle.supernode_tree.specs.declared.Pattern.{Pattern as PatternAt}
-use Rattle.supernode_tree.specs.declared.CliqueRead.TheVariants.{Clique as Found}
+use Rattle.std.specs.Prelude.{Some}
 use Rattle.supernode_tree.proofs.Words.{length_part}
 use Rattle.supernode_tree.proofs.Many.{whole-read, first-whole, many-value, many-whole}
 use Rattle.supernode_tree.proofs.Cliques.{snode-size, separator-size}
@@ -80,7 +80,7 @@ tree_last k c (p ∷ qs) q h e = go (clique_ok k c p) h (tree_last k (suc c) qs 
 
 -- a clique that is read is valid exactly if its snode is not empty and its parent is valid
 pub clique_is : (ws : List ℕ) (at c count : ℕ) (q : CliqueAt) → read_clique (drop at ws) ≡ read (clique_of ws q) (drop q.next ws)
-    → CliqueInside (length ws) at (Found q)
+    → CliqueInside (length ws) at (Some q)
     → clique_right count c (read_clique (drop at ws)) ≡ (not (eqb q.snode_count 0) && parent_ok count c q.parent q.separator_count)
 clique_is ws at c count q e inside =
     ap (clique_right count c) e
@@ -210,7 +210,7 @@ module _ (ws : List ℕ) (p : PatternAt) (marks : List Bool) (offsets : List ℕ
         fell))
 
   -- the state after one more clique
-  pub walked_more : (q : CliqueAt) (new : List Bool) (r : Bool) → clique_read ws (Found q) ≡ read_clique (drop at ws) → CliqueInside (length ws) at (Found q)
+  pub walked_more : (q : CliqueAt) (new : List Bool) (r : Bool) → clique_read ws (Some q) ≡ read_clique (drop at ws) → CliqueInside (length ws) at (Some q)
       → SnodeHolds ws p at c marks new r → r ≡ true → c < length offsets → c < p.clique_count
       → Walked ws p new (set offsets c at) (total + q.snode_count) q.next (c + 1)
   walked_more q new r e inside holds held room few =

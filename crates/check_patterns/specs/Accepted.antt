@@ -8,7 +8,7 @@ use Rattle.layout.specs.Checks.{tree_right, cliques_right, patterns_read}
 use Rattle.supernode_tree.specs.Reads.{head_of, pattern_read, PatternInside, value_or, is_whole, Whole, rest, cliques_from, pattern_at, clique_here}
 use Rattle.supernode_tree.specs.Offsets.{OffsetsEvery}
 use Rattle.supernode_tree.specs.declared.Pattern.{Pattern as PatternAt}
-use Rattle.supernode_tree.specs.declared.PatternRead.TheVariants.{Pattern as FoundPattern}
+use Rattle.std.specs.Prelude.{Some}
 use Rattle.supernode_tree.specs.Sizes.{block_at_most, dim_of, overlaps_of}
 use Rattle.sparsity_pattern.specs.Sparsity.{pattern_right, patterns_read_from}
 use Rattle.supportedcone.specs.Ranges.{is_psd_of}
@@ -143,7 +143,7 @@ pub record HeadHolds (cones ws : List ℕ) (at least : ℕ) : Type 0 where
 -- the head of the walk's next pattern is valid, its ordering is a permutation, and its snodes are valid
 pub record VerticesHold (cones ws : List ℕ) (w : Walk) (offsets : List ℕ) : Type 0 where
   pub head : HeadHolds cones ws w.next w.least
-  pub vertices : (p : PatternAt) → pattern_read ws (FoundPattern p) ≡ read_head (drop w.next ws) → PatternInside (length ws) w.next (FoundPattern p)
+  pub vertices : (p : PatternAt) → pattern_read ws (Some p) ≡ read_head (drop w.next ws) → PatternInside (length ws) w.next (Some p)
       → (is_permutation (head_of ws p).ordering ≡ true) × SnodesHold ws p offsets
 
 -- the walk's next pattern is complete and valid, and ends at offset `b.next`; b has the rows and overlaps of its blocks

@@ -3,7 +3,7 @@
 // are vertices of later snodes, so no block is larger than its cone.
 #![tactic(auto)]
 
-ghost use Rattle.std.specs.Prelude.{◌≡◌, true, false, ◌&&◌, [], ◌+◌, ◌-◌, ◌*◌, ◌≤◌, ◌<◌, leb, ltb, length, take, drop};
+ghost use Rattle.std.specs.Prelude.{◌≡◌, true, false, ◌&&◌, [], ◌+◌, ◌-◌, ◌*◌, ◌≤◌, ◌<◌, leb, is_some, IfSome, is_ok, IfOk, IfErr, length, take, drop};
 ghost use Rattle.supernode_tree.specs.Reads.{cliques_from, is_whole};
 ghost use Rattle.check_members.specs.OnceIn.{once_below_in};
 ghost use Rattle.check_cliques.specs.Trees.{separator_below};
@@ -14,10 +14,9 @@ ghost use Rattle.layout.specs.Problems.Patterns.{patterns, read_head, read_cliqu
 ghost use Rattle.check_patterns.specs.Accepted.{Summed, AllClear, Met, AddsOnce, clique_right, SnodeHolds, snodes_right, SnodesHold, separators_fit, SeparatorsHold, Stand, head_right, vertices_right, VerticesHold, head_at, pattern_holds, PatternHolds, Added, PassedBefore};
 
 use constants::{limit, scratch};
-use supernode_tree::{Clique, CliqueRead, Pattern, PatternRead};
+use supernode_tree::{Clique, Pattern};
 
 // The totals over the cliques that passed: the offset of the word after them, their blocks' rows, and how many of these rows are overlaps.
-// `next` is 0 where a clique failed.
 #[derive(Clone, Copy)]
 struct Blocks {
     next: usize,
@@ -25,14 +24,13 @@ struct Blocks {
     overlaps: u64,
 }
 
-// Sets the marks of the vertices `words[a..e]` to `b`. Returns false, with some marks changed, if one of them is not below `n` or has the mark `b` already.
-fn mark_all(words: &[u32], a: usize, e: usize, n: usize, b: bool, marks: &mut [bool]) -> bool
-    requires { (a ≤ e) × (e ≤ length words.now) × (n ≤ length marks.old) }
-    ensures { AddsOnce b n marks.old (take (e - a) (drop a words.now)) marks.new result }
+// Sets the marks of the vertices `words` to `b`. Returns false, with some marks changed, if one of them is not below `n` or has the mark `b` already.
+fn mark_all(words: &[u32], n: usize, b: bool, marks: &mut [bool]) -> bool
+    requires { n ≤ length marks.old }
+    ensures { AddsOnce b n marks.old words.now marks.new result }
 {
-    let mut i = a;
-    while i < e {
-        let x = words[i] as usize;
+    for &word in words {
+        let x = word as usize;
         if n <= x {
             return false;
         }
@@ -40,7 +38,6 @@ fn mark_all(words: &[u32], a: usize, e: usize, n: usize, b: bool, marks: &mut [b
             return false;
         }
         marks[x] = b;
-        i += 1;
     }
     true
 }
@@ -60,13 +57,10 @@ fn clique_holds(words: &[u32], at: usize, c: u32, count: u32) -> bool
     requires { c < count }
     ensures { result ≡ clique_right count c (read_clique (drop at words.now)) }
 {
-    let CliqueRead::Clique(q) = Clique::read(words, at) else {
+    let Some(q) = Clique::read(words, at) else {
         return false;
     };
-    if q.snode_count == 0 {
-        return false;
-    }
-    check_cliques::parent_right(q, c, count)
+    q.snode_count != 0 && check_cliques::parent_right(q, c, count)
 }
 
 // Checks the same, and that each vertex of the clique's snode has its mark, which it clears. A vertex in two snodes fails at the second.
@@ -78,7 +72,7 @@ fn snode_holds(words: &[u32], p: Pattern, at: usize, c: u32, marks: &mut [bool])
         return false;
     }
     let q = Clique::here(words, at);
-    mark_all(words, q.snode, q.separator, p.vertex_count, false, marks)
+    mark_all(&words[q.snode..q.separator], p.vertex_count, false, marks)
 }
 
 // Checks the same for all cliques of `p`, and writes the offset of each to `offsets`. Returns whether they pass and have as many snode vertices as `p`
@@ -91,8 +85,7 @@ fn snodes_hold(words: &[u32], p: Pattern, marks: &mut [bool], offsets: &mut [usi
 {
     let mut total = 0;
     let mut at = p.cliques;
-    let mut c = 0;
-    while c < p.clique_count {
+    for c in 0..p.clique_count {
         if !snode_holds(words, p, at, c, &mut *marks) {
             return false;
         }
@@ -100,7 +93,6 @@ fn snodes_hold(words: &[u32], p: Pattern, marks: &mut [bool], offsets: &mut [usi
         let q = Clique::here(words, at);
         total += q.snode_count;
         at = q.next;
-        c += 1;
     }
     total == p.vertex_count
 }
@@ -123,10 +115,8 @@ fn separator_right(
     requires marks_nonzero { 0 < length marks.old }
     ensures { result ≡ once_below_in n (take (f - b) (drop b words.now)) (take (e - a) (drop a words.now)) }
 {
-    if f - b <= scratch::VERTICES {
-        if check_members::rises_below(&words[a..e], n) {
-            return check_members::held(&words[a..e], &words[b..f]);
-        }
+    if f - b <= scratch::VERTICES && check_members::rises_below(&words[a..e], n) {
+        return check_members::held(&words[a..e], &words[b..f]);
     }
     check_cliques::separator_right(words, a, e, b, f, n, marks)
 }
@@ -181,35 +171,32 @@ fn with_clique(b: Blocks, q: Clique) -> Blocks
     }
 }
 
-fn no_blocks(next: usize) -> Blocks
-    ensures { (result.next ≡ next) × (result.dim ≡ 0) × (result.overlaps ≡ 0) }
+// Checks the separator of each clique of `p`, and counts the rows and overlaps of the blocks. Returns the totals, or `None` if a clique fails.
+fn separators_hold(
+    words: &[u32],
+    p: Pattern,
+    offsets: &[usize],
+    marks: &mut [bool],
+) -> Option<Blocks>
+    requires stand { Stand words.now p offsets.now }
+    requires cliques_in_bounds { p.cliques ≤ length words.now }
+    requires marks_nonzero { 0 < length marks.old }
+    ensures value { is_some result ≡ separators_fit p.vertex_count (cliques_from words.now p.cliques p.clique_count) }
+    ensures separators_hold { IfSome result (λ b. SeparatorsHold words.now p b) }
 {
-    Blocks {
-        next: next,
+    let mut b = Blocks {
+        next: p.cliques,
         dim: 0,
         overlaps: 0,
-    }
-}
-
-// Checks the separator of each clique of `p`, and counts the rows and overlaps of the blocks. Returns the totals, with `next` 0 if a clique fails.
-fn separators_hold(words: &[u32], p: Pattern, offsets: &[usize], marks: &mut [bool]) -> Blocks
-    requires stand { Stand words.now p offsets.now }
-    requires cliques_nonzero { (0 < p.cliques) × (p.cliques ≤ length words.now) }
-    requires marks_nonzero { 0 < length marks.old }
-    ensures next_value { ltb 0 result.next ≡ separators_fit p.vertex_count (cliques_from words.now p.cliques p.clique_count) }
-    ensures separators_hold { 0 < result.next → SeparatorsHold words.now p result }
-{
-    let mut b = no_blocks(p.cliques);
-    let mut left = p.clique_count;
-    while 0 < left {
+    };
+    for _ in 0..p.clique_count {
         let q = Clique::here(words, b.next);
         if !separator_holds(words, p, q, offsets, &mut *marks) {
-            return no_blocks(0);
+            return None;
         }
         b = with_clique(b, q);
-        left -= 1;
     }
-    b
+    Some(b)
 }
 
 // ---- patterns
@@ -231,7 +218,7 @@ struct Walk {
 fn head_holds(cones: &[u32], words: &[u32], at: usize, least: u64) -> bool
     ensures { result ≡ head_right cones.now least (read_head (drop at words.now)) }
 {
-    let PatternRead::Pattern(p) = Pattern::read(words, at) else {
+    let Some(p) = Pattern::read(words, at) else {
         return false;
     };
     if (p.orig_index as u64) < least {
@@ -266,21 +253,16 @@ fn vertices_hold(
         return false;
     }
     let p = Pattern::here(words, w.next);
-    if !mark_all(
-        words,
-        p.ordering,
-        p.cliques,
+    mark_all(
+        &words[p.ordering..p.cliques],
         p.vertex_count,
         true,
         &mut *marks,
-    ) {
-        return false;
-    }
-    snodes_hold(words, p, marks, offsets)
+    ) && snodes_hold(words, p, marks, offsets)
 }
 
 // Makes checks 5, 6 and 7 on the pattern at `w.next`. The scratch buffers are `marks` for its vertices, `offsets` for its cliques, and `others` for
-// separators. Returns the totals over its blocks, with `next` 0 if it fails.
+// separators. Returns the totals over its blocks, or `None` if it fails.
 fn pattern_holds(
     cones: &[u32],
     words: &[u32],
@@ -288,15 +270,15 @@ fn pattern_holds(
     marks: &mut [bool],
     offsets: &mut [usize],
     others: &mut [bool],
-) -> Blocks
+) -> Option<Blocks>
     requires in_bounds { (256 ≤ length marks.old) × (256 ≤ length offsets.old) × AllClear marks.old }
     requires others_nonzero { 0 < length others.old }
     requires cones_value { cones_bounded cones.now ≡ true }
-    ensures next_value { ltb 0 result.next ≡ pattern_holds cones.now w.least (read_pattern (drop w.next words.now)) }
-    ensures pattern_holds { 0 < result.next → PatternHolds cones.now words.now w result × AllClear marks.new }
+    ensures value { is_some result ≡ pattern_holds cones.now w.least (read_pattern (drop w.next words.now)) }
+    ensures pattern_holds { IfSome result (λ b. PatternHolds cones.now words.now w b × AllClear marks.new) }
 {
     if !vertices_hold(cones, words, w, marks, &mut *offsets) {
-        return no_blocks(0);
+        return None;
     }
     let p = Pattern::here(words, w.next);
     separators_hold(words, p, offsets, others)
@@ -319,43 +301,31 @@ fn with_pattern(words: &[u32], w: Walk, b: Blocks) -> Walk
     }
 }
 
-// Whether checks 5, 6 and 7 pass and, where they do, the rows of the blocks, the rows of the decomposed cones, the overlaps, and the cliques. The patterns
-// before offset `next` pass; from there on `left` patterns are left, whose first may not name a cone before `least`.
+// The totals over all patterns: the rows of the blocks, the rows of the decomposed cones, the overlaps, and the cliques.
 #[derive(Clone, Copy)]
 pub struct Accepted {
-    pub holds: bool,
     pub dim: u64,
     pub cut: u64,
     pub overlaps: u64,
     pub cliques: u64,
+}
+
+// The place of the first pattern that fails. The patterns before offset `next` pass; from there on `left` patterns are left, whose first may not name
+// a cone before `least`.
+#[derive(Clone, Copy)]
+pub struct Stopped {
     pub next: usize,
     pub least: u64,
     pub left: u32,
 }
 
-fn answer(holds: bool, w: Walk, left: u32) -> Accepted
-    ensures holds_value { (result.holds ≡ holds) × (result.dim ≡ w.dim) × (result.cut ≡ w.cut) × (result.overlaps ≡ w.overlaps) × (result.cliques ≡ w.cliques) }
-    ensures next_value { (result.next ≡ w.next) × (result.least ≡ w.least) × (result.left ≡ left) }
-{
-    Accepted {
-        holds: holds,
-        dim: w.dim,
-        cut: w.cut,
-        overlaps: w.overlaps,
-        cliques: w.cliques,
-        next: w.next,
-        least: w.least,
-        left: left,
-    }
-}
-
-// Makes checks 5, 6 and 7 on `count` patterns in `words`. Returns whether they pass, with the totals over all patterns; where they do not pass, with the
-// place of the first pattern that fails.
-pub fn patterns_hold(cones: &[u32], count: u32, words: &[u32]) -> Accepted
+// Makes checks 5, 6 and 7 on `count` patterns in `words`. Returns the totals over all patterns if they pass, and otherwise the place of the first
+// that fails.
+pub fn patterns_hold(cones: &[u32], count: u32, words: &[u32]) -> Result<Accepted, Stopped>
     requires { cones_bounded cones.now ≡ true }
-    ensures holds_value { result.holds ≡ (patterns_read cones.now count words.now && all tree_right (patterns count words.now) && all cliques_right (patterns count words.now)) }
-    ensures summed { result.holds ≡ true → Summed (patterns count words.now) result × (result.dim ≤ count * 8421376) × (result.cliques ≤ count * 8421376) }
-    ensures passed_before { PassedBefore cones.now count words.now result.next result.least result.left }
+    ensures value { is_ok result ≡ (patterns_read cones.now count words.now && all tree_right (patterns count words.now) && all cliques_right (patterns count words.now)) }
+    ensures summed { IfOk result (λ r. Summed (patterns count words.now) r × (r.dim ≤ count * 8421376) × (r.cliques ≤ count * 8421376)) }
+    ensures passed_before { IfErr result (λ s. PassedBefore cones.now count words.now s.next s.least s.left) }
 {
     let mut marks = [false; scratch::VERTICES];
     let mut offsets = [0usize; scratch::VERTICES];
@@ -368,14 +338,27 @@ pub fn patterns_hold(cones: &[u32], count: u32, words: &[u32]) -> Accepted
         overlaps: 0,
         cliques: 0,
     };
-    let mut left = count;
-    while 0 < left {
-        let b = pattern_holds(cones, words, w, &mut marks, &mut offsets, &mut others);
-        if b.next == 0 {
-            return answer(false, w, left);
-        }
+    for i in 0..count {
+        let Some(b) = pattern_holds(cones, words, w, &mut marks, &mut offsets, &mut others) else {
+            return Err(Stopped {
+                next: w.next,
+                least: w.least,
+                left: count - i,
+            });
+        };
         w = with_pattern(words, w, b);
-        left -= 1;
     }
-    answer(w.next == words.len(), w, left)
+    if w.next != words.len() {
+        return Err(Stopped {
+            next: w.next,
+            least: w.least,
+            left: 0,
+        });
+    }
+    Ok(Accepted {
+        dim: w.dim,
+        cut: w.cut,
+        overlaps: w.overlaps,
+        cliques: w.cliques,
+    })
 }

@@ -158,18 +158,18 @@ fn count_patterns(m: u32, cones: &[u32], count: u32, words: &[u32]) -> Outcome
     ensures refusal_value { result.refusal ≡ patterns_refusal cones.now count words.now }
     ensures counts { result.refusal ≡ 0 → Counts (joined_parts cones.now count words.now) result }
 {
-    let walk = check_patterns::patterns_hold(cones, count, words);
-    if walk.holds {
-        let records = supportedcone::record_count(cones);
-        return Outcome {
-            refusal: refusal::DONE,
-            rows: m as u64 + walk.dim - walk.cut,
-            overlaps: walk.overlaps,
-            cones: records as u64 + walk.cliques - count as u64,
-        };
+    match check_patterns::patterns_hold(cones, count, words) {
+        Ok(sums) => {
+            let records = supportedcone::record_count(cones);
+            Outcome {
+                refusal: refusal::DONE,
+                rows: m as u64 + sums.dim - sums.cut,
+                overlaps: sums.overlaps,
+                cones: records as u64 + sums.cliques - count as u64,
+            }
+        }
+        Err(stop) => refused_as(refuse_patterns(cones, stop.least, stop.left, &words[stop.next..])),
     }
-    let next = walk.next;
-    refused_as(refuse_patterns(cones, walk.least, walk.left, &words[next..]))
 }
 
 // Makes checks 1 to 7 on a problem whose float tables have these lengths. Returns the number of the first check that fails, or 0.

@@ -14,7 +14,7 @@ ghost use Rattle.chordal_info.specs.Routes.{Counted, route_tests};
 
 use check_covered::entries_right;
 use constants::{entry, limit, record, refusal, route};
-use csc::copy_numbers;
+use csc::copy_front;
 
 // ---- check 10
 
@@ -120,5 +120,5 @@ pub fn write_sizes(
         starts, p_entries, p_entries, columns, starts, entries, entries, b, cone_words, alphas,
         map_words,
     ];
-    copy_numbers(out, &lengths);
+    copy_front(out, &lengths);
 }

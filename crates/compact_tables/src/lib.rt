@@ -19,15 +19,6 @@ const OUT_WORDS: usize = OUT_BYTES / file_table::WORD_BYTES;
 
 const OUT_DOUBLES: usize = OUT_BYTES / file_table::DOUBLE_BYTES;
 
-// Writes `src` and then `k` copies of `v` to `out`.
-fn extend_numbers(src: &[u32], k: usize, v: u32, out: &mut [u32])
-    requires { length src.now + k ≤ length out.old }
-    ensures { out.new ≡ written (src.now ++ replicate k v) out.old }
-{
-    csc::copy_numbers(&mut *out, src);
-    csc::fill_numbers(&mut out[src.len()..], k, v);
-}
-
 // Writes to `out` the file of a compact problem with `columns` columns: P, q and α as in `words`, P extended by empty columns and q by zeros,
 // and A, b and the cones as passed, with doubles as bit patterns.
 fn write_extended(
@@ -48,11 +39,11 @@ fn write_extended(
 {
     let n = file_shape::count_at(words, header::N);
     let mut starts = [0u32; OUT_WORDS];
-    extend_numbers(
+    csc::extend_front(
+        &mut starts,
         file_views::words_of(words, file_table::P_STARTS),
         columns - n,
         words[header::P_ENTRIES],
-        &mut starts,
     );
     let mut costs = [0u64; OUT_DOUBLES];
     file_bytes::write_patterns(file_views::words_of(words, file_table::Q), &mut costs);

@@ -1,6 +1,5 @@
 -- Tests of each element of a list against the next one, step by step from the front; tests of the columns of a matrix without rows.
 use Prim.Native.Nat.{ℕ, zero, suc, ◌+◌, ◌-◌, ◌≤◌, ◌<◌}
-use native.Mathlib.Numerals.{add-one}
 use native.Mathlib.Omega.{arith}
 use mathlib.Core.Path.{◌≡◌, refl, ap, ap₂, ◌∙◌}
 use mathlib.Core.Bool.{Bool, true, false, ◌&&◌}
@@ -32,25 +31,31 @@ rises_chained (x ∷ []) = refl
 rises_chained (x ∷ y ∷ ys) = ap (λ (b : Bool). ltb x y && b) (rises_chained (y ∷ ys))
 
 module _ (p : ℕ → ℕ → Bool) where
-  chain_at : (xs : List ℕ) (i : ℕ) → i + 1 < length xs
-      → chained p (drop i xs) ≡ (p (get_or xs i 0) (get_or xs (i + 1) 0) && chained p (drop (i + 1) xs))
-  chain_at xs i h = rw (drop-cons xs i 0 (omega arith), add-one, drop-cons xs (suc i) 0 (omega arith))
+  chain_at : (xs : List ℕ) (i : ℕ) → 1 ≤ i → i < length xs
+      → chained p (drop (i - 1) xs) ≡ (p (get_or xs (i - 1) 0) (get_or xs i 0) && chained p (drop (i + 1 - 1) xs))
+  chain_at xs i l h =
+      let e : suc (i - 1) ≡ i = omega arith in
+      let d : i + 1 - 1 ≡ i = omega arith in
+      rw (d, drop-cons xs (i - 1) 0 (omega arith), e, drop-cons xs i 0 h)
 
-  pub chain_step : (xs : List ℕ) (i : ℕ) → i + 1 < length xs → p (get_or xs i 0) (get_or xs (i + 1) 0) ≡ true
-      → chained p (drop i xs) ≡ chained p (drop (i + 1) xs)
-  chain_step xs i h e = chain_at xs i h ∙ rw e
+  pub chain_step : (xs : List ℕ) (i : ℕ) → 1 ≤ i → i < length xs → p (get_or xs (i - 1) 0) (get_or xs i 0) ≡ true
+      → chained p (drop (i - 1) xs) ≡ chained p (drop (i + 1 - 1) xs)
+  chain_step xs i l h e = chain_at xs i l h ∙ rw e
 
-  pub chain_fails : (xs : List ℕ) (i : ℕ) → i + 1 < length xs → p (get_or xs i 0) (get_or xs (i + 1) 0) ≡ false
-      → chained p (drop i xs) ≡ false
-  chain_fails xs i h e = chain_at xs i h ∙ rw e
+  pub chain_fails : (xs : List ℕ) (i : ℕ) → 1 ≤ i → i < length xs → p (get_or xs (i - 1) 0) (get_or xs i 0) ≡ false
+      → chained p (drop (i - 1) xs) ≡ false
+  chain_fails xs i l h e = chain_at xs i l h ∙ rw e
 
-  pub chain_done : (xs : List ℕ) (i : ℕ) → length xs ≤ i + 1 → chained p (drop i xs) ≡ true
-  chain_done [] zero h = refl
-  chain_done [] (suc i) h = refl
-  chain_done (x ∷ []) zero h = refl
-  chain_done (x ∷ []) (suc i) h = chain_done [] i (omega arith)
-  chain_done (x ∷ y ∷ ys) zero h = absurd (omega arith)
-  chain_done (x ∷ y ∷ ys) (suc i) h = chain_done (y ∷ ys) i (omega arith)
+  last_alone : (xs : List ℕ) (k : ℕ) → length xs ≤ suc k → chained p (drop k xs) ≡ true
+  last_alone [] zero h = refl
+  last_alone [] (suc k) h = refl
+  last_alone (x ∷ []) zero h = refl
+  last_alone (x ∷ []) (suc k) h = last_alone [] k (omega arith)
+  last_alone (x ∷ y ∷ ys) zero h = absurd (omega arith)
+  last_alone (x ∷ y ∷ ys) (suc k) h = last_alone (y ∷ ys) k (omega arith)
+
+  pub chain_done : (xs : List ℕ) (i : ℕ) → length xs ≤ i → chained p (drop (i - 1) xs) ≡ true
+  chain_done xs i h = last_alone xs (i - 1) (omega arith)
 
 -- a test of every number below n, from k on
 module _ (p : ℕ → Bool) where

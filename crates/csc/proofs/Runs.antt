@@ -6,7 +6,7 @@ use native.Mathlib.Omega.{arith}
 use mathlib.Core.Path.{◌≡◌, refl, ap, sym, subst, ◌∙◌}
 use mathlib.Core.Bool.{cond}
 use mathlib.Core.List.{List, [], ◌∷◌, ◌++◌, map, map-map, map-append}
-use lib.ListN.{length, get_or, drop, set, length-drop, length-map, drop_of_length-le}
+use lib.ListN.{length, get_or, take, drop, set, length-drop, length-map, drop_of_length-le}
 use lib.Seq.{drop-cons, length-take-le}
 use lib.Dec.{eqb}
 use borrow.Author.Tests.{eq-eqb, ne_eqb}
@@ -51,29 +51,26 @@ module _ (rows : List ℕ) where
   last_end t h =
       ap (λ (rs : List ℕ). t + alike (get_or rows t 0) rs) (drop_of_length-le rows {i = suc t} (omega arith)) ∙ omega arith
 
-  -- ---- the number of runs from index i on
+  -- ---- the number of runs from the entry before index i on
 
-  runs-at : (i : ℕ) → i + 1 < length rows
-      → length (runs (drop i rows)) ≡ cond (eqb (get_or rows i 0) (get_or rows (suc i) 0)) 0 1 + length (runs (drop (i + 1) rows))
-  runs-at i h =
-      ap (λ (rs : List ℕ). length (runs rs)) (drop-cons rows i 0 (omega arith) ∙ ap (λ (rs : List ℕ). get_or rows i 0 ∷ rs) (drop-cons rows (suc i) 0 (omega arith)))
-      ∙ run_more (get_or rows i 0) (get_or rows (suc i) 0) (drop (suc (suc i)) rows)
-      ∙ ap (λ (rs : List ℕ). cond (eqb (get_or rows i 0) (get_or rows (suc i) 0)) 0 1 + length (runs rs)) (sym (ap (λ (k : ℕ). drop k rows) (add-one i) ∙ drop-cons rows (suc i) 0 (omega arith)))
+  runs-at : (i : ℕ) → 1 ≤ i → i < length rows
+      → length (runs (drop (i - 1) rows)) ≡ cond (eqb (get_or rows (i - 1) 0) (get_or rows i 0)) 0 1 + length (runs (drop (i + 1 - 1) rows))
+  runs-at i l h =
+      let e : suc (i - 1) ≡ i = omega arith in
+      let d : i + 1 - 1 ≡ i = omega arith in
+      rw (d, drop-cons rows (i - 1) 0 (omega arith), e, drop-cons rows i 0 h) (run_more (get_or rows (i - 1) 0) (get_or rows i 0) (drop (suc i) rows))
 
-  pub runs_same : (i : ℕ) → i + 1 < length rows → get_or rows (i + 1) 0 ≡ get_or rows i 0 → length (runs (drop i rows)) ≡ length (runs (drop (i + 1) rows))
-  runs_same i h e =
-      runs-at i h
-      ∙ rw (eq-eqb (get_or rows i 0) (get_or rows (suc i) 0) (sym e ∙ ap (λ (k : ℕ). get_or rows k 0) (add-one i))) (omega arith)
+  pub runs_same : (i : ℕ) → 1 ≤ i → i < length rows → get_or rows i 0 ≡ get_or rows (i - 1) 0
+      → length (runs (drop (i - 1) rows)) ≡ length (runs (drop (i + 1 - 1) rows))
+  runs_same i l h e = runs-at i l h ∙ rw (eq-eqb (get_or rows (i - 1) 0) (get_or rows i 0) (sym e)) (omega arith)
 
-  pub runs_apart : (i : ℕ) → i + 1 < length rows → (get_or rows (i + 1) 0 ≡ get_or rows i 0 → ⊥)
-      → length (runs (drop i rows)) ≡ suc (length (runs (drop (i + 1) rows)))
-  runs_apart i h n =
-      runs-at i h
-      ∙ rw (ne_eqb (get_or rows i 0) (get_or rows (suc i) 0) (λ e. n (ap (λ (k : ℕ). get_or rows k 0) (add-one i) ∙ sym e))) (omega arith)
+  pub runs_apart : (i : ℕ) → 1 ≤ i → i < length rows → (get_or rows i 0 ≡ get_or rows (i - 1) 0 → ⊥)
+      → length (runs (drop (i - 1) rows)) ≡ suc (length (runs (drop (i + 1 - 1) rows)))
+  runs_apart i l h n = runs-at i l h ∙ rw (ne_eqb (get_or rows (i - 1) 0) (get_or rows i 0) (λ e. n (sym e))) (omega arith)
 
-  pub runs_last : (i : ℕ) → i < length rows → length rows ≤ i + 1 → length (runs (drop i rows)) ≡ 1
-  runs_last i h l =
-      ap (λ (rs : List ℕ). length (runs rs)) (drop-cons rows i 0 h ∙ ap (λ (rs : List ℕ). get_or rows i 0 ∷ rs) (drop_of_length-le rows {i = suc i} (omega arith)))
+  pub runs_last : (i : ℕ) → 1 ≤ i → i ≡ length rows → length (runs (drop (i - 1) rows)) ≡ 1
+  runs_last i l e =
+      ap (λ (rs : List ℕ). length (runs rs)) (drop-cons rows (i - 1) 0 (omega arith) ∙ ap (λ (rs : List ℕ). get_or rows (i - 1) 0 ∷ rs) (drop_of_length-le rows {i = suc (i - 1)} (omega arith)))
 
 -- ---- columns in order
 
@@ -115,6 +112,15 @@ count-few starts rows h (suc c) l =
     let few : run_count (suc c) (table starts rows) ≤ get_or starts (suc c) 0 =
     omega (arith, next, runs-few (column_rows (table starts rows) c), width, (count-few starts rows h c (omega arith)).0) in
     (few, omega arith)
+
+-- the count k of the columns before c, with the r runs of column c
+pub column_counted : {n : ℕ} (starts rows : List ℕ) → ColumnsInside n starts rows → (c k r : ℕ) → c < n → k ≡ run_count c (table starts rows)
+    → r ≡ length (runs (take (get_or starts (c + 1) 0 - get_or starts c 0) (drop (get_or starts c 0) rows)))
+    → (k + r ≡ run_count (c + 1) (table starts rows)) × (k + r ≤ length rows)
+column_counted starts rows h c k r l ek er =
+    let er : r ≡ length (runs (column_rows (table starts rows) c)) = rw (← add-one c) er in
+    let e : k + r ≡ run_count (c + 1) (table starts rows) = omega (arith, count_more (table starts rows) c) in
+    (e, omega (arith, (count-few starts rows h (c + 1) (omega arith)).1))
 
 pub length-run-starts : (n : ℕ) (M : Csc) → length (starts_of_runs n M) ≡ suc n
 length-run-starts n M = length-starts 0 (run_counts n M) ∙ ap suc (length-map (below n) (λ c. length (runs (column_rows M c))) ∙ length-below n)

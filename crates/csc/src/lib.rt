@@ -2,7 +2,8 @@
 // and writers that copy and extend its tables.
 #![tactic(auto)]
 
-ghost use Rattle.std.specs.Prelude.{◌≡◌, ◌++◌, ◌+◌, ◌≤◌, ◌<◌, length, replicate, T};
+ghost use Rattle.std.specs.Prelude.{◌≡◌, ◌++◌, ◌+◌, ◌≤◌, ◌<◌, ℕ, Bool, true, ◌&&◌, List, [], length, replicate, T, ltb};
+ghost use Rattle.std.specs.Fn.{FnReturnsAt};
 ghost use Rattle.layout.specs.General.Lists.{all, below, rises, written, never_falls};
 ghost use Rattle.layout.specs.Checks.{starts_right, rows_in_order, rows_right, column_rows};
 ghost use Rattle.layout.specs.Cuts.Runs.{runs, run_first, run_last, starts_of_runs, run_count};
@@ -16,12 +17,10 @@ fn never_falls(xs: &[u32]) -> bool
     ensures { result ≡ never_falls xs.now }
 {
     let mut holds = true;
-    let mut i = 0;
-    while i + 1 < xs.len() {
-        if xs[i + 1] < xs[i] {
+    for i in 1..xs.len() {
+        if xs[i] < xs[i - 1] {
             holds = false;
         }
-        i += 1;
     }
     holds
 }
@@ -30,12 +29,10 @@ fn never_falls(xs: &[u32]) -> bool
 pub fn rise_strictly(rows: &[u32]) -> bool
     ensures { result ≡ rises rows.now }
 {
-    let mut i = 0;
-    while i + 1 < rows.len() {
-        if rows[i + 1] <= rows[i] {
+    for i in 1..rows.len() {
+        if rows[i] <= rows[i - 1] {
             return false;
         }
-        i += 1;
     }
     true
 }
@@ -46,62 +43,26 @@ pub fn starts_right(n: u32, starts: &[u32], rows: &[u32], entries: usize) -> boo
     ensures { result ≡ starts_right n (matrix starts.now rows.now (unvalued entries)) }
 {
     let last = n as usize;
-    if starts.len() != last + 1 {
-        return false;
-    }
-    if starts[0] != 0 {
-        return false;
-    }
-    if !never_falls(starts) {
-        return false;
-    }
-    if starts[last] as usize != entries {
-        return false;
-    }
-    rows.len() == entries
+    starts.len() == last + 1
+        && starts[0] == 0
+        && never_falls(starts)
+        && starts[last] as usize == entries
+        && rows.len() == entries
 }
 
-// Checks that the rows of each of the `n` columns are strictly increasing.
-fn columns_rise(n: u32, starts: &[u32], rows: &[u32]) -> bool
-    requires { ColumnsInside n starts.now rows.now }
-    ensures { result ≡ all (λ c. rises (column_rows (table starts.now rows.now) c)) (below n) }
-{
-    let count = n as usize;
-    let mut c = 0;
-    while c < count {
-        let first = starts[c] as usize;
-        let end = starts[c + 1] as usize;
-        if !rise_strictly(&rows[first..end]) {
-            return false;
-        }
-        c += 1;
-    }
-    true
-}
-
-// Checks that the rows of each of the `n` columns never decrease; a row may repeat.
-fn columns_never_fall(n: u32, starts: &[u32], rows: &[u32]) -> bool
-    requires { ColumnsInside n starts.now rows.now }
-    ensures { result ≡ all (λ c. never_falls (column_rows (table starts.now rows.now) c)) (below n) }
-{
-    let count = n as usize;
-    let mut c = 0;
-    while c < count {
-        let first = starts[c] as usize;
-        let end = starts[c + 1] as usize;
-        if !never_falls(&rows[first..end]) {
-            return false;
-        }
-        c += 1;
-    }
-    true
-}
-
-// Makes check 3 on P: rows are below `m` and strictly increasing in each column, the rest of clarabel's check_format.
+// Makes check 3 on the row indices of a matrix: they are below `m`, and `ordered` holds of those of each of the `n` columns.
 // The matrix has passed check 2; without rows, its columns are not walked.
-pub fn rows_right(m: u32, n: u32, starts: &[u32], rows: &[u32]) -> bool
-    requires { ColumnsInside n starts.now rows.now }
-    ensures { result ≡ rows_right m n (table starts.now rows.now) }
+fn rows_pass<F: Fn(&[u32]) -> bool>(
+    m: u32,
+    n: u32,
+    starts: &[u32],
+    rows: &[u32],
+    ordered: F,
+) -> bool
+    requires inside { ColumnsInside n starts.now rows.now }
+    requires callable { F.IsAlwaysCallable ordered }
+    ensures { (p : List ℕ → Bool) → p [] ≡ true → ((xs : List ℕ) (b : Bool) → FnReturnsAt F.Fn ordered xs b → b ≡ p xs)
+        → result ≡ (all (λ r. ltb r m) rows.now && all (λ c. p (column_rows (table starts.now rows.now) c)) (below n)) }
 {
     if rows.len() == 0 {
         return true;
@@ -109,22 +70,30 @@ pub fn rows_right(m: u32, n: u32, starts: &[u32], rows: &[u32]) -> bool
     if !utils::all_below(rows, m as usize) {
         return false;
     }
-    columns_rise(n, starts, rows)
+    for c in 0..n as usize {
+        let first = starts[c] as usize;
+        let end = starts[c + 1] as usize;
+        if !ordered(&rows[first..end]) {
+            return false;
+        }
+    }
+    true
 }
 
-// Makes check 3 on A: rows are below `m` and never decrease in a column, where a row may repeat. Without rows, the columns are not walked.
+// Makes check 3 on P, the rest of clarabel's check_format: rows are below `m` and strictly increasing in each column.
+pub fn rows_right(m: u32, n: u32, starts: &[u32], rows: &[u32]) -> bool
+    requires { ColumnsInside n starts.now rows.now }
+    ensures { result ≡ rows_right m n (table starts.now rows.now) }
+{
+    rows_pass(m, n, starts, rows, rise_strictly)
+}
+
+// Makes check 3 on A: rows are below `m` and never decrease in a column, where a row may repeat.
 pub fn rows_in_order(m: u32, n: u32, starts: &[u32], rows: &[u32]) -> bool
     requires { ColumnsInside n starts.now rows.now }
     ensures { result ≡ rows_in_order m n (table starts.now rows.now) }
 {
-    if rows.len() == 0 {
-        return true;
-    }
-    let end = m as usize;
-    if !utils::all_below(rows, end) {
-        return false;
-    }
-    columns_never_fall(n, starts, rows)
+    rows_pass(m, n, starts, rows, never_falls)
 }
 
 // ---- runs: maximal stretches of consecutive entries with the same row
@@ -142,10 +111,7 @@ fn first_place(rows: &[u32], t: usize) -> usize
     ensures { result ≡ run_first rows.now t }
 {
     let mut first = t;
-    while first > 0 {
-        if rows[first - 1] != rows[first] {
-            break;
-        }
+    while first > 0 && rows[first - 1] == rows[first] {
         first -= 1;
     }
     first
@@ -157,10 +123,7 @@ fn last_place(rows: &[u32], t: usize) -> usize
     ensures { result ≡ run_last rows.now t }
 {
     let mut last = t;
-    while last + 1 < rows.len() {
-        if rows[last + 1] != rows[last] {
-            break;
-        }
+    while last + 1 < rows.len() && rows[last + 1] == rows[last] {
         last += 1;
     }
     last
@@ -185,12 +148,10 @@ pub fn count_runs(rows: &[u32]) -> usize
         return 0;
     }
     let mut count = 1;
-    let mut i = 0;
-    while i + 1 < rows.len() {
-        if rows[i + 1] != rows[i] {
+    for i in 1..rows.len() {
+        if rows[i] != rows[i - 1] {
             count += 1;
         }
-        i += 1;
     }
     count
 }
@@ -200,14 +161,11 @@ pub fn count_all_runs(n: u32, starts: &[u32], rows: &[u32]) -> usize
     requires { ColumnsInside n starts.now rows.now × (length rows.now ≤ 262144) }
     ensures { result ≡ run_count n (table starts.now rows.now) }
 {
-    let columns = n as usize;
     let mut count = 0;
-    let mut c = 0;
-    while c < columns {
+    for c in 0..n as usize {
         let first = starts[c] as usize;
         let end = starts[c + 1] as usize;
         count += count_runs(&rows[first..end]);
-        c += 1;
     }
     count
 }
@@ -219,16 +177,13 @@ pub fn write_run_starts(out: &mut [u32], n: u32, starts: &[u32], rows: &[u32]) -
     ensures value { result ≡ run_count n (table starts.now rows.now) }
     ensures out_after { out.new ≡ written (starts_of_runs n (table starts.now rows.now)) out.old }
 {
-    let columns = n as usize;
     let mut count = 0;
-    let mut c = 0;
     out[0] = 0;
-    while c < columns {
+    for c in 0..n as usize {
         let first = starts[c] as usize;
         let end = starts[c + 1] as usize;
         count += count_runs(&rows[first..end]) as u32;
-        c += 1;
-        out[c] = count;
+        out[c + 1] = count;
     }
     count
 }
@@ -242,60 +197,30 @@ fn nnz(n: u32, starts: &[u32], rows: &[u32], values: &[f64]) -> u32
 }
 
 // Copies `src` to the front of `out`.
-pub fn copy_numbers(out: &mut [u32], src: &[u32])
+pub fn copy_front<T: Copy>(out: &mut [T], src: &[T])
     requires { length src.now ≤ length out.old }
     ensures { out.new ≡ written src.now out.old }
 {
-    let mut i = 0;
-    while i < src.len() {
-        out[i] = src[i];
-        i += 1;
-    }
+    out[..src.len()].copy_from_slice(src);
 }
 
-// Copies `src` to the front of `out`.
-pub fn copy_values(out: &mut [f64], src: &[f64])
-    requires { length src.now ≤ length out.old }
-    ensures { out.new ≡ written src.now out.old }
-{
-    let mut i = 0;
-    while i < src.len() {
-        out[i] = src[i];
-        i += 1;
-    }
-}
-
-// Sets the first `k` numbers of `out` to `v`.
-pub fn fill_numbers(out: &mut [u32], k: usize, v: u32)
+// Sets the first `k` elements of `out` to `v`.
+pub fn fill_front<T: Copy>(out: &mut [T], k: usize, v: T)
     requires { k ≤ length out.old }
     ensures { out.new ≡ written (replicate k v) out.old }
 {
-    let mut i = 0;
-    while i < k {
+    for i in 0..k {
         out[i] = v;
-        i += 1;
-    }
-}
-
-// Sets the first `k` values of `out` to `v`.
-pub fn fill_values(out: &mut [f64], k: usize, v: f64)
-    requires { k ≤ length out.old }
-    ensures { out.new ≡ written (replicate k v) out.old }
-{
-    let mut i = 0;
-    while i < k {
-        out[i] = v;
-        i += 1;
     }
 }
 
 // Writes `src`, followed by `k` copies of `v`, to the front of `out`.
-pub fn extend_values(out: &mut [f64], src: &[f64], k: usize, v: f64)
+pub fn extend_front<T: Copy>(out: &mut [T], src: &[T], k: usize, v: T)
     requires { length src.now + k ≤ length out.old }
     ensures { out.new ≡ written (src.now ++ replicate k v) out.old }
 {
-    copy_values(&mut *out, src);
-    fill_values(&mut out[src.len()..], k, v);
+    copy_front(&mut *out, src);
+    fill_front(&mut out[src.len()..], k, v);
 }
 
 // Writes the starts of a matrix that passes check 2, extended by `k` empty columns; each of these ends where the last column ends.
@@ -311,6 +236,6 @@ pub fn extend_starts(
     requires k_in_bounds { length starts.now + k ≤ length out.old }
     ensures { out.new ≡ written (extended_p k (matrix starts.now rows.now values.now)).starts out.old }
 {
-    copy_numbers(&mut *out, starts);
-    fill_numbers(&mut out[starts.len()..], k, nnz(n, starts, rows, values));
+    copy_front(&mut *out, starts);
+    fill_front(&mut out[starts.len()..], k, nnz(n, starts, rows, values));
 }

@@ -1,7 +1,7 @@
 // The constraints of the compact cut: A and its right sides over the augmented rows of a problem that the route accepts.
 #![tactic(auto)]
 
-ghost use Rattle.std.specs.Prelude.{◌≡◌, [], map, ◌≤◌, length};
+ghost use Rattle.std.specs.Prelude.{◌≡◌, [], map, ◌*◌, ◌≤◌, length};
 ghost use Rattle.layout.specs.General.Lists.{written};
 ghost use Rattle.layout.specs.Rows.Blocks.{compact_rows, block_row_count};
 ghost use Rattle.layout.specs.Checks.{Sound};
@@ -45,9 +45,10 @@ fn write_sides(
     sparsevector::move_sides(others_out, &table[..rows], m as usize, others, other_count);
 }
 
-// Writes A with its `k` overlap columns, and the augmented right sides of both lists, where there are at most 2048 original and 2048 augmented
-// rows. Clearing its tables takes less time than such a cut.
-fn with_small_tables(
+// Writes A with its `k` overlap columns, and the augmented right sides of both lists, with tables for `ROWS` augmented rows, one flag for each 64 of
+// them, and `PLACES` original rows. It has its own stack frame for each size, so that a small problem never enters the frame of large tables.
+#[inline(never)]
+fn with_tables<const ROWS: usize, const FLAGS: usize, const PLACES: usize>(
     n: u32,
     m: u32,
     a_starts: &[u32],
@@ -71,82 +72,17 @@ fn with_small_tables(
     requires fact { let p = constraints n m a_starts.now a_rows.now a_values.now [] cones.now count words.now in
         SystemFits p rows k (matrix a_starts_out.old a_rows_out.old a_values_out.old) }
     requires movable_sides { MovableSides m rows sides.now side_count sides_out.old × MovableSides m rows others.now other_count others_out.old }
-    requires rows_bound { (rows ≤ 2048) × (m ≤ 2048) }
+    requires rows_bound { (rows ≤ ROWS) × (rows ≤ 64 * FLAGS) × (m ≤ PLACES) }
+    requires sizes { (ROWS ≤ 262144) × (FLAGS ≤ 4096) × (PLACES ≤ 65536) }
     ensures { let p = constraints n m a_starts.now a_rows.now a_values.now [] cones.now count words.now in
         let before = matrix a_starts_out.old a_rows_out.old a_values_out.old in
         let after = matrix a_starts_out.new a_rows_out.new a_values_out.new in
         HoldsA p before after × (sides_out.new ≡ written (sides_b p side_count sides.now) sides_out.old)
         × (others_out.new ≡ written (sides_b p other_count others.now) others_out.old) }
 {
-    let mut table = [0u32; 2048];
-    let mut place = [0u32; 2048];
-    let mut chunks = [false; 32];
-    augment_compact::write_starts(&mut *a_starts_out, n, a_starts, a_rows, k);
-    write_sides(
-        m,
-        sides,
-        side_count,
-        others,
-        other_count,
-        cones,
-        count,
-        words,
-        rows,
-        &mut table,
-        sides_out,
-        others_out,
-    );
-    let end = (rows + 63) / 64;
-    augment_compact::write_entries(
-        a_rows_out,
-        a_values_out,
-        &mut table[..rows],
-        &mut place,
-        &mut chunks[..end],
-        n,
-        a_starts,
-        a_rows,
-        a_values,
-        &*a_starts_out,
-        k,
-    );
-}
-
-// Does what `with_small_tables` does, for any number of rows that the checks accept. It is called from two places and does enough itself to be
-// compiled with its own stack frame, so that a small problem never enters the large frame that these tables need.
-fn with_large_tables(
-    n: u32,
-    m: u32,
-    a_starts: &[u32],
-    a_rows: &[u32],
-    a_values: &[f64],
-    sides: &[f64],
-    side_count: u32,
-    others: &[f64],
-    other_count: u32,
-    cones: &[u32],
-    count: u32,
-    words: &[u32],
-    rows: usize,
-    k: usize,
-    a_starts_out: &mut [u32],
-    a_rows_out: &mut [u32],
-    a_values_out: &mut [f64],
-    sides_out: &mut [f64],
-    others_out: &mut [f64],
-)
-    requires fact { let p = constraints n m a_starts.now a_rows.now a_values.now [] cones.now count words.now in
-        SystemFits p rows k (matrix a_starts_out.old a_rows_out.old a_values_out.old) }
-    requires movable_sides { MovableSides m rows sides.now side_count sides_out.old × MovableSides m rows others.now other_count others_out.old }
-    ensures { let p = constraints n m a_starts.now a_rows.now a_values.now [] cones.now count words.now in
-        let before = matrix a_starts_out.old a_rows_out.old a_values_out.old in
-        let after = matrix a_starts_out.new a_rows_out.new a_values_out.new in
-        HoldsA p before after × (sides_out.new ≡ written (sides_b p side_count sides.now) sides_out.old)
-        × (others_out.new ≡ written (sides_b p other_count others.now) others_out.old) }
-{
-    let mut table = [0u32; scratch::AUGMENTED_ROWS];
-    let mut place = [0u32; scratch::ROWS];
-    let mut chunks = [false; 4096];
+    let mut table = [0u32; ROWS];
+    let mut place = [0u32; PLACES];
+    let mut chunks = [false; FLAGS];
     augment_compact::write_starts(&mut *a_starts_out, n, a_starts, a_rows, k);
     write_sides(
         m,
@@ -210,8 +146,9 @@ pub fn write_compact_a(
         HoldsA p before after × (sides_out.new ≡ written (sides_b p side_count sides.now) sides_out.old)
         × (others_out.new ≡ written (sides_b p other_count others.now) others_out.old) }
 {
-    if 2048 < rows {
-        with_large_tables(
+    // Clearing 2048 rows takes less time than such a cut.
+    if rows <= 2048 && m <= 2048 {
+        with_tables::<2048, 32, 2048>(
             n,
             m,
             a_starts,
@@ -232,10 +169,8 @@ pub fn write_compact_a(
             sides_out,
             others_out,
         );
-        return;
-    }
-    if 2048 < m {
-        with_large_tables(
+    } else {
+        with_tables::<{ scratch::AUGMENTED_ROWS }, 4096, { scratch::ROWS }>(
             n,
             m,
             a_starts,
@@ -256,27 +191,5 @@ pub fn write_compact_a(
             sides_out,
             others_out,
         );
-        return;
     }
-    with_small_tables(
-        n,
-        m,
-        a_starts,
-        a_rows,
-        a_values,
-        sides,
-        side_count,
-        others,
-        other_count,
-        cones,
-        count,
-        words,
-        rows,
-        k,
-        a_starts_out,
-        a_rows_out,
-        a_values_out,
-        sides_out,
-        others_out,
-    );
 }

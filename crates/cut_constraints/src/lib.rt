@@ -114,25 +114,25 @@ pub fn write_constraints(
             b_out,
             cones_out,
         );
-        return;
+    } else {
+        decomp_augment_compact(
+            n,
+            m,
+            a_starts,
+            a_rows,
+            a_values,
+            b,
+            cones,
+            count,
+            words,
+            rows,
+            k,
+            a_starts_out,
+            a_rows_out,
+            a_values_out,
+            b_out,
+            cones_out,
+        );
+        rows_tables::write_table(Table::ConeMap, m, cones, count, words, map_out);
     }
-    decomp_augment_compact(
-        n,
-        m,
-        a_starts,
-        a_rows,
-        a_values,
-        b,
-        cones,
-        count,
-        words,
-        rows,
-        k,
-        a_starts_out,
-        a_rows_out,
-        a_values_out,
-        b_out,
-        cones_out,
-    );
-    rows_tables::write_table(Table::ConeMap, m, cones, count, words, map_out);
 }

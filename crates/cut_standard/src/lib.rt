@@ -41,10 +41,10 @@ pub fn write_objective(
         HoldsObjective 0 (extended k o) before after }
 {
     csc::extend_starts(p_starts_out, n, p_starts, p_rows, p_values, k);
-    csc::copy_numbers(p_rows_out, p_rows);
-    csc::copy_values(p_values_out, p_values);
-    csc::extend_values(q_out, q, k, 0.0);
-    csc::copy_values(alphas_out, alphas);
+    csc::copy_front(p_rows_out, p_rows);
+    csc::copy_front(p_values_out, p_values);
+    csc::extend_front(q_out, q, k, 0.0);
+    csc::copy_front(alphas_out, alphas);
 }
 
 // ---- the standard route
@@ -73,7 +73,7 @@ fn standard_a_rows(
     requires k_value { (k ≡ block_row_count (joined_parts cones.now count words.now)) × (m + k ≤ 262144) × (length a_rows.now + 2 * k ≤ length out.old) }
     ensures { out.new ≡ written (beside_rows a_rows.now m (standard_rows (joined_parts cones.now count words.now))) out.old }
 {
-    csc::copy_numbers(&mut *out, a_rows);
+    csc::copy_front(&mut *out, a_rows);
     h_rows(m, cones, count, words, k, &mut out[a_rows.len()..]);
 }
 
@@ -118,6 +118,6 @@ pub fn decomp_augment_standard(
     augment_standard::write_starts(a_starts_out, a_starts, a_values.len() as u32, k);
     standard_a_rows(m, cones, count, words, a_rows, k, a_rows_out);
     augment_standard::write_values(a_values_out, a_values, k);
-    csc::extend_values(b_out, b, k, 0.0);
+    csc::extend_front(b_out, b, k, 0.0);
     standard_cones(m, cones, count, words, cones_out);
 }

@@ -12,18 +12,18 @@ use Rattle.layout.specs.General.Lists.{same_numbers}
 use Rattle.layout.specs.Cuts.Compact.{MapEntry, whole_cone, block_of, entry_words, map_words, no_pattern_number}
 use Rattle.layout.proofs.Rows.ConeMap.{words-at, Told}
 use Rattle.entries_map.specs.declared.ConeMapEntry.{ConeMapEntry}
-use Rattle.entries_map.specs.declared.TreeAndClique.{TreeAndClique}
-use Rattle.entries_map.specs.declared.TreeAndClique.TheVariants.{None, In}
+use Rattle.std.specs.declared.option.Option.{Option}
+use Rattle.std.specs.declared.option.Option.TheVariants.{Some, None}
 use Rattle.layout.specs.Calls.JoinEntries.{same_entry, same_map}
 use Rattle.entries_map.specs.Entries.{entry_of, meant, struct_of, pattern_word, clique_word, struct_words, all_words, tree_of, struct_at}
 
 pub struct_meant : (e : ConeMapEntry) → struct_of (meant e) ≡ e
 struct_meant e = go e.tree_and_clique
   where
-    go : (t : TreeAndClique) → struct_of (entry_of e.orig_index t e.first_row e.row_count)
+    go : (t : Option (ℕ × ℕ)) → struct_of (entry_of e.orig_index t e.first_row e.row_count)
         ≡ record { orig_index = e.orig_index; tree_and_clique = t; first_row = e.first_row; row_count = e.row_count }
     go None = refl
-    go (In k c) = refl
+    go (Some (k, c)) = refl
 
 -- ---- reading back
 
@@ -41,7 +41,7 @@ told_at (block_of i k c a n ∷ es) (suc j) d l h = told_at es j d (omega arith)
 
 from_entry : (e : MapEntry) (ws : List ℕ) → Told (e ∷ []) → from_words (entry_words e ++ ws) ≡ struct_of e
 from_entry (whole_cone i a n) ws h = refl
-from_entry (block_of i k c a n) ws h = ap (λ (t : TreeAndClique). record { orig_index = i; tree_and_clique = t; first_row = a; row_count = n }) (rw (ne_eqb k no_pattern_number (λ e. omega (arith, h.0))))
+from_entry (block_of i k c a n) ws h = ap (λ (t : Option (ℕ × ℕ)). record { orig_index = i; tree_and_clique = t; first_row = a; row_count = n }) (rw (ne_eqb k no_pattern_number (λ e. omega (arith, h.0))))
 
 at_drop : (ws : List ℕ) (k : ℕ) → struct_at ws k ≡ from_words (drop (k * 5) ws)
 at_drop ws k =
@@ -88,16 +88,16 @@ same_entry_lem y e us vs h = go y.tree_and_clique e h
     S : Bool
     S = same_numbers us vs
 
-    go : (t : TreeAndClique) (e : MapEntry) → Told (e ∷ [])
+    go : (t : Option (ℕ × ℕ)) (e : MapEntry) → Told (e ∷ [])
         → same_numbers ((i ∷ pattern_word t ∷ clique_word t ∷ a ∷ n ∷ []) ++ us) (entry_words e ++ vs) ≡ (same_entry (entry_of i t a n) e && S)
     go None (whole_cone j b o) h = three (eqb i j) (eqb a b) (eqb n o) S
     go None (block_of j l d b o) h = rw (ne_eqb no_pattern_number l (λ q. omega (arith, h.0))) (and-false (eqb i j))
-    go (In k c) (whole_cone j b o) h = mark (eqb k no_pattern_number)
+    go (Some (k, c)) (whole_cone j b o) h = mark (eqb k no_pattern_number)
       where
         mark : (t : Bool) → (eqb i j && (t && (eqb (cond t 1 c) 0 && (eqb a b && (eqb n o && S))))) ≡ false
         mark true = and-false (eqb i j)
         mark false = and-false (eqb i j)
-    go (In k c) (block_of j l d b o) h = mark (eqb k no_pattern_number) refl
+    go (Some (k, c)) (block_of j l d b o) h = mark (eqb k no_pattern_number) refl
       where
         mark : (t : Bool) → eqb k no_pattern_number ≡ t
             → (eqb i j && (eqb k l && (eqb (cond t 1 c) d && (eqb a b && (eqb n o && S))))) ≡ ((eqb i j && (eqb k l && (eqb c d && (eqb a b && eqb n o)))) && S)

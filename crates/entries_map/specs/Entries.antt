@@ -1,34 +1,32 @@
 -- The cone map's entries as structs: the entry of layout that a struct represents, and its words.
-use Rattle.std.specs.Prelude.{ℕ, ◌+◌, ◌*◌, cond, List, [], ◌∷◌, get_or, eqb}
+use Rattle.std.specs.Prelude.{ℕ, ◌+◌, ◌*◌, cond, List, [], ◌∷◌, get_or, eqb, Option, Some, None}
 use Rattle.layout.specs.Cuts.Compact.{MapEntry, whole_cone, block_of, no_pattern_number}
 use Rattle.layout.specs.General.Lists.{join}
 use Rattle.entries_map.specs.declared.ConeMapEntry.{ConeMapEntry}
-use Rattle.entries_map.specs.declared.TreeAndClique.{TreeAndClique}
-use Rattle.entries_map.specs.declared.TreeAndClique.TheVariants.{None, In}
 
 -- ---- structs and the entries that they represent
 
-abbrev pub entry_of : ℕ → TreeAndClique → ℕ → ℕ → MapEntry
+abbrev pub entry_of : ℕ → Option (ℕ × ℕ) → ℕ → ℕ → MapEntry
 entry_of i None first rows = whole_cone i first rows
-entry_of i (In k c) first rows = block_of i k c first rows
+entry_of i (Some (k, c)) first rows = block_of i k c first rows
 
 abbrev pub meant : ConeMapEntry → MapEntry
 meant e = entry_of e.orig_index e.tree_and_clique e.first_row e.row_count
 
 abbrev pub struct_of : MapEntry → ConeMapEntry
 struct_of (whole_cone i first rows) = record { orig_index = i; tree_and_clique = None; first_row = first; row_count = rows }
-struct_of (block_of i k c first rows) = record { orig_index = i; tree_and_clique = In k c; first_row = first; row_count = rows }
+struct_of (block_of i k c first rows) = record { orig_index = i; tree_and_clique = Some (k, c); first_row = first; row_count = rows }
 
 -- ---- words
 
-abbrev pub pattern_word : TreeAndClique → ℕ
+abbrev pub pattern_word : Option (ℕ × ℕ) → ℕ
 pattern_word None = no_pattern_number
-pattern_word (In k c) = k
+pattern_word (Some (k, c)) = k
 
 -- the clique's word; for a pattern number equal to the no-pattern mark it is 1, which no entry without a pattern has
-abbrev pub clique_word : TreeAndClique → ℕ
+abbrev pub clique_word : Option (ℕ × ℕ) → ℕ
 clique_word None = 0
-clique_word (In k c) = cond (eqb k no_pattern_number) 1 c
+clique_word (Some (k, c)) = cond (eqb k no_pattern_number) 1 c
 
 abbrev pub struct_words : ConeMapEntry → List ℕ
 struct_words e = e.orig_index ∷ pattern_word e.tree_and_clique ∷ clique_word e.tree_and_clique ∷ e.first_row ∷ e.row_count ∷ []
@@ -38,8 +36,8 @@ abbrev pub all_words : List ConeMapEntry → List ℕ
 all_words ys = join struct_words ys
 
 -- pattern and clique from their words
-abbrev pub tree_of : ℕ → ℕ → TreeAndClique
-tree_of k c = cond (eqb k no_pattern_number) None (In k c)
+abbrev pub tree_of : ℕ → ℕ → Option (ℕ × ℕ)
+tree_of k c = cond (eqb k no_pattern_number) None (Some (k, c))
 
 abbrev pub struct_at : List ℕ → ℕ → ConeMapEntry
 struct_at ws k = record {

@@ -13,10 +13,8 @@ pub fn write_entries(words: &[u32], count: usize, entries: &mut [ConeMapEntry])
     requires { (count * 5 ≤ length words.now) × (count ≤ length entries.old) }
     ensures { entries.new ≡ written (map (struct_at words.now) (below count)) entries.old }
 {
-    let mut k = 0;
-    while k < count {
+    for k in 0..count {
         entries[k] = ConeMapEntry::read(words, k);
-        k += 1;
     }
 }
 
@@ -25,9 +23,7 @@ pub fn write_words(entries: &[ConeMapEntry], count: usize, out: &mut [u32])
     requires { (count ≤ length entries.now * 5) × (count ≤ length out.old) }
     ensures { out.new ≡ written (take count (all_words entries.now)) out.old }
 {
-    let mut w = 0;
-    while w < count {
+    for w in 0..count {
         out[w] = entries[w / entry::WORDS].word(w % entry::WORDS);
-        w += 1;
     }
 }

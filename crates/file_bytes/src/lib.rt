@@ -17,21 +17,12 @@ use constants::refusal;
 
 // ---- words from bytes
 
-fn wide(x: u8) -> u32
-    ensures { (result ≡ x) × (result < 256) }
-{
-    x as u32
-}
-
 // Returns the word whose lowest byte is at index `a` of `file`.
 fn word_at(file: &[u8], a: usize) -> u32
     requires { a + 4 ≤ length file.now }
     ensures { result ≡ get_or file.now a 0 + 256 * get_or file.now (a + 1) 0 + 65536 * get_or file.now (a + 2) 0 + 16777216 * get_or file.now (a + 3) 0 }
 {
-    wide(file[a])
-        + 256 * wide(file[a + 1])
-        + 65536 * wide(file[a + 2])
-        + 16777216 * wide(file[a + 3])
+    u32::from_le_bytes([file[a], file[a + 1], file[a + 2], file[a + 3]])
 }
 
 // Writes the complete words of `file` to `out`; 1 to 3 bytes after them are left out. Returns 0, or 11 where `out` is too short.
@@ -42,10 +33,8 @@ pub fn file_words(file: &[u8], out: &mut [u32]) -> u32
     if out.len() < count {
         return refusal::SHORT;
     }
-    let mut i = 0;
-    while i < count {
+    for i in 0..count {
         out[i] = word_at(file, WORD_BYTES * i);
-        i += 1;
     }
     refusal::DONE
 }
@@ -63,11 +52,8 @@ pub fn write_patterns(words: &[u32], out: &mut [u64])
     requires { (length words.now ≡ 2 * (length words.now / 2)) × (length words.now / 2 ≤ length out.old) }
     ensures { out.new ≡ written (pairs_of words.now) out.old }
 {
-    let count = words.len() / 2;
-    let mut i = 0;
-    while i < count {
+    for i in 0..words.len() / 2 {
         out[i] = pattern(words[2 * i], words[2 * i + 1]);
-        i += 1;
     }
 }
 
@@ -78,10 +64,7 @@ fn put_word(out: &mut [u8], a: usize, v: u32)
     requires { a + 4 ≤ length out.old }
     ensures { out.new ≡ put_word out.old a v }
 {
-    out[a] = (v % 256) as u8;
-    out[a + 1] = (v / 256 % 256) as u8;
-    out[a + 2] = (v / 65536 % 256) as u8;
-    out[a + 3] = (v / 16777216 % 256) as u8;
+    out[a..a + 4].copy_from_slice(&v.to_le_bytes());
 }
 
 // Writes the bytes of `words` to `out`.
@@ -89,11 +72,8 @@ pub fn write_words(words: &[u32], out: &mut [u8])
     requires { 4 * length words.now ≤ length out.old }
     ensures { out.new ≡ written (table_bytes 4 words.now) out.old }
 {
-    let mut i = 0;
-    while i < words.len() {
-        let v = words[i];
+    for (i, &v) in words.iter().enumerate() {
         put_word(&mut *out, WORD_BYTES * i, v);
-        i += 1;
     }
 }
 
@@ -102,16 +82,13 @@ pub fn write_doubles(values: &[u64], out: &mut [u8])
     requires { 8 * length values.now ≤ length out.old }
     ensures { out.new ≡ written (table_bytes 8 values.now) out.old }
 {
-    let mut i = 0;
-    while i < values.len() {
-        let v = values[i];
+    for (i, &v) in values.iter().enumerate() {
         put_word(&mut *out, DOUBLE_BYTES * i, (v % 4294967296) as u32);
         put_word(
             &mut *out,
             DOUBLE_BYTES * i + WORD_BYTES,
             (v / 4294967296) as u32,
         );
-        i += 1;
     }
 }
 
@@ -120,11 +97,7 @@ pub fn write_zeros(count: usize, out: &mut [u8])
     requires { count ≤ length out.old }
     ensures { out.new ≡ written (replicate count 0) out.old }
 {
-    let mut i = 0;
-    while i < count {
-        out[i] = 0;
-        i += 1;
-    }
+    out[..count].fill(0);
 }
 
 // ---- doubles and their bit patterns
@@ -162,10 +135,8 @@ pub fn write_floats(patterns: &[u64], out: &mut [f64])
     requires { length patterns.now ≤ length out.old }
     ensures { out.new ≡ written (floats patterns.now) out.old }
 {
-    let mut i = 0;
-    while i < patterns.len() {
-        out[i] = float_of(patterns[i]);
-        i += 1;
+    for (i, &pattern) in patterns.iter().enumerate() {
+        out[i] = float_of(pattern);
     }
 }
 
@@ -174,9 +145,7 @@ pub fn write_bits(values: &[f64], out: &mut [u64])
     requires { length values.now ≤ length out.old }
     ensures { out.new ≡ written (bits values.now) out.old }
 {
-    let mut i = 0;
-    while i < values.len() {
-        out[i] = bits_of(values[i]);
-        i += 1;
+    for (i, &x) in values.iter().enumerate() {
+        out[i] = bits_of(x);
     }
 }

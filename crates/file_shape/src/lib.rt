@@ -98,8 +98,7 @@ fn tables_right(words: &[u32]) -> bool
         return false;
     }
     let mut a = header::BYTES;
-    let mut i = 0;
-    while i < file_table::COUNT {
+    for i in 0..file_table::COUNT {
         let up = (a + 7) / 8 * 8;
         if count_at(words, header::OFFSETS + i) != up {
             return false;
@@ -108,7 +107,6 @@ fn tables_right(words: &[u32]) -> bool
             return false;
         }
         a = up + table_size(words, i);
-        i += 1;
     }
     count_at(words, header::LENGTH) == a
 }

@@ -50,7 +50,7 @@ fn copy_table(words: &[u32], i: usize, count: usize, out: &mut [u32])
     ensures { out.new ≡ written (words_at words.now i count) out.old }
 {
     let at = file_shape::start_of(words, i);
-    csc::copy_numbers(out, &words[at..at + count]);
+    csc::copy_front(out, &words[at..at + count]);
 }
 
 // Writes the `count` floats of table `i`, as 64-bit patterns, to the front of `out`.
@@ -139,10 +139,8 @@ pub fn end_of(lengths: &[u32]) -> usize
     ensures { (result ≡ end_from 80 (products widths lengths.now)) × (result < 1099511627776) }
 {
     let mut end = header::BYTES;
-    let mut i = 0;
-    while i < file_table::COUNT {
+    for i in 0..file_table::COUNT {
         end = next_end(end, lengths, i);
-        i += 1;
     }
     end
 }
@@ -153,11 +151,9 @@ fn write_offsets(lengths: &[u32], out: &mut [u32])
     ensures { out.new ≡ written (offsets_from 80 (products widths lengths.now) ++ (end_from 80 (products widths lengths.now) ∷ [])) out.old }
 {
     let mut end = header::BYTES;
-    let mut i = 0;
-    while i < file_table::COUNT {
+    for i in 0..file_table::COUNT {
         out[i] = ((end + 7) / 8 * 8) as u32;
         end = next_end(end, lengths, i);
-        i += 1;
     }
     out[file_table::COUNT] = end as u32;
 }
@@ -167,7 +163,7 @@ fn write_header(counts: &[u32], lengths: &[u32], out: &mut [u32])
     requires { (length counts.now ≡ 8) × (length lengths.now ≡ 11) × (20 ≤ length out.old) × (end_from 80 (products widths lengths.now) < 4294967296) }
     ensures { out.new ≡ written (counts.now ++ (offsets_from 80 (products widths lengths.now) ++ (end_from 80 (products widths lengths.now) ∷ []))) out.old }
 {
-    csc::copy_numbers(&mut *out, counts);
+    csc::copy_front(&mut *out, counts);
     write_offsets(lengths, &mut out[header::OFFSETS..]);
 }
 

@@ -75,12 +75,10 @@ fn count_columns(s: u64, rows: &[u32], n: u32) -> u32
 {
     let mut state = s;
     let mut entries = 0;
-    let mut c = 0;
-    while c < n {
+    for _ in 0..n {
         let d = generator_columns::count_column(state, rows);
         state = d.state;
         entries += d.count as u32;
-        c += 1;
     }
     entries
 }
@@ -104,8 +102,7 @@ fn write_columns(
     starts_out[0] = 0;
     let mut state = s;
     let mut at = 0;
-    let mut c = 0;
-    while c < n {
+    for c in 0..n as usize {
         let d = generator_columns::write_column(
             state,
             rows,
@@ -114,8 +111,7 @@ fn write_columns(
         );
         state = d.state;
         at += d.count;
-        c += 1;
-        starts_out[c as usize] = at as u32;
+        starts_out[c + 1] = at as u32;
     }
     state
 }
@@ -139,13 +135,11 @@ fn keep_columns(
     starts[0] = 0;
     let mut state = s;
     let mut at = 0;
-    let mut c = 0;
-    while c < n {
+    for c in 0..n as usize {
         let d = generator_columns::keep_column(state, rows, &mut kept_rows[at..], &mut kept[at..]);
         state = d.state;
         at += d.count;
-        c += 1;
-        starts[c as usize] = at as u32;
+        starts[c + 1] = at as u32;
     }
     ColumnDraw { count: at, state }
 }
@@ -155,7 +149,7 @@ fn write_side(s: u64, rows: &[u32], m: usize, out: &mut [f64])
     requires { (m ≤ length out.old) × Below m rows.now }
     ensures { out.new ≡ written (drawn_side s rows.now (replicate m zero64)) out.old }
 {
-    csc::fill_values(&mut *out, m, 0.0);
+    csc::fill_front(&mut *out, m, 0.0);
     generator_draws::draw_side(s, rows, out);
 }
 
@@ -179,7 +173,7 @@ fn write_lengths(v: u32, w: u32, n: u32, entries: u32, out: &mut [u32])
     let m = triangular_number(v);
     let words = 3 + v + (v - w) * (w + 4);
     let lengths = [starts, 0, 0, n, starts, entries, entries, m, 3, 0, words];
-    csc::copy_numbers(out, &lengths);
+    csc::copy_front(out, &lengths);
 }
 
 // Writes the length of each of the eleven tables of the generated problem to `out`. Returns 15 for arguments out of range, 11 if `out` is
@@ -274,7 +268,7 @@ fn write_once(
     if refused != 0 {
         return refused;
     }
-    csc::copy_numbers(starts_out, &starts[..n as usize + 1]);
+    csc::copy_front(starts_out, &starts[..n as usize + 1]);
     generator_columns::write_kept(
         &kept_rows[..d.count],
         &kept[..d.count],
@@ -291,10 +285,7 @@ fn are_kept(rows: usize, n: u32) -> bool
     ensures { result ≡ true → n * rows < 8192 }
 {
     let most = n as usize * rows;
-    if KEPT <= most {
-        return false;
-    }
-    WORTH_KEEPING <= most
+    WORTH_KEEPING <= most && most < KEPT
 }
 
 // Writes A and b, drawn over the rows that the band covers. `rooms` has the length of every output, and `rows` is a scratch buffer for these rows.
@@ -357,7 +348,7 @@ fn write_cone(v: u32, out: &mut [u32])
     ensures { out.new ≡ written (psd_words v) out.old }
 {
     let cone = [PSD_TRIANGLE, v, 0];
-    csc::copy_numbers(out, &cone);
+    csc::copy_front(out, &cone);
 }
 
 // Writes the words of the pattern, for as many vertices as `ordering` is long. `ordering` is a scratch buffer.
@@ -376,8 +367,8 @@ fn write_objective(n: u32, p_starts_out: &mut [u32], q_out: &mut [f64])
     ensures q_out_after { q_out.new ≡ written (replicate n zero64) q_out.old }
 {
     let count = n as usize;
-    csc::fill_numbers(p_starts_out, count + 1, 0);
-    csc::fill_values(q_out, count, 0.0);
+    csc::fill_front(p_starts_out, count + 1, 0);
+    csc::fill_front(q_out, count, 0.0);
 }
 
 // Writes A and b. `rooms` has the length of every output of `generate`. Returns the refusal number of `generate`, or 0; a refused call writes nothing.

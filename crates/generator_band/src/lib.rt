@@ -17,10 +17,7 @@ fn is_within(w: u32, a: u32, b: u32) -> bool
     requires { (w ≤ 64) × (a < 64) × (b < 64) }
     ensures { result ≡ within w a b }
 {
-    if b + w < a {
-        return false;
-    }
-    b <= a + w
+    a <= b + w && b <= a + w
 }
 
 // Writes to `rows` the covered rows of column `j` of the triangle, whose first row is `first`: those of vertices whose places in the ordering are
@@ -33,13 +30,9 @@ fn cover_column(places: &[u32], w: u32, j: usize, first: u32, rows: &mut [u32]) 
 {
     let place = places[j];
     let mut count = 0;
-    let mut i = 0;
-    while i <= j {
-        let row = first + i as u32;
-        let covered = is_within(w, places[i], place);
-        i += 1;
-        if covered {
-            rows[count] = row;
+    for i in 0..j + 1 {
+        if is_within(w, places[i], place) {
+            rows[count] = first + i as u32;
             count += 1;
         }
     }
@@ -54,11 +47,9 @@ pub fn cover_rows(places: &[u32], w: u32, rows: &mut [u32]) -> usize
 {
     let mut count = 0;
     let mut first = 0;
-    let mut j = 0;
-    while j < places.len() {
+    for j in 0..places.len() {
         count += cover_column(places, w, j, first, &mut rows[count..]);
-        j += 1;
-        first += j as u32;
+        first += j as u32 + 1;
     }
     count
 }
@@ -70,10 +61,8 @@ fn write_members(first: u32, count: u32, out: &mut [u32])
     requires { (count ≤ length out.old) × (first + count ≤ 64) }
     ensures { out.new ≡ written (up_from first count) out.old }
 {
-    let mut i = 0;
-    while i < count {
+    for i in 0..count {
         out[i as usize] = first + i;
-        i += 1;
     }
 }
 
@@ -83,7 +72,7 @@ fn write_clique(parent: u32, snode: u32, separator: u32, first: u32, out: &mut [
     ensures { out.new ≡ written (parent ∷ snode ∷ separator ∷ up_from first (snode + separator)) out.old }
 {
     let head = [parent, snode, separator];
-    csc::copy_numbers(&mut *out, &head);
+    csc::copy_front(&mut *out, &head);
     write_members(first, snode + separator, &mut out[3..]);
 }
 
@@ -94,11 +83,9 @@ fn write_cliques(v: u32, w: u32, out: &mut [u32])
 {
     let last = v - w - 1;
     let mut at = 0;
-    let mut c = 0;
-    while c < last {
+    for c in 0..last {
         write_clique(c + 1, 1, w, c, &mut out[at..]);
         at += w as usize + 4;
-        c += 1;
     }
     write_clique(NO_PARENT, w + 1, 0, last, &mut out[at..]);
 }
@@ -111,7 +98,7 @@ pub fn write_words(ordering: &[u32], w: u32, out: &mut [u32])
     let count = ordering.len();
     let v = count as u32;
     let head = [0, v, v - w];
-    csc::copy_numbers(&mut *out, &head);
-    csc::copy_numbers(&mut out[3..], ordering);
+    csc::copy_front(&mut *out, &head);
+    csc::copy_front(&mut out[3..], ordering);
     write_cliques(v, w, &mut out[3 + count..]);
 }

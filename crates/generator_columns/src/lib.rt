@@ -72,11 +72,9 @@ pub fn write_kept(kept_rows: &[u32], kept: &[u64], rows_out: &mut [u32], values_
     ensures rows_out_after { rows_out.new ≡ written kept_rows.now rows_out.old }
     ensures values_out_after { values_out.new ≡ written (map drawn_value kept.now) values_out.old }
 {
-    let mut i = 0;
-    while i < kept.len() {
-        rows_out[i] = kept_rows[i];
-        values_out[i] = draw_value(kept[i]);
-        i += 1;
+    rows_out[..kept_rows.len()].copy_from_slice(kept_rows);
+    for (i, &d) in kept.iter().enumerate() {
+        values_out[i] = draw_value(d);
     }
 }
 
@@ -104,10 +102,7 @@ fn write_few(s: u64, rows: &[u32], rows_out: &mut [u32], values_out: &mut [f64])
 fn few_of(left: usize) -> usize
     ensures { (result ≤ left) × (result ≤ 63) × (0 < left → 0 < result) }
 {
-    if left < 63 {
-        return left;
-    }
-    63
+    left.min(63)
 }
 
 // Draws a column over `rows` and writes its entries to the front of `rows_out` and `values_out`. Returns their number and the state after it.

@@ -27,25 +27,7 @@ pub fn draw_value(d: u64) -> f64
 pub fn in_ranges(seed: u64, v: u32, w: u32, n: u32) -> bool
     ensures { result ≡ in_ranges seed v w n }
 {
-    if seed == 0 {
-        return false;
-    }
-    if v < 2 {
-        return false;
-    }
-    if 64 < v {
-        return false;
-    }
-    if w < 1 {
-        return false;
-    }
-    if v <= w {
-        return false;
-    }
-    if n < 1 {
-        return false;
-    }
-    n <= 64
+    seed != 0 && (2 <= v && v <= 64) && (1 <= w && w < v) && (1 <= n && n <= 64)
 }
 
 // ---- the ordering
@@ -55,10 +37,8 @@ fn count_up(out: &mut [u32])
     requires { length out.old ≤ 64 }
     ensures { out.new ≡ below (length out.old) }
 {
-    let mut i = 0;
-    while i < out.len() {
+    for i in 0..out.len() {
         out[i] = i as u32;
-        i += 1;
     }
 }
 
@@ -81,13 +61,11 @@ fn exchange_all(seed: u64, out: &mut [u32]) -> u64
 {
     let count = out.len();
     let mut s = seed;
-    let mut done = 1;
-    while done < count {
+    for done in 1..count {
         let i = count - done;
         s = draw(s);
         let k = s % (i as u64 + 1);
         exchange_entries(i, k as usize, &mut *out);
-        done += 1;
     }
     s
 }
@@ -104,36 +82,14 @@ pub fn draw_ordering(seed: u64, out: &mut [u32]) -> u64
 
 // ---- the right side
 
-// A drawn value, and the state after it.
-#[derive(Clone, Copy)]
-pub struct ValueDraw {
-    pub value: f64,
-    pub state: u64,
-}
-
-// Draws a value, without the draw before it that would decide whether it is stored. Returns it with the state after it.
-fn draw_alone(s: u64) -> ValueDraw
-    ensures { (result.state ≡ draw_of s) × (result.value ≡ drawn_value result.state) }
-{
-    let next = draw(s);
-    ValueDraw {
-        value: draw_value(next),
-        state: next,
-    }
-}
-
-// Writes a drawn value to each of the `rows` of the right side `out`.
+// Writes a drawn value to each of the `rows` of the right side `out`, without the draws that would decide whether it is stored.
 pub fn draw_side(s: u64, rows: &[u32], out: &mut [f64])
     requires { Below (length out.old) rows.now }
     ensures { out.new ≡ drawn_side s rows.now out.old }
 {
     let mut state = s;
-    let mut i = 0;
-    while i < rows.len() {
-        let r = rows[i] as usize;
-        let d = draw_alone(state);
-        out[r] = d.value;
-        state = d.state;
-        i += 1;
+    for &r in rows {
+        state = draw(state);
+        out[r as usize] = draw_value(state);
     }
 }

@@ -23,9 +23,8 @@ fn mark_each(words: &[u32], marks: &mut [u64]) -> bool
     requires words_len_bound { length words.now ≤ 64 * length marks.old }
     ensures { result ≡ is_permutation words.now }
 {
-    let mut i = 0;
-    while i < words.len() {
-        let x = words[i] as usize;
+    for &word in words {
+        let x = word as usize;
         if words.len() <= x {
             return false;
         }
@@ -36,26 +35,18 @@ fn mark_each(words: &[u32], marks: &mut [u64]) -> bool
             return false;
         }
         marks[at] = more;
-        i += 1;
     }
     true
 }
 
-// Checks that `words` is a permutation of the numbers below its length. Returns whether it is.
-fn permutation_by_fewer(words: &[u32]) -> bool
-    requires { length words.now ≤ 1048576 }
+// Checks that `words`, of at most 64 numbers for each of the `N` words of marks, is a permutation of the numbers below its length. Returns
+// whether it is.
+fn permutation_by_bits<const N: usize>(words: &[u32]) -> bool
+    requires size { N ≤ 131072 }
+    requires words_len_bound { length words.now ≤ 64 * N }
     ensures { result ≡ is_permutation words.now }
 {
-    let mut marks = [0; FEWER_WORDS];
-    mark_each(words, &mut marks)
-}
-
-// Checks that `words` is a permutation of the numbers below its length. Returns whether it is.
-fn permutation_by_bits(words: &[u32]) -> bool
-    requires { length words.now ≤ 8388608 }
-    ensures { result ≡ is_permutation words.now }
-{
-    let mut marks = [0; WORDS];
+    let mut marks = [0; N];
     mark_each(words, &mut marks)
 }
 
@@ -67,21 +58,16 @@ fn mark_window(words: &[u32], window: usize, marks: &mut [u64]) -> bool
     requires { marks.old ≡ replicate 131072 0 }
     ensures { result ≡ distinct (keep (within (window * 8388608) 8388608) words.now) }
 {
-    let mut i = 0;
-    while i < words.len() {
-        let x = words[i] as usize;
+    for &word in words {
+        let x = word as usize;
         let v = x % MOST;
-        let mut bit = 0;
-        if x / MOST == window {
-            bit = 1 << (v % 64);
-        }
+        let bit = if x / MOST == window { 1 << (v % 64) } else { 0 };
         let at = v / 64;
         let w = marks[at];
         if w & bit != 0 {
             return false;
         }
         marks[at] = w | bit;
-        i += 1;
     }
     true
 }
@@ -101,12 +87,10 @@ fn permutation_by_windows(words: &[u32]) -> bool
     if !utils::all_below(words, words.len()) {
         return false;
     }
-    let mut window = 0;
-    while window * MOST < words.len() {
+    for window in 0..words.len().div_ceil(MOST) {
         if !distinct_within(words, window) {
             return false;
         }
-        window += 1;
     }
     true
 }
@@ -119,10 +103,10 @@ pub fn is_long_permutation(words: &[u32]) -> bool
     ensures { result ≡ is_permutation words.now }
 {
     if words.len() <= FEWER {
-        return permutation_by_fewer(words);
+        return permutation_by_bits::<FEWER_WORDS>(words);
     }
     if words.len() <= MOST {
-        return permutation_by_bits(words);
+        return permutation_by_bits::<WORDS>(words);
     }
     permutation_by_windows(words)
 }

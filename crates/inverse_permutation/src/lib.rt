@@ -19,14 +19,12 @@ fn place(p: &[u32], table: &mut [u32]) -> bool
     ensures value { result ≡ all (λ x. ltb x (length p.now)) p.now }
     ensures table_after { result ≡ true → table.new ≡ scattered 0 p.now table.old }
 {
-    let mut k = 0;
-    while k < p.len() {
-        let w = p[k] as usize;
+    for (k, &number) in p.iter().enumerate() {
+        let w = number as usize;
         if p.len() <= w {
             return false;
         }
         table[w] = k as u32;
-        k += 1;
     }
     true
 }
@@ -37,12 +35,10 @@ fn all_placed(table: &[u32]) -> bool
     ensures { result ≡ all (λ x. not (eqb x 4294967295)) table.now }
 {
     let mut placed = true;
-    let mut i = 0;
-    while i < table.len() {
-        if table[i] == UNPLACED {
+    for &k in table {
+        if k == UNPLACED {
             placed = false;
         }
-        i += 1;
     }
     placed
 }
@@ -78,93 +74,22 @@ fn inverse_by(p: &[u32], table: &mut [u32], early: bool, out: &mut [u32]) -> u32
     if out.len() < p.len() {
         return refusal::SHORT;
     }
-    csc::copy_numbers(out, &table[..p.len()]);
+    csc::copy_front(out, &table[..p.len()]);
     refusal::DONE
 }
 
+// Makes the inverse of up to `N` numbers. `early` is for `invert`. Returns what `inverse` returns.
+//
 // Each table is in a function of its own, because a call touches every page of its function's tables. There are nine sizes, because the compiler keeps a
 // function apart only where it expects few calls of it: behind six tests or more. The second walk over the indices is timed to pay from 65 to 1,024
 // numbers; in a long table the test of an index before it is written fetches it in time.
-
-// Makes the inverse of up to 16 numbers. Returns what `inverse` returns.
-fn inverse_16(p: &[u32], out: &mut [u32]) -> u32
-    requires { length p.now ≤ 16 }
+fn inverse_in<const N: usize>(p: &[u32], early: bool, out: &mut [u32]) -> u32
+    requires p_fits { length p.now ≤ N }
+    requires size { N ≤ 4294967295 }
     ensures { Inverse p.now out.old out.new result }
 {
-    let mut table = [UNPLACED; 16];
-    inverse_by(p, &mut table, true, out)
-}
-
-// Makes the inverse of up to 64 numbers. Returns what `inverse` returns.
-fn inverse_64(p: &[u32], out: &mut [u32]) -> u32
-    requires { length p.now ≤ 64 }
-    ensures { Inverse p.now out.old out.new result }
-{
-    let mut table = [UNPLACED; 64];
-    inverse_by(p, &mut table, true, out)
-}
-
-// Makes the inverse of up to 256 numbers. Returns what `inverse` returns.
-fn inverse_256(p: &[u32], out: &mut [u32]) -> u32
-    requires { length p.now ≤ 256 }
-    ensures { Inverse p.now out.old out.new result }
-{
-    let mut table = [UNPLACED; 256];
-    inverse_by(p, &mut table, false, out)
-}
-
-// Makes the inverse of up to 1,024 numbers. Returns what `inverse` returns.
-fn inverse_1024(p: &[u32], out: &mut [u32]) -> u32
-    requires { length p.now ≤ 1024 }
-    ensures { Inverse p.now out.old out.new result }
-{
-    let mut table = [UNPLACED; 1024];
-    inverse_by(p, &mut table, false, out)
-}
-
-// Makes the inverse of up to 4,096 numbers. Returns what `inverse` returns.
-fn inverse_4096(p: &[u32], out: &mut [u32]) -> u32
-    requires { length p.now ≤ 4096 }
-    ensures { Inverse p.now out.old out.new result }
-{
-    let mut table = [UNPLACED; 4096];
-    inverse_by(p, &mut table, true, out)
-}
-
-// Makes the inverse of up to 16,384 numbers. Returns what `inverse` returns.
-fn inverse_16384(p: &[u32], out: &mut [u32]) -> u32
-    requires { length p.now ≤ 16384 }
-    ensures { Inverse p.now out.old out.new result }
-{
-    let mut table = [UNPLACED; 16384];
-    inverse_by(p, &mut table, true, out)
-}
-
-// Makes the inverse of up to 65,536 numbers. Returns what `inverse` returns.
-fn inverse_65536(p: &[u32], out: &mut [u32]) -> u32
-    requires { length p.now ≤ 65536 }
-    ensures { Inverse p.now out.old out.new result }
-{
-    let mut table = [UNPLACED; 65536];
-    inverse_by(p, &mut table, true, out)
-}
-
-// Makes the inverse of up to 131,072 numbers. Returns what `inverse` returns.
-fn inverse_131072(p: &[u32], out: &mut [u32]) -> u32
-    requires { length p.now ≤ 131072 }
-    ensures { Inverse p.now out.old out.new result }
-{
-    let mut table = [UNPLACED; 131072];
-    inverse_by(p, &mut table, true, out)
-}
-
-// Makes the inverse of up to 262,144 numbers. Returns what `inverse` returns.
-fn inverse_262144(p: &[u32], out: &mut [u32]) -> u32
-    requires { length p.now ≤ 262144 }
-    ensures { Inverse p.now out.old out.new result }
-{
-    let mut table = [UNPLACED; 262144];
-    inverse_by(p, &mut table, true, out)
+    let mut table = [UNPLACED; N];
+    inverse_by(p, &mut table, early, out)
 }
 
 // ---- the inverse of a long permutation, tested first
@@ -191,31 +116,31 @@ pub fn inverse(p: &[u32], out: &mut [u32]) -> u32
     ensures { Inverse p.now out.old out.new result }
 {
     if p.len() <= 16 {
-        return inverse_16(p, out);
+        return inverse_in::<16>(p, true, out);
     }
     if p.len() <= 64 {
-        return inverse_64(p, out);
+        return inverse_in::<64>(p, true, out);
     }
     if p.len() <= 256 {
-        return inverse_256(p, out);
+        return inverse_in::<256>(p, false, out);
     }
     if p.len() <= 1024 {
-        return inverse_1024(p, out);
+        return inverse_in::<1024>(p, false, out);
     }
     if p.len() <= 4096 {
-        return inverse_4096(p, out);
+        return inverse_in::<4096>(p, true, out);
     }
     if p.len() <= 16384 {
-        return inverse_16384(p, out);
+        return inverse_in::<16384>(p, true, out);
     }
     if p.len() <= 65536 {
-        return inverse_65536(p, out);
+        return inverse_in::<65536>(p, true, out);
     }
     if p.len() <= 131072 {
-        return inverse_131072(p, out);
+        return inverse_in::<131072>(p, true, out);
     }
     if p.len() <= 262144 {
-        return inverse_262144(p, out);
+        return inverse_in::<262144>(p, true, out);
     }
     long_inverse(p, out)
 }

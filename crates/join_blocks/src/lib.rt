@@ -51,14 +51,12 @@ fn join_column(
 {
     let c = vertices[j];
     let row = triangular_number(c);
-    let mut i = 0;
-    while i <= j {
+    for i in 0..j + 1 {
         let o = (row + vertices[i]) as usize;
         let k = t + i;
         s_out[o] = s_out[o] + s[k];
         z_out[o] = z_value(standard, z_out[o], z[k]);
         count_column(standard, &mut *counts, o);
-        i += 1;
     }
 }
 
@@ -83,8 +81,7 @@ fn join_block(
     ensures counts { Counts standard (block_rows_of vertices.now) counts.old counts.new }
 {
     let mut t = first;
-    let mut j = 0;
-    while j < vertices.len() {
+    for j in 0..vertices.len() {
         join_column(
             standard,
             vertices,
@@ -97,7 +94,6 @@ fn join_block(
             &mut *counts,
         );
         t += j + 1;
-        j += 1;
     }
     t
 }
@@ -132,8 +128,7 @@ fn join_cliques_up(
 {
     let mut t = first;
     let mut at = cliques;
-    let mut left = count;
-    while 0 < left {
+    for _ in 0..count {
         let q = Clique::here(words, at);
         let k = rows_blocks::clique_vertices(words, ordering, at, &mut *vertices);
         t = join_block(
@@ -147,7 +142,6 @@ fn join_cliques_up(
             &mut *counts,
         );
         at = q.next;
-        left -= 1;
     }
     t
 }
@@ -179,8 +173,7 @@ fn join_cliques_down(
     ensures z_out_after { z_out.new ≡ join_z false (join (rows_here 0 words.now ordering.now) (reverse offsets.now)) (drop first z.now) z_out.old }
 {
     let mut t = first;
-    let mut i = 0;
-    while i < offsets.len() {
+    for i in 0..offsets.len() {
         let start = block_start(false, t, map, entry + i);
         let at = offsets[offsets.len() - 1 - i];
         let k = rows_blocks::clique_vertices(words, ordering, at, &mut *vertices);
@@ -194,7 +187,6 @@ fn join_cliques_down(
             &mut *z_out,
             &mut *counts,
         );
-        i += 1;
     }
     t
 }

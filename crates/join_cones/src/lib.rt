@@ -25,7 +25,7 @@ fn whole_values(standard: bool, out: &mut [f64], values: &[f64])
     if standard {
         reverse_standard::sum_rows(out, values);
     } else {
-        csc::copy_values(out, values);
+        out.copy_from_slice(values);
     }
 }
 
@@ -90,9 +90,8 @@ fn join_rows(
     ensures z_out_after { z_out.new ≡ z_cut standard (pattern_at words.now at) (drop t z.now) }
     ensures cleared { Cleared standard counts.new }
 {
-    let n = s_out.len();
-    csc::fill_values(&mut *s_out, n, 0.0);
-    csc::fill_values(&mut *z_out, n, 0.0);
+    s_out.fill(0.0);
+    z_out.fill(0.0);
     let end = join_blocks::join_pattern(
         standard,
         words,

@@ -36,22 +36,7 @@ fn entry_right(
     requires { t ≤ length entries.now }
     ensures { result ≡ begins (drop t entries.now) (cone ∷ pattern ∷ clique ∷ first ∷ rows ∷ []) }
 {
-    if entries.len() - t < entry::WORDS {
-        return false;
-    }
-    if entries[t] != cone {
-        return false;
-    }
-    if entries[t + entry::PATTERN] != pattern {
-        return false;
-    }
-    if entries[t + entry::CLIQUE] != clique {
-        return false;
-    }
-    if entries[t + entry::FIRST_ROW] != first {
-        return false;
-    }
-    entries[t + entry::ROW_COUNT] == rows
+    entries[t..].starts_with(&[cone, pattern, clique, first, rows])
 }
 
 // Reads where the rows of a pattern of `count` cliques end, in the last of its `entries` from index `t` on: the one of its first clique, whose rows come last.
@@ -93,19 +78,17 @@ fn blocks_right(
     }
     let mut at = first;
     let mut row = end;
-    let mut left = count;
-    while 0 < left {
+    for clique in 0..count {
         let q = Clique::here(words, at);
         let rows = scalarmath::triangular_number(q.get_nblk() as u32);
         if row < rows {
             return false;
         }
-        let clique = count - left;
-        left -= 1;
         row -= rows;
+        let left = (count - 1 - clique) as usize;
         if !entry_right(
             entries,
-            t + left as usize * entry::WORDS,
+            t + left * entry::WORDS,
             cone,
             pattern,
             clique,
@@ -156,9 +139,8 @@ fn map_right(m: u32, cones: &[u32], count: u32, words: &[u32], entries: &[u32]) 
     let mut t = 0;
     let mut first = 0u32;
     loop {
-        let met = place.next(m, cones, words);
-        match met {
-            Met::Whole(rows, next) => {
+        match place.next(m, cones, words) {
+            Some(Met::Whole(rows, next)) => {
                 if !entry_right(entries, t, place.cone as u32, NO_PATTERN, 0, first, rows) {
                     return false;
                 }
@@ -166,7 +148,7 @@ fn map_right(m: u32, cones: &[u32], count: u32, words: &[u32], entries: &[u32]) 
                 first += rows;
                 place = next;
             }
-            Met::Cut(at, next) => {
+            Some(Met::Cut(at, next)) => {
                 let cliques = walk_cones::clique_count(words, at);
                 let end = told_end(entries, t, cliques);
                 if !pattern_right(
@@ -185,7 +167,7 @@ fn map_right(m: u32, cones: &[u32], count: u32, words: &[u32], entries: &[u32]) 
                 first = end;
                 place = next;
             }
-            Met::Done => {
+            None => {
                 return t == entries.len();
             }
         }
@@ -201,29 +183,14 @@ const SCALARS: usize = 2;
 pub fn room_enough(n: u32, m: u32, x: usize, s: usize, z: usize, scalars: usize) -> bool
     ensures { result ≡ roomy (n ∷ m ∷ m ∷ 2 ∷ []) (x ∷ s ∷ z ∷ scalars ∷ []) }
 {
-    if x < n as usize {
-        return false;
-    }
-    if s < m as usize {
-        return false;
-    }
-    if z < m as usize {
-        return false;
-    }
-    SCALARS <= scalars
+    n as usize <= x && m as usize <= s && m as usize <= z && SCALARS <= scalars
 }
 
 // Returns whether `x` is `columns`, and `s` and `z` are `rows`.
 fn lengths_are(x: usize, s: usize, z: usize, columns: usize, rows: usize) -> bool
     ensures { result ≡ (eqb x columns && eqb s rows && eqb z rows) }
 {
-    if x != columns {
-        return false;
-    }
-    if s != rows {
-        return false;
-    }
-    z == rows
+    x == columns && s == rows && z == rows
 }
 
 // Makes the part of check 12 about lengths: returns whether `x`, `s` and `z` are the lengths that an augmented problem with these block rows and
@@ -243,9 +210,10 @@ pub fn lengths_fit(
 {
     let k = rows as usize;
     if route == route::STANDARD {
-        return lengths_are(x, s, z, n as usize + k, m as usize + k);
+        lengths_are(x, s, z, n as usize + k, m as usize + k)
+    } else {
+        lengths_are(x, s, z, n as usize + overlaps as usize, k)
     }
-    lengths_are(x, s, z, n as usize + overlaps as usize, k)
 }
 
 // Makes checks 10 to 12 in order, except for the cone map, from counts and lengths. Returns the number of the first that fails, or 0.
@@ -400,10 +368,7 @@ pub fn join(
         s_out,
         z_out,
     );
-    let scalars = Scalars {
-        tau: tau,
-        kappa: kappa,
-    };
+    let scalars = Scalars { tau, kappa };
     write_scalars(scalars.joined(), scalars_out);
     refusal::DONE
 }

@@ -19,7 +19,7 @@ pub fn copy_x(n: u32, x: &[f64], out: &mut [f64])
     ensures { out.new ≡ written (take n x.now) out.old }
 {
     let k = n as usize;
-    csc::copy_values(out, &x[..k]);
+    csc::copy_front(out, &x[..k]);
 }
 
 // ---- all cones
@@ -28,10 +28,7 @@ pub fn copy_x(n: u32, x: &[f64], out: &mut [f64])
 fn first_value(standard: bool, m: u32) -> usize
     ensures { result ≡ first_of standard m }
 {
-    if standard {
-        return m as usize;
-    }
-    0
+    if standard { m as usize } else { 0 }
 }
 
 // Joins `s` and `z` on a route and writes them to `s_out` and `z_out`. The compact route reads the first row of each block from `map`. The scratch buffers
@@ -62,9 +59,8 @@ fn join_parts(
     let mut t = first_value(standard, m);
     let mut entry = 0usize;
     loop {
-        let met = place.next(m, cones, words);
-        match met {
-            Met::Whole(rows, next) => {
+        match place.next(m, cones, words) {
+            Some(Met::Whole(rows, next)) => {
                 let n = rows as usize;
                 let start = block_start(standard, t, map, entry);
                 join_whole(standard, n, row, start, s, &mut *s_out);
@@ -74,7 +70,7 @@ fn join_parts(
                 entry += 1;
                 place = next;
             }
-            Met::Cut(at, next) => {
+            Some(Met::Cut(at, next)) => {
                 let n = cone_rows(words, at);
                 t = join_cut(
                     standard,
@@ -97,7 +93,7 @@ fn join_parts(
                 entry += walk_cones::clique_count(words, at) as usize;
                 place = next;
             }
-            Met::Done => {
+            None => {
                 break;
             }
         }
@@ -117,14 +113,11 @@ fn side_few(kind: u32, side: u32) -> bool
 fn sides_few(cones: &[u32]) -> bool
     ensures { result ≡ sides_few cones.now }
 {
-    let count = supportedcone::record_count(cones);
-    let mut i = 0;
-    while i < count {
+    for i in 0..supportedcone::record_count(cones) {
         let at = i * 3;
         if !side_few(cones[at], cones[at + 1]) {
             return false;
         }
-        i += 1;
     }
     true
 }
@@ -133,10 +126,7 @@ fn sides_few(cones: &[u32]) -> bool
 fn rows_few(m: u32, cones: &[u32]) -> bool
     ensures { result ≡ (leb m 4096 || sides_few cones.now) }
 {
-    if m <= 4096 {
-        return true;
-    }
-    sides_few(cones)
+    m <= 4096 || sides_few(cones)
 }
 
 // Returns whether 256 counts are enough: the compact route counts nothing.

@@ -85,7 +85,7 @@ pub fn pool(
         p_rows_out,
         p_values_out,
     );
-    csc::copy_values(q_out, q);
+    csc::copy_front(q_out, q);
     pool_tables::write_constraints(
         n,
         m,

@@ -134,42 +134,19 @@ fn bounded(
     requires { (m ≤ 65536) × (m2 ≤ 65536) × (length (records cones.now) ≤ 1024) × (length (records cones2.now) ≤ 1024) }
     ensures { result ≡ (leb (m + m2) 65536 && leb (length a_values.now + length a_values2.now) 262144 && leb (length (records cones.now) + length (records cones2.now)) 1024) }
 {
-    if limit::ROWS < m + m2 {
-        return false;
-    }
-    if limit::ENTRIES < a_values.len() + a_values2.len() {
-        return false;
-    }
-    supportedcone::record_count(cones) + supportedcone::record_count(cones2) <= limit::CONES
-}
-
-// Adds up the lengths of `xs` and `ys`. Returns the sum.
-fn total_numbers(xs: &[u32], ys: &[u32]) -> usize
-    ensures { result ≡ length xs.now + length ys.now }
-{
-    xs.len() + ys.len()
-}
-
-// Adds up the lengths of `xs` and `ys`. Returns the sum.
-fn total_values(xs: &[f64], ys: &[f64]) -> usize
-    ensures { result ≡ length xs.now + length ys.now }
-{
-    xs.len() + ys.len()
+    m + m2 <= limit::ROWS
+        && a_values.len() + a_values2.len() <= limit::ENTRIES
+        && supportedcone::record_count(cones) + supportedcone::record_count(cones2) <= limit::CONES
 }
 
 // Compares the length that each output needs (`needs`) with the one that it has (`rooms`). Returns 11 where one is too short, otherwise 0.
 fn check_rooms(needs: &[usize], rooms: &[usize]) -> u32
     ensures { result ≡ cond (roomy needs.now rooms.now) 0 11 }
 {
-    let mut i = 0;
-    while i < needs.len() {
-        if rooms.len() <= i {
+    for (i, &need) in needs.iter().enumerate() {
+        if rooms.len() <= i || rooms[i] < need {
             return refusal::SHORT;
         }
-        if rooms[i] < needs[i] {
-            return refusal::SHORT;
-        }
-        i += 1;
     }
     refusal::DONE
 }
@@ -228,12 +205,12 @@ pub fn refuse(
         p_values.len(),
         q.len(),
         a_starts.len(),
-        total_numbers(a_rows, a_rows2),
-        total_values(a_values, a_values2),
-        total_values(b, b2),
-        total_numbers(cones, cones2),
-        total_values(alphas, alphas2),
-        total_numbers(words, words2),
+        a_rows.len() + a_rows2.len(),
+        a_values.len() + a_values2.len(),
+        b.len() + b2.len(),
+        cones.len() + cones2.len(),
+        alphas.len() + alphas2.len(),
+        words.len() + words2.len(),
     ];
     check_rooms(&needs, rooms)
 }

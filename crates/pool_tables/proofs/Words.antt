@@ -7,7 +7,7 @@ use mathlib.Core.Bool.{true}
 use mathlib.Core.List.{List, [], ◌∷◌, ◌++◌, append_assoc}
 use lib.ListN.{length, get_or, set, drop, length-append, length-drop}
 use lib.Seq.{drop-cons}
-use lib.Dec.{T, ltb, ltb→lt}
+use lib.Dec.{T, ltb→lt}
 use Rattle.layout.specs.General.Lists.{all, join, written}
 use Rattle.layout.specs.Problems.Patterns.{Pattern, read, no_pattern, read_pattern, read_patterns, ends_right, patterns, pattern_words_of}
 use Rattle.layout.specs.Calls.Pool.{raised_pattern, raised_words}

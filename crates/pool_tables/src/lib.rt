@@ -12,21 +12,12 @@ ghost use Rattle.layout.specs.Problems.Problem.{system};
 // ---- one list followed by another
 
 // Writes `xs` followed by `ys` to the front of `out`.
-pub fn append_numbers(xs: &[u32], ys: &[u32], out: &mut [u32])
+pub fn append<T: Copy>(xs: &[T], ys: &[T], out: &mut [T])
     requires { length xs.now + length ys.now ≤ length out.old }
     ensures { out.new ≡ written (xs.now ++ ys.now) out.old }
 {
-    csc::copy_numbers(&mut *out, xs);
-    csc::copy_numbers(&mut out[xs.len()..], ys);
-}
-
-// Writes `xs` followed by `ys` to the front of `out`.
-pub fn append_values(xs: &[f64], ys: &[f64], out: &mut [f64])
-    requires { length xs.now + length ys.now ≤ length out.old }
-    ensures { out.new ≡ written (xs.now ++ ys.now) out.old }
-{
-    csc::copy_values(&mut *out, xs);
-    csc::copy_values(&mut out[xs.len()..], ys);
+    csc::copy_front(&mut *out, xs);
+    csc::copy_front(&mut out[xs.len()..], ys);
 }
 
 // Writes each number of `src` plus `k` to the front of `out`.
@@ -35,10 +26,8 @@ fn raise_numbers(src: &[u32], k: u32, out: &mut [u32])
     requires raisable { Raisable k src.now }
     ensures { out.new ≡ written (raised k src.now) out.old }
 {
-    let mut i = 0;
-    while i < src.len() {
-        out[i] = k + src[i];
-        i += 1;
+    for (i, &x) in src.iter().enumerate() {
+        out[i] = k + x;
     }
 }
 
@@ -48,7 +37,7 @@ fn append_raised(xs: &[u32], ys: &[u32], k: u32, out: &mut [u32])
     requires raisable { Raisable k ys.now }
     ensures { out.new ≡ written (xs.now ++ raised k ys.now) out.old }
 {
-    csc::copy_numbers(&mut *out, xs);
+    csc::copy_front(&mut *out, xs);
     raise_numbers(ys, k, &mut out[xs.len()..]);
 }
 
@@ -60,10 +49,8 @@ fn stack_starts(n: u32, starts: &[u32], starts2: &[u32], out: &mut [u32])
     requires sums_fit { SumsFit n starts.now starts2.now }
     ensures { out.new ≡ written (start_sums n starts.now starts2.now) out.old }
 {
-    let mut c = 0;
-    while c < starts.len() {
+    for c in 0..starts.len() {
         out[c] = starts[c] + starts2[c];
-        c += 1;
     }
 }
 
@@ -138,7 +125,7 @@ fn put_values(
     requires { (first ≤ end) × (end ≤ length values.now) × (first2 ≤ end2) × (end2 ≤ length values2.now) × (end + end2 ≤ length out.old) }
     ensures { out.new ≡ written (take (first + first2) out.old ++ (part first end values.now ++ part first2 end2 values2.now)) out.old }
 {
-    append_values(
+    append(
         &values[first..end],
         &values2[first2..end2],
         &mut out[first + first2..],
@@ -184,13 +171,11 @@ fn raise_words(k: u32, count: u32, words: &[u32], out: &mut [u32])
     requires words_in_bounds { length words.now ≤ length out.old }
     ensures { out.new ≡ written (raised_words k (patterns count words.now)) out.old }
 {
-    csc::copy_numbers(&mut *out, words);
+    csc::copy_front(&mut *out, words);
     let mut at = 0;
-    let mut left = count;
-    while 0 < left {
+    for _ in 0..count {
         out[at] = k + words[at];
         at = supernode_tree::pattern_next(words, at);
-        left -= 1;
     }
 }
 
@@ -210,9 +195,9 @@ pub fn copy_matrix(
     ensures rows_out_after { rows_out.new ≡ written rows.now rows_out.old }
     ensures values_out_after { values_out.new ≡ written values.now values_out.old }
 {
-    csc::copy_numbers(starts_out, starts);
-    csc::copy_numbers(rows_out, rows);
-    csc::copy_values(values_out, values);
+    csc::copy_front(starts_out, starts);
+    csc::copy_front(rows_out, rows);
+    csc::copy_front(values_out, values);
 }
 
 // Writes the first problem's A stacked over the second's, and b followed by `b2`. `m` is the first problem's row count.
@@ -245,7 +230,7 @@ pub fn write_constraints(
     stack_starts(n, a_starts, a_starts2, a_starts_out);
     stack_rows(n, m, a_starts, a_rows, a_starts2, a_rows2, a_rows_out);
     stack_values(n, a_starts, a_values, a_starts2, a_values2, a_values_out);
-    append_values(b, b2, b_out);
+    append(b, b2, b_out);
 }
 
 // Writes the first problem's pattern words `words`, followed by those of the second's `count2` patterns with `k` added to each orig_index.
@@ -255,7 +240,7 @@ fn write_words(words: &[u32], k: u32, count2: u32, words2: &[u32], out: &mut [u3
     requires words2_in_bounds { length words.now + length words2.now ≤ length out.old }
     ensures { out.new ≡ written (words.now ++ raised_words k (patterns count2 words2.now)) out.old }
 {
-    csc::copy_numbers(&mut *out, words);
+    csc::copy_front(&mut *out, words);
     raise_words(k, count2, words2, &mut out[words.len()..]);
 }
 
@@ -281,7 +266,7 @@ pub fn write_layout(
     ensures words_out_after { words_out.new ≡ written (words.now ++ raised_words (length (records cones.now)) (patterns count2 words2.now)) words_out.old }
 {
     let k = supportedcone::record_count(cones) as u32;
-    append_numbers(cones, cones2, cones_out);
-    append_values(alphas, alphas2, alphas_out);
+    append(cones, cones2, cones_out);
+    append(alphas, alphas2, alphas_out);
     write_words(words, k, count2, words2, words_out);
 }

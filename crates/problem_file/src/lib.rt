@@ -15,7 +15,7 @@ fn read_counts(words: &[u32], counts_out: &mut [u32])
     requires { WellShaped words.now × (8 ≤ length counts_out.old) }
     ensures { counts_out.new ≡ written (count_words (counts_in words.now)) counts_out.old }
 {
-    csc::copy_numbers(counts_out, &words[..header::COUNTS]);
+    csc::copy_front(counts_out, &words[..header::COUNTS]);
 }
 
 // Writes the tables of P, and q.

@@ -2,135 +2,149 @@
 // per file. The answers were computed by make_answers.py and by the comparison's plain reading of document 01
 // (compare/run --store crates/replay/data --cases 120 --seed 11); crate `stored` describes the file format.
 //
-// A new family needs a number and its call, a line in `numbers_and_patterns` or `main` and one in stdout, and a
+// A new family needs a variant of `Family`, its name there and its call in `answer`, a line in stdout, and a
 // function in make_answers.py or the comparison that computes its answers.
 #![tactic(auto)]
 
 use std::io;
 use std::rt::Files;
 use stored::{
-    cut_answer, holds, item, load_values, load_words, report, text_of, value_item, values_at,
-    values_hold, values_room, word, words_at, words_room,
+    Case, DIFFERS, Outputs, Problem, Reader, Solution, SolutionOutputs, Tables, item, report, room,
+    same, text_of,
 };
 
 // A case's u32 lists are the call's numbers, its result, its inputs and its outputs; its f64 lists are
 // its inputs and its outputs, numbered from 16. An output's list is the whole output slice after the call, so its
 // length is also the length of the slice that is passed.
 //
-// All lists passed to a function have one lifetime, so that a proof follows a single borrow.
+// A function that makes a call returns the number that the call returned, or `None` where an output differs from the stored one.
 
 // ---- the calls on numbers and patterns
 
-const PAIR_INDEX: u8 = 0;
-
-const PAIR_BACK: u8 = 1;
-
-const INVERSE: u8 = 2;
-
-const RENUMBER: u8 = 3;
-
-fn call_on_pattern<'a>(family: u8, given: &'a [u32], list: &'a [u32], room: &mut [u32]) -> u32 {
-    match family {
-        PAIR_INDEX => scalarmath::pair_index(item(given, 0), item(given, 1), room),
-        PAIR_BACK => scalarmath::pair_back(item(given, 0), room),
-        INVERSE => inverse_permutation::inverse(list, room),
-        _ => reorder::reorder_snode_consecutively(list, room),
-    }
+fn pair_index(case: Case) -> Option<u32> {
+    let given = case.words_at(0);
+    let mut out = [0u32; 4096];
+    let r = scalarmath::pair_index(
+        item(given, 0),
+        item(given, 1),
+        room(&mut out, case.words_at(2)),
+    );
+    same(&out, case.words_at(2)).then_some(r)
 }
 
-fn on_pattern(family: u8, words: &[u32]) -> u32 {
+fn pair_back(case: Case) -> Option<u32> {
     let mut out = [0u32; 4096];
-    let room = words_room(&mut out, words, 2);
-    let r = call_on_pattern(family, words_at(words, 0), words_at(words, 1), room);
-    holds(r, words, 2, out)
+    let r = scalarmath::pair_back(item(case.words_at(0), 0), room(&mut out, case.words_at(2)));
+    same(&out, case.words_at(2)).then_some(r)
+}
+
+fn inverse(case: Case) -> Option<u32> {
+    let mut out = [0u32; 4096];
+    let r = inverse_permutation::inverse(case.words_at(1), room(&mut out, case.words_at(2)));
+    same(&out, case.words_at(2)).then_some(r)
+}
+
+fn renumber(case: Case) -> Option<u32> {
+    let mut out = [0u32; 4096];
+    let r = reorder::reorder_snode_consecutively(
+        case.words_at(1),
+        room(&mut out, case.words_at(2)),
+    );
+    same(&out, case.words_at(2)).then_some(r)
 }
 
 // ---- the calls on a whole problem
 
-const CHECK_PROBLEM: u8 = 4;
+fn check_problem(case: Case) -> Option<u32> {
+    let given = case.words_at(0);
+    let p = Problem::of(case);
+    Some(check_problem::check_problem(
+        item(given, 0),
+        item(given, 1),
+        p.p_starts,
+        p.p_rows,
+        p.p_values,
+        p.q,
+        p.a_starts,
+        p.a_rows,
+        p.a_values,
+        p.b,
+        p.cones,
+        p.alphas,
+        item(given, 2),
+        p.pattern,
+    ))
+}
 
-const SAME_LAYOUT: u8 = 5;
-
-const SIZES: u8 = 6;
-
-const CUT: u8 = 7;
-
-const CUT_BETWEEN: u8 = 9;
-
-const CUT_MANY: u8 = 10;
-
-// Calls `same_layout`; the second problem's lists follow the first one's.
-fn same_layout<'a>(
-    given: &'a [u32],
-    p_starts: &'a [u32],
-    p_rows: &'a [u32],
-    p_values: &'a [f64],
-    q: &'a [f64],
-    a_starts: &'a [u32],
-    a_rows: &'a [u32],
-    a_values: &'a [f64],
-    b: &'a [f64],
-    cones: &'a [u32],
-    alphas: &'a [f64],
-    pattern: &'a [u32],
-    words: &'a [u32],
-    values: &'a [f64],
-) -> u32 {
+// The second problem's lists follow the first one's.
+fn same_layout(case: Case) -> Option<u32> {
+    let given = case.words_at(0);
+    let p = Problem::of(case);
     let mut out = [0u32; 4096];
     let r = same_layout::same_layout(
         item(given, 0),
         item(given, 1),
-        p_starts,
-        p_rows,
-        p_values,
-        q,
-        a_starts,
-        a_rows,
-        a_values,
-        b,
-        cones,
-        alphas,
+        p.p_starts,
+        p.p_rows,
+        p.p_values,
+        p.q,
+        p.a_starts,
+        p.a_rows,
+        p.a_values,
+        p.b,
+        p.cones,
+        p.alphas,
         item(given, 2),
-        pattern,
+        p.pattern,
         item(given, 3),
         item(given, 4),
-        words_at(words, 8),
-        words_at(words, 9),
-        values_at(words, values, 21),
-        values_at(words, values, 22),
-        words_at(words, 10),
-        words_at(words, 11),
-        values_at(words, values, 23),
-        values_at(words, values, 24),
-        words_at(words, 12),
-        values_at(words, values, 25),
+        case.words_at(8),
+        case.words_at(9),
+        case.values_at(21),
+        case.values_at(22),
+        case.words_at(10),
+        case.words_at(11),
+        case.values_at(23),
+        case.values_at(24),
+        case.words_at(12),
+        case.values_at(25),
         item(given, 5),
-        words_at(words, 13),
-        words_room(&mut out, words, 14),
+        case.words_at(13),
+        room(&mut out, case.words_at(14)),
     );
-    holds(r, words, 14, out)
+    same(&out, case.words_at(14)).then_some(r)
 }
 
-fn sizes<'a>(
-    given: &'a [u32],
-    p_starts: &'a [u32],
-    p_rows: &'a [u32],
-    p_values: &'a [f64],
-    q: &'a [f64],
-    a_starts: &'a [u32],
-    a_rows: &'a [u32],
-    a_values: &'a [f64],
-    b: &'a [f64],
-    cones: &'a [u32],
-    alphas: &'a [f64],
-    pattern: &'a [u32],
-    words: &'a [u32],
-) -> u32 {
+fn sizes(case: Case) -> Option<u32> {
+    let given = case.words_at(0);
+    let p = Problem::of(case);
     let mut out = [0u32; 4096];
     let r = decomp::sizes(
         item(given, 0),
         item(given, 1),
         item(given, 2),
+        p.p_starts,
+        p.p_rows,
+        p.p_values,
+        p.q,
+        p.a_starts,
+        p.a_rows,
+        p.a_values,
+        p.b,
+        p.cones,
+        p.alphas,
+        item(given, 3),
+        p.pattern,
+        room(&mut out, case.words_at(8)),
+    );
+    same(&out, case.words_at(8)).then_some(r)
+}
+
+fn cut(case: Case) -> Option<u32> {
+    let given = case.words_at(0);
+    let p = Problem::of(case);
+    let mut tables = Tables::<4096>::filled(0, 0.0);
+    let Outputs {
         p_starts,
         p_rows,
         p_values,
@@ -141,44 +155,24 @@ fn sizes<'a>(
         b,
         cones,
         alphas,
-        item(given, 3),
-        pattern,
-        words_room(&mut out, words, 8),
-    );
-    holds(r, words, 8, out)
-}
-
-fn cut<'a>(
-    given: &'a [u32],
-    p_starts: &'a [u32],
-    p_rows: &'a [u32],
-    p_values: &'a [f64],
-    q: &'a [f64],
-    a_starts: &'a [u32],
-    a_rows: &'a [u32],
-    a_values: &'a [f64],
-    b: &'a [f64],
-    cones: &'a [u32],
-    alphas: &'a [f64],
-    pattern: &'a [u32],
-    words: &'a [u32],
-    values: &'a [f64],
-) -> u32 {
-    let mut p_starts_out = [0u32; 4096];
-    let mut p_rows_out = [0u32; 4096];
-    let mut p_values_out = [0f64; 4096];
-    let mut q_out = [0f64; 4096];
-    let mut a_starts_out = [0u32; 4096];
-    let mut a_rows_out = [0u32; 4096];
-    let mut a_values_out = [0f64; 4096];
-    let mut b_out = [0f64; 4096];
-    let mut cones_out = [0u32; 4096];
-    let mut alphas_out = [0f64; 4096];
-    let mut map_out = [0u32; 4096];
+        last,
+    } = tables.outputs(case);
     let r = cut_on_route::cut(
         item(given, 0),
         item(given, 1),
         item(given, 2),
+        p.p_starts,
+        p.p_rows,
+        p.p_values,
+        p.q,
+        p.a_starts,
+        p.a_rows,
+        p.a_values,
+        p.b,
+        p.cones,
+        p.alphas,
+        item(given, 3),
+        p.pattern,
         p_starts,
         p_rows,
         p_values,
@@ -189,70 +183,45 @@ fn cut<'a>(
         b,
         cones,
         alphas,
-        item(given, 3),
-        pattern,
-        words_room(&mut p_starts_out, words, 8),
-        words_room(&mut p_rows_out, words, 9),
-        values_room(&mut p_values_out, words, values, 21),
-        values_room(&mut q_out, words, values, 22),
-        words_room(&mut a_starts_out, words, 10),
-        words_room(&mut a_rows_out, words, 11),
-        values_room(&mut a_values_out, words, values, 23),
-        values_room(&mut b_out, words, values, 24),
-        words_room(&mut cones_out, words, 12),
-        values_room(&mut alphas_out, words, values, 25),
-        words_room(&mut map_out, words, 13),
+        last,
     );
-    cut_answer(
-        r,
-        words,
-        values,
-        p_starts_out,
-        p_rows_out,
-        p_values_out,
-        q_out,
-        a_starts_out,
-        a_rows_out,
-        a_values_out,
-        b_out,
-        cones_out,
-        alphas_out,
-        map_out,
-    )
+    tables.hold(case).then_some(r)
 }
 
-// Calls `cut_many`. The first number is how many right sides there are; `b` has them one after another.
-fn cut_many<'a>(
-    given: &'a [u32],
-    p_starts: &'a [u32],
-    p_rows: &'a [u32],
-    p_values: &'a [f64],
-    q: &'a [f64],
-    a_starts: &'a [u32],
-    a_rows: &'a [u32],
-    a_values: &'a [f64],
-    b: &'a [f64],
-    cones: &'a [u32],
-    alphas: &'a [f64],
-    pattern: &'a [u32],
-    words: &'a [u32],
-    values: &'a [f64],
-) -> u32 {
-    let mut p_starts_out = [0u32; 4096];
-    let mut p_rows_out = [0u32; 4096];
-    let mut p_values_out = [0f64; 4096];
-    let mut q_out = [0f64; 4096];
-    let mut a_starts_out = [0u32; 4096];
-    let mut a_rows_out = [0u32; 4096];
-    let mut a_values_out = [0f64; 4096];
-    let mut b_out = [0f64; 4096];
-    let mut cones_out = [0u32; 4096];
-    let mut alphas_out = [0f64; 4096];
-    let mut map_out = [0u32; 4096];
+// The first number is how many right sides there are; `b` has them one after another.
+fn cut_many(case: Case) -> Option<u32> {
+    let given = case.words_at(0);
+    let p = Problem::of(case);
+    let mut tables = Tables::<4096>::filled(0, 0.0);
+    let Outputs {
+        p_starts,
+        p_rows,
+        p_values,
+        q,
+        a_starts,
+        a_rows,
+        a_values,
+        b,
+        cones,
+        alphas,
+        last,
+    } = tables.outputs(case);
     let r = cut_with_sides::cut_many(
         item(given, 0),
         item(given, 1),
         item(given, 2),
+        p.p_starts,
+        p.p_rows,
+        p.p_values,
+        p.q,
+        p.a_starts,
+        p.a_rows,
+        p.a_values,
+        p.b,
+        p.cones,
+        p.alphas,
+        item(given, 3),
+        p.pattern,
         p_starts,
         p_rows,
         p_values,
@@ -263,70 +232,46 @@ fn cut_many<'a>(
         b,
         cones,
         alphas,
-        item(given, 3),
-        pattern,
-        words_room(&mut p_starts_out, words, 8),
-        words_room(&mut p_rows_out, words, 9),
-        values_room(&mut p_values_out, words, values, 21),
-        values_room(&mut q_out, words, values, 22),
-        words_room(&mut a_starts_out, words, 10),
-        words_room(&mut a_rows_out, words, 11),
-        values_room(&mut a_values_out, words, values, 23),
-        values_room(&mut b_out, words, values, 24),
-        words_room(&mut cones_out, words, 12),
-        values_room(&mut alphas_out, words, values, 25),
-        words_room(&mut map_out, words, 13),
+        last,
     );
-    cut_answer(
-        r,
-        words,
-        values,
-        p_starts_out,
-        p_rows_out,
-        p_values_out,
-        q_out,
-        a_starts_out,
-        a_rows_out,
-        a_values_out,
-        b_out,
-        cones_out,
-        alphas_out,
-        map_out,
-    )
+    tables.hold(case).then_some(r)
 }
 
-// Calls `cut_between`. The low limits are passed as `b`; the high ones are list 26, and their output is list 27.
-fn cut_between<'a>(
-    given: &'a [u32],
-    p_starts: &'a [u32],
-    p_rows: &'a [u32],
-    p_values: &'a [f64],
-    q: &'a [f64],
-    a_starts: &'a [u32],
-    a_rows: &'a [u32],
-    a_values: &'a [f64],
-    b: &'a [f64],
-    cones: &'a [u32],
-    alphas: &'a [f64],
-    pattern: &'a [u32],
-    words: &'a [u32],
-    values: &'a [f64],
-) -> u32 {
-    let mut p_starts_out = [0u32; 4096];
-    let mut p_rows_out = [0u32; 4096];
-    let mut p_values_out = [0f64; 4096];
-    let mut q_out = [0f64; 4096];
-    let mut a_starts_out = [0u32; 4096];
-    let mut a_rows_out = [0u32; 4096];
-    let mut a_values_out = [0f64; 4096];
-    let mut b_low_out = [0f64; 4096];
-    let mut b_high_out = [0f64; 4096];
-    let mut cones_out = [0u32; 4096];
-    let mut alphas_out = [0f64; 4096];
-    let mut map_out = [0u32; 4096];
+// The low limits are passed as `b`; the high ones are list 26, and their output is list 27.
+fn cut_between(case: Case) -> Option<u32> {
+    let given = case.words_at(0);
+    let p = Problem::of(case);
+    let mut tables = Tables::<4096>::filled(0, 0.0);
+    let mut b_high = [0f64; 4096];
+    let Outputs {
+        p_starts,
+        p_rows,
+        p_values,
+        q,
+        a_starts,
+        a_rows,
+        a_values,
+        b,
+        cones,
+        alphas,
+        last,
+    } = tables.outputs(case);
     let r = cut_with_limits::cut_between(
         item(given, 0),
         item(given, 1),
+        p.p_starts,
+        p.p_rows,
+        p.p_values,
+        p.q,
+        p.a_starts,
+        p.a_rows,
+        p.a_values,
+        p.b,
+        case.values_at(26),
+        p.cones,
+        p.alphas,
+        item(given, 2),
+        p.pattern,
         p_starts,
         p_rows,
         p_values,
@@ -335,362 +280,266 @@ fn cut_between<'a>(
         a_rows,
         a_values,
         b,
-        values_at(words, values, 26),
+        room(&mut b_high, case.values_at(27)),
         cones,
         alphas,
-        item(given, 2),
-        pattern,
-        words_room(&mut p_starts_out, words, 8),
-        words_room(&mut p_rows_out, words, 9),
-        values_room(&mut p_values_out, words, values, 21),
-        values_room(&mut q_out, words, values, 22),
-        words_room(&mut a_starts_out, words, 10),
-        words_room(&mut a_rows_out, words, 11),
-        values_room(&mut a_values_out, words, values, 23),
-        values_room(&mut b_low_out, words, values, 24),
-        values_room(&mut b_high_out, words, values, 27),
-        words_room(&mut cones_out, words, 12),
-        values_room(&mut alphas_out, words, values, 25),
-        words_room(&mut map_out, words, 13),
+        last,
     );
-    let held = cut_answer(
-        r,
-        words,
-        values,
-        p_starts_out,
-        p_rows_out,
-        p_values_out,
-        q_out,
-        a_starts_out,
-        a_rows_out,
-        a_values_out,
-        b_low_out,
-        cones_out,
-        alphas_out,
-        map_out,
-    );
-    values_hold(held, words, values, 27, b_high_out)
-}
-
-fn call_on_problem<'a>(
-    family: u8,
-    given: &'a [u32],
-    p_starts: &'a [u32],
-    p_rows: &'a [u32],
-    p_values: &'a [f64],
-    q: &'a [f64],
-    a_starts: &'a [u32],
-    a_rows: &'a [u32],
-    a_values: &'a [f64],
-    b: &'a [f64],
-    cones: &'a [u32],
-    alphas: &'a [f64],
-    pattern: &'a [u32],
-    words: &'a [u32],
-    values: &'a [f64],
-) -> u32 {
-    match family {
-        CHECK_PROBLEM => check_problem::check_problem(
-            item(given, 0),
-            item(given, 1),
-            p_starts,
-            p_rows,
-            p_values,
-            q,
-            a_starts,
-            a_rows,
-            a_values,
-            b,
-            cones,
-            alphas,
-            item(given, 2),
-            pattern,
-        ),
-        SAME_LAYOUT => same_layout(
-            given, p_starts, p_rows, p_values, q, a_starts, a_rows, a_values, b, cones, alphas,
-            pattern, words, values,
-        ),
-        SIZES => sizes(
-            given, p_starts, p_rows, p_values, q, a_starts, a_rows, a_values, b, cones, alphas,
-            pattern, words,
-        ),
-        CUT_BETWEEN => cut_between(
-            given, p_starts, p_rows, p_values, q, a_starts, a_rows, a_values, b, cones, alphas,
-            pattern, words, values,
-        ),
-        CUT => cut(
-            given, p_starts, p_rows, p_values, q, a_starts, a_rows, a_values, b, cones, alphas,
-            pattern, words, values,
-        ),
-        _ => cut_many(
-            given, p_starts, p_rows, p_values, q, a_starts, a_rows, a_values, b, cones, alphas,
-            pattern, words, values,
-        ),
-    }
-}
-
-// Passes on the problem's lists, whose numbers are the same for all these calls.
-fn on_problem<'a>(family: u8, words: &'a [u32], values: &'a [f64]) -> u32 {
-    call_on_problem(
-        family,
-        words_at(words, 0),
-        words_at(words, 2),
-        words_at(words, 3),
-        values_at(words, values, 16),
-        values_at(words, values, 17),
-        words_at(words, 4),
-        words_at(words, 5),
-        values_at(words, values, 18),
-        values_at(words, values, 19),
-        words_at(words, 6),
-        values_at(words, values, 20),
-        words_at(words, 7),
-        words,
-        values,
-    )
+    (tables.hold(case) && same(&b_high, case.values_at(27))).then_some(r)
 }
 
 // ---- the calls on a solution
 
-const JOIN: u8 = 8;
-
-const CHANGE_ROUTE: u8 = 12;
-
-// Calls the joining, or the change of route, which uses neither the route nor the map.
-fn call_on_solution<'a>(
-    family: u8,
-    given: &'a [u32],
-    cones: &'a [u32],
-    pattern: &'a [u32],
-    x: &'a [f64],
-    s: &'a [f64],
-    z: &'a [f64],
-    scalars: &'a [f64],
-    map: &'a [u32],
-    x_out: &mut [f64],
-    s_out: &mut [f64],
-    z_out: &mut [f64],
-    scalars_out: &mut [f64],
-) -> u32 {
-    match family {
-        JOIN => join_on_route::join(
-            item(given, 0),
-            item(given, 1),
-            item(given, 2),
-            cones,
-            item(given, 3),
-            pattern,
-            x,
-            s,
-            z,
-            value_item(scalars, 0),
-            value_item(scalars, 1),
-            map,
-            x_out,
-            s_out,
-            z_out,
-            scalars_out,
-        ),
-        _ => change_route::change_route(
-            item(given, 1),
-            item(given, 2),
-            cones,
-            item(given, 3),
-            pattern,
-            x,
-            s,
-            z,
-            value_item(scalars, 0),
-            value_item(scalars, 1),
-            x_out,
-            s_out,
-            z_out,
-            scalars_out,
-        ),
-    }
+fn join(case: Case) -> Option<u32> {
+    let given = case.words_at(0);
+    let scalars = case.values_at(19);
+    let mut solution = Solution::<4096>::filled(0.0);
+    let SolutionOutputs {
+        x,
+        s,
+        z,
+        scalars: both,
+    } = solution.outputs(case);
+    let r = join_on_route::join(
+        item(given, 0),
+        item(given, 1),
+        item(given, 2),
+        case.words_at(2),
+        item(given, 3),
+        case.words_at(3),
+        case.values_at(16),
+        case.values_at(17),
+        case.values_at(18),
+        item(scalars, 0),
+        item(scalars, 1),
+        case.words_at(4),
+        x,
+        s,
+        z,
+        both,
+    );
+    solution.hold(case).then_some(r)
 }
 
-fn on_solution<'a>(family: u8, words: &'a [u32], values: &'a [f64]) -> u32 {
-    let mut x = [0f64; 4096];
-    let mut s = [0f64; 4096];
-    let mut z = [0f64; 4096];
-    let mut both = [0f64; 4096];
-    let mut r = call_on_solution(
-        family,
-        words_at(words, 0),
-        words_at(words, 2),
-        words_at(words, 3),
-        values_at(words, values, 16),
-        values_at(words, values, 17),
-        values_at(words, values, 18),
-        values_at(words, values, 19),
-        words_at(words, 4),
-        values_room(&mut x, words, values, 20),
-        values_room(&mut s, words, values, 21),
-        values_room(&mut z, words, values, 22),
-        values_room(&mut both, words, values, 23),
+// A case is that of a joining, whose route and map are not used.
+fn change_route(case: Case) -> Option<u32> {
+    let given = case.words_at(0);
+    let scalars = case.values_at(19);
+    let mut solution = Solution::<4096>::filled(0.0);
+    let SolutionOutputs {
+        x,
+        s,
+        z,
+        scalars: both,
+    } = solution.outputs(case);
+    let r = change_route::change_route(
+        item(given, 1),
+        item(given, 2),
+        case.words_at(2),
+        item(given, 3),
+        case.words_at(3),
+        case.values_at(16),
+        case.values_at(17),
+        case.values_at(18),
+        item(scalars, 0),
+        item(scalars, 1),
+        x,
+        s,
+        z,
+        both,
     );
-    r = values_hold(r, words, values, 20, x);
-    r = values_hold(r, words, values, 21, s);
-    r = values_hold(r, words, values, 22, z);
-    values_hold(r, words, values, 23, both)
+    solution.hold(case).then_some(r)
 }
 
 // ---- pooling
 
-const POOL: u8 = 11;
-
-// Calls `pool`. The second problem and the outputs are in a case of their own, with the list numbers of a cut; the pooled pattern
+// The second problem and the outputs are in a case of their own, with the list numbers of a cut; the pooled pattern
 // words have the number of the map.
-fn pool<'a>(words: &'a [u32], values: &'a [f64], more: &'a [u32], more_values: &'a [f64]) -> u32 {
-    let mut p_starts_out = [0u32; 4096];
-    let mut p_rows_out = [0u32; 4096];
-    let mut p_values_out = [0f64; 4096];
-    let mut q_out = [0f64; 4096];
-    let mut a_starts_out = [0u32; 4096];
-    let mut a_rows_out = [0u32; 4096];
-    let mut a_values_out = [0f64; 4096];
-    let mut b_out = [0f64; 4096];
-    let mut cones_out = [0u32; 4096];
-    let mut alphas_out = [0f64; 4096];
-    let mut pattern_out = [0u32; 4096];
-    let given = words_at(words, 0);
+fn pool(case: Case, second: Case) -> Option<u32> {
+    let given = case.words_at(0);
+    let p = Problem::of(case);
+    let p2 = Problem::of(second);
+    let mut tables = Tables::<4096>::filled(0, 0.0);
+    let Outputs {
+        p_starts,
+        p_rows,
+        p_values,
+        q,
+        a_starts,
+        a_rows,
+        a_values,
+        b,
+        cones,
+        alphas,
+        last,
+    } = tables.outputs(second);
     let r = pool::pool(
         item(given, 0),
         item(given, 1),
-        words_at(words, 2),
-        words_at(words, 3),
-        values_at(words, values, 16),
-        values_at(words, values, 17),
-        words_at(words, 4),
-        words_at(words, 5),
-        values_at(words, values, 18),
-        values_at(words, values, 19),
-        words_at(words, 6),
-        values_at(words, values, 20),
+        p.p_starts,
+        p.p_rows,
+        p.p_values,
+        p.q,
+        p.a_starts,
+        p.a_rows,
+        p.a_values,
+        p.b,
+        p.cones,
+        p.alphas,
         item(given, 2),
-        words_at(words, 7),
+        p.pattern,
         item(given, 3),
         item(given, 4),
-        words_at(more, 2),
-        words_at(more, 3),
-        values_at(more, more_values, 16),
-        values_at(more, more_values, 17),
-        words_at(more, 4),
-        words_at(more, 5),
-        values_at(more, more_values, 18),
-        values_at(more, more_values, 19),
-        words_at(more, 6),
-        values_at(more, more_values, 20),
+        p2.p_starts,
+        p2.p_rows,
+        p2.p_values,
+        p2.q,
+        p2.a_starts,
+        p2.a_rows,
+        p2.a_values,
+        p2.b,
+        p2.cones,
+        p2.alphas,
         item(given, 5),
-        words_at(more, 7),
-        words_room(&mut p_starts_out, more, 8),
-        words_room(&mut p_rows_out, more, 9),
-        values_room(&mut p_values_out, more, more_values, 21),
-        values_room(&mut q_out, more, more_values, 22),
-        words_room(&mut a_starts_out, more, 10),
-        words_room(&mut a_rows_out, more, 11),
-        values_room(&mut a_values_out, more, more_values, 23),
-        values_room(&mut b_out, more, more_values, 24),
-        words_room(&mut cones_out, more, 12),
-        values_room(&mut alphas_out, more, more_values, 25),
-        words_room(&mut pattern_out, more, 13),
+        p2.pattern,
+        p_starts,
+        p_rows,
+        p_values,
+        q,
+        a_starts,
+        a_rows,
+        a_values,
+        b,
+        cones,
+        alphas,
+        last,
     );
-    cut_answer(
-        r,
-        more,
-        more_values,
-        p_starts_out,
-        p_rows_out,
-        p_values_out,
-        q_out,
-        a_starts_out,
-        a_rows_out,
-        a_values_out,
-        b_out,
-        cones_out,
-        alphas_out,
-        pattern_out,
-    )
+    tables.hold(second).then_some(r)
 }
 
-// ---- a case
+// ---- the families
 
-// Returns whether a case's call returns the stored number, the first of list `answer`, and leaves the stored values in its outputs.
-fn agrees<'a>(family: u8, answer: u8, words: &'a [u32], values: &'a [f64]) -> bool {
-    let r = if family <= RENUMBER {
-        on_pattern(family, words)
-    } else if family == JOIN || family == CHANGE_ROUTE {
-        on_solution(family, words, values)
-    } else {
-        on_problem(family, words, values)
-    };
-    r == item(words_at(words, answer), 0)
+#[derive(Clone, Copy)]
+enum Family {
+    PairIndex,
+    PairBack,
+    Inverse,
+    Renumber,
+    CheckProblem,
+    SameLayout,
+    Sizes,
+    Cut,
+    Join,
+    ChangeRoute,
+    CutBetween,
+    CutMany,
+    Pool,
 }
 
-// Takes the next case from what is left of a file, of at most 16,384 elements of each type, and returns whether it agrees.
-fn next_case_agrees(rest: &mut &[u8], family: u8, answer: u8) -> bool {
-    let mut words = [0u32; 16384];
-    let mut values = [0f64; 16384];
-    load_words(rest, &mut words);
-    load_values(rest, &mut words, &mut values);
-    agrees(family, answer, &words, &values)
-}
-
-// Takes the next two cases, which make one case of pooling, and returns whether they agree.
-fn next_two_agree(rest: &mut &[u8], answer: u8) -> bool {
-    let mut words = [0u32; 16384];
-    let mut values = [0f64; 16384];
-    let mut more = [0u32; 16384];
-    let mut more_values = [0f64; 16384];
-    load_words(rest, &mut words);
-    load_values(rest, &mut words, &mut values);
-    load_words(rest, &mut more);
-    load_values(rest, &mut more, &mut more_values);
-    let r = pool(&words, &values, &more, &more_values);
-    r == item(words_at(&words, answer), 0)
-}
-
-fn next_agrees(rest: &mut &[u8], family: u8, answer: u8) -> bool {
-    if family == POOL {
-        next_two_agree(rest, answer)
-    } else {
-        next_case_agrees(rest, family, answer)
-    }
-}
-
-// Replays a family's cases up to the first that differs, and prints its line. The stored result is the first number of
-// list `answer`. A missing file counts as one without cases, which the line shows.
-fn replay(rt: &(impl Files + Alloc + Print), name: &str, family: u8, answer: u8) -> io::Result<()> {
-    let text = text_of(rt, name)?;
-    let mut rest = text.as_slice();
-    let cases = word(&mut rest);
-    let mut k = 0;
-    while k < cases {
-        if !next_agrees(&mut rest, family, answer) {
-            break;
+impl Family {
+    // Returns the name of the call, which is also that of its file.
+    fn name(self) -> &'static str {
+        match self {
+            Family::PairIndex => "pair_index",
+            Family::PairBack => "pair_back",
+            Family::Inverse => "inverse",
+            Family::Renumber => "renumber",
+            Family::CheckProblem => "check_problem",
+            Family::SameLayout => "same_layout",
+            Family::Sizes => "sizes",
+            Family::Cut => "cut",
+            Family::Join => "join",
+            Family::ChangeRoute => "change_route",
+            Family::CutBetween => "cut_between",
+            Family::CutMany => "cut_many",
+            Family::Pool => "pool",
         }
-        k += 1;
     }
-    report(rt, name.as_bytes(), cases, k)
+
+    // Makes the call of a case. The second case of a pooling follows in the file.
+    fn answer(self, case: Case, reader: &mut Reader) -> Option<u32> {
+        match self {
+            Family::PairIndex => pair_index(case),
+            Family::PairBack => pair_back(case),
+            Family::Inverse => inverse(case),
+            Family::Renumber => renumber(case),
+            Family::CheckProblem => check_problem(case),
+            Family::SameLayout => same_layout(case),
+            Family::Sizes => sizes(case),
+            Family::Cut => cut(case),
+            Family::Join => join(case),
+            Family::ChangeRoute => change_route(case),
+            Family::CutBetween => cut_between(case),
+            Family::CutMany => cut_many(case),
+            Family::Pool => pool_with_next(case, reader),
+        }
+    }
+
+    // Returns the number that the call of a case must return.
+    fn stored_answer(self, case: Case) -> u32 {
+        let list = match self {
+            Family::Inverse | Family::Renumber => 0,
+            _ => 1,
+        };
+        item(case.words_at(list), 0)
+    }
 }
 
-fn numbers_and_patterns(rt: &(impl Files + Alloc + Print)) -> io::Result<()> {
-    replay(rt, "pair_index", PAIR_INDEX, 1)?;
-    replay(rt, "pair_back", PAIR_BACK, 1)?;
-    replay(rt, "inverse", INVERSE, 0)?;
-    replay(rt, "renumber", RENUMBER, 0)
+fn pool_with_next(case: Case, reader: &mut Reader) -> Option<u32> {
+    let mut words = [0u32; 16384];
+    let mut values = [0f64; 16384];
+    reader.case(&mut words, &mut values);
+    let second = Case {
+        words: &words,
+        values: &values,
+    };
+    pool(case, second)
+}
+
+// Takes the next case from a file, of at most 16,384 elements of each type, and returns whether it agrees.
+fn next_agrees(reader: &mut Reader, family: Family) -> bool {
+    let mut words = [0u32; 16384];
+    let mut values = [0f64; 16384];
+    reader.case(&mut words, &mut values);
+    let case = Case {
+        words: &words,
+        values: &values,
+    };
+    family.answer(case, reader).unwrap_or(DIFFERS) == family.stored_answer(case)
+}
+
+// Replays a family's cases up to the first that differs, and prints its line. A missing file counts as one without cases, which the
+// line shows.
+fn replay(rt: &(impl Files + Alloc + Print), family: Family) -> io::Result<()> {
+    let text = text_of(rt, family.name())?;
+    let mut reader = Reader { rest: &text };
+    let cases = reader.word();
+    for k in 0..cases {
+        if !next_agrees(&mut reader, family) {
+            return report(rt, family.name().as_bytes(), cases, k);
+        }
+    }
+    report(rt, family.name().as_bytes(), cases, cases)
 }
 
 fn main(rt: HostRuntime) -> io::Result<()> {
-    numbers_and_patterns(&rt)?;
-    replay(&rt, "check_problem", CHECK_PROBLEM, 1)?;
-    replay(&rt, "same_layout", SAME_LAYOUT, 1)?;
-    replay(&rt, "sizes", SIZES, 1)?;
-    replay(&rt, "cut", CUT, 1)?;
-    replay(&rt, "join", JOIN, 1)?;
-    replay(&rt, "change_route", CHANGE_ROUTE, 1)?;
-    replay(&rt, "cut_between", CUT_BETWEEN, 1)?;
-    replay(&rt, "cut_many", CUT_MANY, 1)?;
-    replay(&rt, "pool", POOL, 1)
+    let families = [
+        Family::PairIndex,
+        Family::PairBack,
+        Family::Inverse,
+        Family::Renumber,
+        Family::CheckProblem,
+        Family::SameLayout,
+        Family::Sizes,
+        Family::Cut,
+        Family::Join,
+        Family::ChangeRoute,
+        Family::CutBetween,
+        Family::CutMany,
+        Family::Pool,
+    ];
+    for family in families {
+        replay(&rt, family)?;
+    }
+    Ok(())
 }

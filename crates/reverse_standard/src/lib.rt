@@ -39,10 +39,8 @@ pub fn sum_rows(out: &mut [f64], values: &[f64])
     requires { length values.now ≡ length out.old }
     ensures { out.new ≡ map (add binary64 zero64) values.now }
 {
-    let mut i = 0;
-    while i < values.len() {
-        out[i] = 0.0 + values[i];
-        i += 1;
+    for (i, &v) in values.iter().enumerate() {
+        out[i] = 0.0 + v;
     }
 }
 
@@ -50,10 +48,7 @@ pub fn sum_rows(out: &mut [f64], values: &[f64])
 pub fn z_value(standard: bool, old: f64, new: f64) -> f64
     ensures { result ≡ z_value standard old new }
 {
-    if standard {
-        return old + new;
-    }
-    new
+    if standard { old + new } else { new }
 }
 
 // Returns where the values of the route's next block start: `counted` on the standard route, the first row in entry `entry` of the cone map on the
@@ -63,9 +58,10 @@ pub fn block_start(standard: bool, counted: usize, map: &[u32], entry: usize) ->
     ensures { result ≡ start_of standard counted map.now entry }
 {
     if standard {
-        return counted;
+        counted
+    } else {
+        map[entry * ENTRY_WORDS + FIRST_ROW] as usize
     }
-    map[entry * ENTRY_WORDS + FIRST_ROW] as usize
 }
 
 // Divides `v` by `count`, which must be above 0: a division by zero would raise a floating-point flag that a caller may trap. Returns the quotient.
@@ -80,10 +76,7 @@ fn quotient(v: f64, count: u32) -> f64
 fn at_least_one(count: u32) -> u32
     ensures { result ≡ cond (ltb 1 count) count 1 }
 {
-    if 1 < count {
-        return count;
-    }
-    1
+    if 1 < count { count } else { 1 }
 }
 
 // Averages the sum `v` of `count` columns of H in a row of z. It divides by 1 where `count` is below 2, which gives `v` itself, so that no branch
@@ -101,10 +94,8 @@ pub fn take_averages(z: &mut [f64], counts: &mut [u32])
     ensures z_after { z.new ≡ map (averaged_by counts.old z.old) (below (length z.old)) }
     ensures clears { Clears (length z.old) counts.old counts.new }
 {
-    let mut i = 0;
-    while i < z.len() {
+    for i in 0..z.len() {
         z[i] = row_average(z[i], counts[i]);
         counts[i] = 0;
-        i += 1;
     }
 }

@@ -4,7 +4,7 @@ use native.Mathlib.Omega.{arith}
 use mathlib.Core.Path.{◌≡◌, refl, ap, sym, subst, ◌∙◌}
 use mathlib.Core.Bool.{Bool, true, false}
 use mathlib.Core.List.{List, [], ◌∷◌, ◌++◌, map, reverse, reverse-cons, map-append}
-use lib.ListN.{length, get_or, take, drop}
+use lib.ListN.{length, get_or, take, drop, replicate, length-replicate}
 use lib.Seq.{get_or-take, length-take-le}
 use lib.Dec.{T}
 use Rattle.layout.specs.General.Lists.{below, join}
@@ -19,8 +19,7 @@ use Rattle.layout.proofs.Patterns.Reading.{Reads, reads_any, reads_then}
 use Rattle.supernode_tree.specs.Reads.{is_whole, value_or, Whole, cliques_from, pattern_at, pattern_read, PatternInside, head_of, clique_here}
 use Rattle.supernode_tree.specs.Offsets.{OffsetsOf}
 use Rattle.supernode_tree.specs.declared.Pattern.{Pattern as PatternHead}
-use Rattle.supernode_tree.specs.declared.PatternRead.{PatternRead}
-use Rattle.supernode_tree.specs.declared.PatternRead.TheVariants.{Pattern as Found}
+use Rattle.std.specs.Prelude.{Option, Some}
 use Rattle.supernode_tree.proofs.Words.{head-found}
 use Rattle.supernode_tree.proofs.Cliques.{no_cliques, pattern_whole}
 use Rattle.rows_blocks.specs.Vertices.{sorted_of}
@@ -103,8 +102,8 @@ many-count one (suc k) ws =
 no_tree : (p : Pattern) → RightPattern p → p ≡ no_pattern → ⊥
 no_tree p ok e = subst (λ (q : Pattern). T (tree_right q)) e ok.tree
 
-module _ (ws : List ℕ) (at : ℕ) (r : PatternRead) (ok : RightPattern (pattern_at ws at)) (e : pattern_read ws r ≡ read_head (drop at ws)) where
-  module _ (q : PatternHead) (f : r ≡ Found q) where
+module _ (ws : List ℕ) (at : ℕ) (r : Option PatternHead) (ok : RightPattern (pattern_at ws at)) (e : pattern_read ws r ≡ read_head (drop at ws)) where
+  module _ (q : PatternHead) (f : r ≡ Some q) where
     abbrev k : ℕ
     k = q.clique_count
 
@@ -138,7 +137,7 @@ module _ (ws : List ℕ) (at : ℕ) (r : PatternRead) (ok : RightPattern (patter
     count-few few = omega (arith, cliques-count, cliques-few (pattern_at ws at) ok)
 
     -- the words between the head and the cliques are the ordering
-    pub ordering-part : PatternInside (length ws) at (Found q) → take (q.cliques - q.ordering) (drop q.ordering ws) ≡ (pattern_at ws at).ordering
+    pub ordering-part : PatternInside (length ws) at (Some q) → take (q.cliques - q.ordering) (drop q.ordering ws) ≡ (pattern_at ws at).ordering
     ordering-part i =
         let n : q.cliques - q.ordering ≡ q.vertex_count = omega arith in
         ap (λ (m : ℕ). take m (drop q.ordering ws)) n ∙ sym (ap (λ (p : Pattern). p.ordering) pattern_here)
@@ -146,3 +145,22 @@ module _ (ws : List ℕ) (at : ℕ) (r : PatternRead) (ok : RightPattern (patter
     pub stand_here : (os : List ℕ) → OffsetsOf ws q.cliques k os → StandAt ws (pattern_at ws at).cliques os
     stand_here os st = subst (λ (p : Pattern). StandAt ws p.cliques os) (sym pattern_here)
         (λ c l. let e = st c (omega (arith, count_here)) in (ap is_whole e, ap (value_or no_clique) e))
+
+    -- a table of 256 offsets has one for each clique
+    pub offsets-room : (pattern_at ws at).vertex_count ≤ 256 → (os : List ℕ) → length os ≡ length (replicate {A = ℕ} 256 0) → k ≤ length os
+    offsets-room few os m = omega (arith, count-few few, length-replicate {A = ℕ} 256 0)
+
+    module _ (few : (pattern_at ws at).vertex_count ≤ 256) (os : List ℕ) (m : length os ≡ length (replicate {A = ℕ} 256 0)) (st : OffsetsOf ws q.cliques k os) where
+      pub part-many : length (take k os) ≡ clique_count (pattern_at ws at)
+      part-many = length-take-le k os (offsets-room few os m) ∙ sym cliques-count
+
+      pub part-stand : StandAt ws (pattern_at ws at).cliques (take k os)
+      part-stand = stand_taken ws (pattern_at ws at).cliques os k cliques-count (stand_here os st)
+
+      module _ (inside : PatternInside (length ws) at (Some q)) where
+        pub part-sortable : SortableCliques ws (take (q.cliques - q.ordering) (drop q.ordering ws)) (take k os)
+        part-sortable = rw (ordering-part inside) (all-stand (pattern_at ws at) ok ws os k cliques-count (offsets-room few os m) (stand_here os st) few)
+
+        pub part-rows : (base : ℕ)
+            → join (rows_here base ws (take (q.cliques - q.ordering) (drop q.ordering ws))) (take k os) ≡ standard_pattern_rows (pattern_at ws at) base
+        part-rows base = rw (ordering-part inside) (rows-up (pattern_at ws at) ok ws os k cliques-count (offsets-room few os m) (stand_here os st) base)

@@ -8,7 +8,7 @@ ghost use Rattle.layout.specs.General.Triangle.{triangle};
 ghost use Rattle.layout.specs.Problems.Patterns.{read_clique};
 ghost use Rattle.layout.specs.Rows.Blocks.{pattern_rows, block_rows};
 ghost use Rattle.layout.specs.Checks.{RightPattern};
-ghost use Rattle.supernode_tree.specs.Reads.{is_whole, pattern_at, clique_here};
+ghost use Rattle.supernode_tree.specs.Reads.{is_whole, pattern_at};
 ghost use Rattle.rows_blocks.specs.Cliques.{SortableClique};
 ghost use Rattle.rows_codes.specs.Codes.{cut_code};
 ghost use Rattle.rows_overlaps.specs.Tables.{AllFound, size_here, FirstRows, Tied, tied_here, codes_here, CliquesTied, Coded};
@@ -28,8 +28,7 @@ fn block_rows(words: &[u32], at: usize) -> u32
     ensures { result ≡ size_here words.now at }
 {
     let q = Clique::here(words, at);
-    let k = (q.snode_count + q.separator_count) as u32;
-    triangular_number(k)
+    triangular_number(q.get_nblk() as u32)
 }
 
 // Writes to `out[c]` the first augmented row of clique c's block. Cliques are placed from last to first, from row `first` on.
@@ -39,9 +38,7 @@ fn first_rows(words: &[u32], offsets: &[usize], first: u32, out: &mut [u32])
     ensures { FirstRows words.now offsets.now first out.new }
 {
     let mut row = first;
-    let mut c = offsets.len();
-    while 0 < c {
-        c -= 1;
+    for c in (0..offsets.len()).rev() {
         out[c] = row;
         row += block_rows(words, offsets[c]);
     }
@@ -74,15 +71,6 @@ fn tied_rows(
     code_block(out, &vertices[..k], &places, base, start)
 }
 
-// Returns the parent number of the clique at offset `at`.
-fn clique_parent(words: &[u32], at: usize) -> usize
-    requires { is_whole (read_clique (drop at words.now)) ≡ true }
-    ensures { result ≡ (clique_here words.now at).parent }
-{
-    let q = Clique::here(words, at);
-    q.parent as usize
-}
-
 // Writes the codes of clique `c`; the last clique has no parent and owns all its entries. `starts` holds the first row of each block.
 // Returns the number of codes.
 fn code_rows(
@@ -104,7 +92,7 @@ fn code_rows(
     if c + 1 == offsets.len() {
         return clique_rows(words, ordering, at, base, out);
     }
-    let parent = clique_parent(words, at);
+    let parent = Clique::here(words, at).parent as usize;
     tied_rows(
         words,
         ordering,
@@ -132,9 +120,7 @@ fn codes_down(
     ensures out_after { out.new ≡ written (join (codes_here base words.now ordering.now offsets.now starts.now) (reverse (below (length offsets.now)))) out.old }
 {
     let mut t = 0;
-    let mut c = offsets.len();
-    while 0 < c {
-        c -= 1;
+    for c in (0..offsets.len()).rev() {
         t += code_rows(words, ordering, offsets, starts, c, base, &mut out[t..]);
     }
     t
@@ -178,8 +164,7 @@ pub fn compact_pattern_rows(
     let p = Pattern::here(words, at);
     let mut offsets = [0usize; scratch::VERTICES];
     clique_offsets(words, p.cliques, p.clique_count, &mut offsets);
-    let a = p.ordering;
-    let e = p.cliques;
-    let k = p.clique_count as usize;
-    block_codes(words, &words[a..e], &offsets[..k], base, first, out)
+    let ordering = &words[p.ordering..p.cliques];
+    let offsets = &offsets[..p.clique_count as usize];
+    block_codes(words, ordering, offsets, base, first, out)
 }

@@ -21,11 +21,8 @@ pub fn note_places(vertices: &[u32], out: &mut [u32])
     requires out_value { out.old ≡ replicate (length out.old) 0 }
     ensures { Places vertices.now out.new }
 {
-    let mut i = 0;
-    while i < vertices.len() {
-        let v = vertices[i] as usize;
-        out[v] = i as u32 + 1;
-        i += 1;
+    for (i, &v) in vertices.iter().enumerate() {
+        out[v as usize] = i as u32 + 1;
     }
 }
 
@@ -36,10 +33,7 @@ fn tied_row(own: u32, tied: u32, place: u32) -> u32
     requires { tied + place ≤ 4294967295 }
     ensures { result ≡ cond (eqb place 0) own (tied + (place - 1)) }
 {
-    if place == 0 {
-        return own;
-    }
-    tied + (place - 1)
+    if place == 0 { own } else { tied + (place - 1) }
 }
 
 // Writes the codes of the block's column `j` to `out`: counted from `tied` for each vertex that has a place, from `row` for every other vertex.
@@ -48,11 +42,8 @@ fn tied_entries(out: &mut [u32], vertices: &[u32], places: &[u32], j: usize, row
     requires j_bound { (row + get_or vertices.now j 0 ≤ 65536) × (tied ≤ 393216) × Climbing places.now }
     ensures { out.new ≡ written (map (tied_entry places.now row tied) (column_pairs vertices.now j)) out.old }
 {
-    let mut i = 0;
-    while i <= j {
-        let v = vertices[i];
+    for (i, &v) in vertices[..=j].iter().enumerate() {
         out[i] = tied_row(row + v, tied, places[v as usize]);
-        i += 1;
     }
 }
 
@@ -83,11 +74,9 @@ pub fn code_block(out: &mut [u32], vertices: &[u32], places: &[u32], base: u32, 
     ensures out_after { out.new ≡ written (map (place_code places.now base start) (pairs vertices.now)) out.old }
 {
     let mut t = 0;
-    let mut j = 0;
-    while j < vertices.len() {
+    for j in 0..vertices.len() {
         tied_column(&mut out[t..], vertices, places, j, base, start);
         t += j + 1;
-        j += 1;
     }
     t
 }

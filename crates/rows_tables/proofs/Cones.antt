@@ -1,20 +1,24 @@
 -- The cones and map entries of a decomposed cone, and their number of words.
-use Prim.Native.Nat.{ℕ, zero, suc, ◌+◌, ◌*◌}
+use Prim.Native.Nat.{ℕ, zero, suc, ◌+◌, ◌*◌, ◌≤◌}
 use native.Mathlib.Omega.{arith}
 use mathlib.Core.Path.{◌≡◌, refl, sym, ap, ◌∙◌}
+use mathlib.Core.Bool.{true}
 use mathlib.Core.List.{List, [], ◌∷◌, ◌++◌, map, map-append, reverse, reverse-cons}
 use lib.ListN.{length, drop, length-append, length-reverse, drop_of_length-le}
 use lib.Seq.{drop-cons}
-use Rattle.layout.specs.General.Lists.{below, join, sum, up_from}
+use lib.Dec.{leb→le}
+use Rattle.layout.specs.General.Lists.{all, below, join, sum, up_from}
 use Rattle.layout.specs.Problems.Patterns.{Pattern, Clique, no_clique, block_size, clique_at, clique_count}
 use Rattle.layout.specs.Rows.Blocks.{cut}
 use Rattle.layout.specs.Cuts.Compact.{MapEntry, block_of, entry_words, psd_words, block_entry, compact_part, map_part, map_words}
 use Rattle.layout.specs.Cuts.Standard.{standard_part}
 use Rattle.layout.proofs.Lists.Members.{length-below}
 use Rattle.layout.proofs.Lists.Joins.{map-drop}
+use Rattle.layout.proofs.Lists.Tests.{passes}
 use Rattle.layout.proofs.Lists.Starts.{join-append, join-map}
 use Rattle.layout.proofs.Columns.Sizes.{map-part, entries-length}
-use Rattle.supernode_tree.specs.Sizes.{dim_of}
+use Rattle.supernode_tree.specs.Sizes.{block_at_most, dim_of}
+use Rattle.supernode_tree.proofs.Sizes.{all_cons}
 use Rattle.rows_tables.specs.Tables.{entries_down}
 use Rattle.rows_blocks.proofs.Offsets.{reverse-map}
 use Rattle.rows_tables.proofs.Laws.{threes}
@@ -73,3 +77,18 @@ down_words i k c first cs = map_words (entries_down i k c first cs)
 pub down_more : (i k c first : ℕ) (q : Clique) (cs : List Clique)
     → down_words i k c first (q ∷ cs) ≡ down_words i k (suc c) first cs ++ (i ∷ k ∷ c ∷ (first + sum (map dim_of cs)) ∷ dim_of q ∷ [])
 down_more i k c first q cs = join-append entry_words (entries_down i k (suc c) first cs) (block_of i k c (first + sum (map dim_of cs)) (dim_of q) ∷ [])
+
+-- the words of the cliques' cones, from first to last and from last to first
+abbrev pub cones_of : List Clique → List ℕ
+cones_of cs = join psd_words (map block_size cs)
+
+abbrev pub cones_back : List Clique → List ℕ
+cones_back cs = join psd_words (reverse (map block_size cs))
+
+pub back_more : (q : Clique) (cs : List Clique) → cones_back (q ∷ cs) ≡ cones_back cs ++ psd_words (block_size q)
+back_more q cs =
+    ap (join psd_words) (reverse-cons (block_size q) (map block_size cs)) ∙ join-append psd_words (reverse (map block_size cs)) (block_size q ∷ [])
+
+-- the first of cliques with at most 256 vertices each has at most 256
+pub first_small : (q : Clique) (cs ds : List Clique) → ds ≡ q ∷ cs → all (block_at_most 256) ds ≡ true → block_size q ≤ 256
+first_small q cs ds e h = leb→le (block_size q) 256 (passes _ (all_cons (block_at_most 256) q cs ds e h).0)

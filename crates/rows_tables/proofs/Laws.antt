@@ -5,7 +5,7 @@ use native.Mathlib.Omega.{arith}
 use mathlib.Core.Path.{◌≡◌, refl, ap, ap₂, sym, ◌∙◌}
 use mathlib.Core.List.{List, [], ◌∷◌, ◌++◌, append_assoc, append-nil}
 use lib.ListN.{length, get_or, take, drop, set, length-append, length-drop, take-append-drop}
-use lib.Seq.{take-add, take_at, drop_at, drop-drop, length-take-le}
+use lib.Seq.{drop-cons, take-add, take_at, drop_at, drop-drop, length-take-le}
 use Rattle.layout.specs.General.Lists.{join, up_from, written}
 use Rattle.layout.specs.Problems.Cones.{Cone, records}
 use Rattle.layout.specs.Checks.{no_cone}
@@ -125,6 +125,16 @@ word_of ws i zero h l =
 word_of ws i (suc zero) h l = sym (ap (λ (c : Cone). c.first) (record_at_lem ws i no_cone h))
 word_of ws i (suc (suc zero)) h l = sym (ap (λ (c : Cone). c.second) (record_at_lem ws i no_cone h))
 word_of ws i (suc (suc (suc j))) h l = absurd (omega arith)
+
+pub words_of : (ws : List ℕ) (i : ℕ) → i * 3 + 3 ≤ length ws → take 3 (drop (i * 3) ws) ≡ cone_words (get_or (records ws) i no_cone)
+words_of ws i h =
+    let t : ℕ = i * 3 in
+    let second : suc t ≡ t + 1 = omega arith in
+    let third : suc (suc t) ≡ t + 2 = omega arith in
+    ap (take 3) (drop-cons ws t 0 (omega arith) ∙ ap (λ (l : List ℕ). get_or ws t 0 ∷ l) (drop-cons ws (suc t) 0 (omega arith)
+    ∙ ap (λ (l : List ℕ). get_or ws (suc t) 0 ∷ l) (drop-cons ws (suc (suc t)) 0 (omega arith))))
+    ∙ ap₂ (λ (m n : ℕ). get_or ws t 0 ∷ get_or ws m 0 ∷ get_or ws n 0 ∷ []) second third
+    ∙ ap cone_words (sym (record_at_lem ws i no_cone h))
 
 -- ---- joined lists
 

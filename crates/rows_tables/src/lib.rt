@@ -11,7 +11,7 @@ ghost use Rattle.layout.specs.Checks.{Sound, RightPattern, no_cone};
 ghost use Rattle.layout.specs.Cuts.Compact.{cone_words, map_part, map_words, psd_words};
 ghost use Rattle.supernode_tree.specs.Reads.{pattern_at, Whole, cliques_from};
 ghost use Rattle.supernode_tree.specs.Sizes.{block_at_most, dim_of};
-ghost use Rattle.rows_tables.specs.Tables.{table_of, route_part, whole_codes, cut_codes, entries_down, Few};
+ghost use Rattle.rows_tables.specs.Tables.{table_of, whole_codes, cut_codes, entries_down, Few};
 
 use constants::entry::NO_PATTERN;
 use constants::{entry, record};
@@ -38,12 +38,10 @@ fn count_up(out: &mut [u32], first: u32, count: u32) -> usize
     ensures value { result ≡ count }
     ensures out_after { out.new ≡ written (up_from first count) out.old }
 {
-    let mut i = 0;
-    while i < count {
+    for i in 0..count {
         out[i as usize] = first + i;
-        i += 1;
     }
-    i as usize
+    count as usize
 }
 
 // Writes three words to `out` from index `t` on.
@@ -73,12 +71,8 @@ fn copy_record(cones: &[u32], i: usize, out: &mut [u32]) -> usize
     ensures out_after { out.new ≡ written (cone_words (get_or (records cones.now) i no_cone)) out.old }
 {
     let at = i * record::WORDS;
-    let mut j = 0;
-    while j < record::WORDS {
-        out[j] = cones[at + j];
-        j += 1;
-    }
-    j
+    out[..record::WORDS].copy_from_slice(&cones[at..at + record::WORDS]);
+    record::WORDS
 }
 
 // Writes the part of `table` for the undecomposed cone at `place`, with `first` augmented rows before it. Returns the number of words.
@@ -116,22 +110,18 @@ fn cones_up(words: &[u32], first: usize, count: u32, out: &mut [u32]) -> usize
     ensures out_after { out.new ≡ written (join psd_words (map block_size (cliques_from words.now first count))) out.old }
 {
     let mut at = first;
-    let mut t = 0;
-    let mut left = count;
-    while 0 < left {
+    for i in 0..count as usize {
         let q = Clique::here(words, at);
         put(
             &mut *out,
-            t,
+            i * record::WORDS,
             SupportedCone::PSD_TRIANGLE,
             q.get_nblk() as u32,
             0,
         );
         at = q.next;
-        t += record::WORDS;
-        left -= 1;
     }
-    t
+    count as usize * record::WORDS
 }
 
 // Does the same from last to first: the cliques are read from the first on, and `out` is filled from its end.
@@ -142,13 +132,11 @@ fn cones_down(words: &[u32], first: usize, count: u32, out: &mut [u32]) -> usize
     ensures out_after { out.new ≡ written (join psd_words (reverse (map block_size (cliques_from words.now first count)))) out.old }
 {
     let mut at = first;
-    let mut left = count;
-    while 0 < left {
+    for i in (0..count as usize).rev() {
         let q = Clique::here(words, at);
-        left -= 1;
         put(
             &mut *out,
-            left as usize * record::WORDS,
+            i * record::WORDS,
             SupportedCone::PSD_TRIANGLE,
             q.get_nblk() as u32,
             0,
@@ -156,21 +144,6 @@ fn cones_down(words: &[u32], first: usize, count: u32, out: &mut [u32]) -> usize
         at = q.next;
     }
     count as usize * record::WORDS
-}
-
-// Writes a route's cone records for the pattern at offset `at`: cliques from first to last if `standard`, else from last to first. Returns the number
-// of words.
-fn pattern_cones(standard: bool, words: &[u32], at: usize, out: &mut [u32]) -> usize
-    requires right_pattern { RightPattern (pattern_at words.now at) × ((pattern_at words.now at).vertex_count ≤ 256) }
-    requires at_in_bounds { clique_count (pattern_at words.now at) * 3 ≤ length out.old }
-    ensures value { result ≡ clique_count (pattern_at words.now at) * 3 }
-    ensures out_after { out.new ≡ written (route_part standard (cut 0 0 0 (pattern_at words.now at))) out.old }
-{
-    let p = Pattern::here(words, at);
-    if standard {
-        return cones_up(words, p.cliques, p.clique_count, out);
-    }
-    cones_down(words, p.cliques, p.clique_count, out)
 }
 
 // Writes the map entries of the `count` cliques of one pattern, from last to first; their augmented rows end before row `end`. The first clique, whose rows
@@ -192,12 +165,10 @@ fn entries_down(
 {
     let mut at = first;
     let mut row = end;
-    let mut left = count;
-    while 0 < left {
+    for clique in 0..count {
         let q = Clique::here(words, at);
         let rows = scalarmath::triangular_number(q.get_nblk() as u32);
-        let clique = count - left;
-        left -= 1;
+        let left = count - 1 - clique;
         row -= rows;
         put_entry(
             &mut *out,
@@ -259,8 +230,14 @@ fn write_cut(
     match table {
         Table::HRows => rows_blocks::standard_pattern_rows(words, at, place.row, out),
         Table::CutRows => compact_pattern_rows(words, at, place.row, first as u32, out),
-        Table::StandardCones => pattern_cones(true, words, at, out),
-        Table::CompactCones => pattern_cones(false, words, at, out),
+        Table::StandardCones => {
+            let p = Pattern::here(words, at);
+            cones_up(words, p.cliques, p.clique_count, out)
+        }
+        Table::CompactCones => {
+            let p = Pattern::here(words, at);
+            cones_down(words, p.cliques, p.clique_count, out)
+        }
         Table::ConeMap => pattern_entries(
             place.cone as u32,
             place.pattern,
@@ -293,20 +270,19 @@ pub fn write_table(
     let mut t = 0;
     let mut first = 0u64;
     loop {
-        let met = place.next(m, cones, words);
-        match met {
-            Met::Whole(rows, next) => {
+        match place.next(m, cones, words) {
+            Some(Met::Whole(rows, next)) => {
                 t += write_whole(table, place, first, rows, cones, &mut out[t..]);
                 first += rows as u64;
                 place = next;
             }
-            Met::Cut(at, next) => {
+            Some(Met::Cut(at, next)) => {
                 t += write_cut(table, place, first, words, at, &mut out[t..]);
                 let blocks = supernode_tree::get_decomposed_dim_and_overlaps(words, at);
                 first += blocks.dim;
                 place = next;
             }
-            Met::Done => {
+            None => {
                 return t;
             }
         }

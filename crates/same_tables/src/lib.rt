@@ -16,12 +16,10 @@ pub fn same_numbers(xs: &[u32], ys: &[u32]) -> bool
         return false;
     }
     let mut same = true;
-    let mut i = 0;
-    while i < xs.len() {
-        if xs[i] != ys[i] {
+    for (i, &x) in xs.iter().enumerate() {
+        if x != ys[i] {
             same = false;
         }
-        i += 1;
     }
     same
 }
@@ -30,15 +28,10 @@ pub fn same_numbers(xs: &[u32], ys: &[u32]) -> bool
 fn same_double(x: f64, y: f64) -> bool
     ensures { result ≡ same_bits x y }
 {
-    if x != x {
-        return y != y;
+    if x.is_nan() {
+        return y.is_nan();
     }
-    if y != y {
-        return false;
-    }
-    let bits = f64::to_bits(x);
-    let bits2 = f64::to_bits(y);
-    bits == bits2
+    !y.is_nan() && x.to_bits() == y.to_bits()
 }
 
 // Returns whether `xs` and `ys` are the same doubles, bit by bit, in the same order.
@@ -48,12 +41,10 @@ pub fn same_doubles(xs: &[f64], ys: &[f64]) -> bool
     if xs.len() != ys.len() {
         return false;
     }
-    let mut i = 0;
-    while i < xs.len() {
-        if !same_double(xs[i], ys[i]) {
+    for (i, &x) in xs.iter().enumerate() {
+        if !same_double(x, ys[i]) {
             return false;
         }
-        i += 1;
     }
     true
 }
@@ -62,10 +53,7 @@ pub fn same_doubles(xs: &[f64], ys: &[f64]) -> bool
 pub fn same_places(starts: &[u32], rows: &[u32], starts2: &[u32], rows2: &[u32]) -> bool
     ensures { result ≡ (same_numbers starts.now starts2.now && same_numbers rows.now rows2.now) }
 {
-    if !same_numbers(starts, starts2) {
-        return false;
-    }
-    same_numbers(rows, rows2)
+    same_numbers(starts, starts2) && same_numbers(rows, rows2)
 }
 
 // Returns whether two problems have equal n, m, cones and pattern words. The pattern counts need not be compared: equal words that both pass
@@ -82,16 +70,7 @@ pub fn cones_agree(
 ) -> bool
     ensures { result ≡ (eqb n n2 && eqb m m2 && same_numbers cones.now cones2.now && same_numbers words.now words2.now) }
 {
-    if n != n2 {
-        return false;
-    }
-    if m != m2 {
-        return false;
-    }
-    if !same_numbers(cones, cones2) {
-        return false;
-    }
-    same_numbers(words, words2)
+    n == n2 && m == m2 && same_numbers(cones, cones2) && same_numbers(words, words2)
 }
 
 // Returns whether two problems have the same layout: equal n, m, cones, pattern words, exponents, and starts and rows of A and P.
@@ -119,26 +98,17 @@ pub fn layouts_agree(
         let other = compared n2 m2 p_starts2.now p_rows2.now a_starts2.now a_rows2.now cones2.now alphas2.now words2.now in
         result ≡ same_layout p other }
 {
-    if !cones_agree(n, m, cones, words, n2, m2, cones2, words2) {
-        return false;
-    }
-    if !same_doubles(alphas, alphas2) {
-        return false;
-    }
-    if !same_places(a_starts, a_rows, a_starts2, a_rows2) {
-        return false;
-    }
-    same_places(p_starts, p_rows, p_starts2, p_rows2)
+    cones_agree(n, m, cones, words, n2, m2, cones2, words2)
+        && same_doubles(alphas, alphas2)
+        && same_places(a_starts, a_rows, a_starts2, a_rows2)
+        && same_places(p_starts, p_rows, p_starts2, p_rows2)
 }
 
 // Returns 1 for true and 0 for false.
 pub fn word_of(yes: bool) -> u32
     ensures { result ≡ cond yes 1 0 }
 {
-    if yes {
-        return 1;
-    }
-    0
+    yes as u32
 }
 
 // Returns whether checks 1 to 7 read the same of two problems: their layouts are the `same`, and their counts of patterns and values are equal.
@@ -157,20 +127,5 @@ pub fn checked_alike(
 ) -> bool
     ensures { result ≡ (same && eqb count count2 && eqb p_values p_values2 && eqb q q2 && eqb a_values a_values2 && eqb b b2) }
 {
-    if !same {
-        return false;
-    }
-    if count != count2 {
-        return false;
-    }
-    if p_values != p_values2 {
-        return false;
-    }
-    if q != q2 {
-        return false;
-    }
-    if a_values != a_values2 {
-        return false;
-    }
-    b == b2
+    same && count == count2 && p_values == p_values2 && q == q2 && a_values == a_values2 && b == b2
 }

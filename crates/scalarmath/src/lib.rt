@@ -77,7 +77,7 @@ pub fn pair_index(i: u32, j: u32, out: &mut [u32]) -> u32
     if limit::INDEX < j {
         return refusal::BOUND;
     }
-    if out.len() < 1 {
+    if out.is_empty() {
         return refusal::SHORT;
     }
     out[0] = coord_to_upper_triangular_index(i, j);

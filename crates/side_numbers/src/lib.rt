@@ -55,12 +55,10 @@ fn at_most(low: &[f64], high: &[f64]) -> bool
         return false;
     }
     let mut holds = true;
-    let mut i = 0;
-    while i < low.len() {
+    for i in 0..low.len() {
         if !(low[i] <= high[i]) {
             holds = false;
         }
-        i += 1;
     }
     holds
 }

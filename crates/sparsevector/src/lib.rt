@@ -29,10 +29,8 @@ pub fn move_values(out: &mut [f64], codes: &[u32], b: &[f64])
     requires { (length codes.now ≤ length out.old) × RowsInside (length b.now) codes.now }
     ensures { out.new ≡ written (map (code_value b.now) codes.now) out.old }
 {
-    let mut r = 0;
-    while r < codes.len() {
-        out[r] = code_value(codes[r], b);
-        r += 1;
+    for (r, &code) in codes.iter().enumerate() {
+        out[r] = code_value(code, b);
     }
 }
 
@@ -41,13 +39,8 @@ pub fn move_sides(out: &mut [f64], codes: &[u32], m: usize, sides: &[f64], count
     requires { (count * length codes.now ≤ length out.old) × (count * m ≤ length sides.now) × RowsInside m codes.now }
     ensures { out.new ≡ written (moved_sides m codes.now sides.now count) out.old }
 {
-    let mut k = 0;
-    let mut start = 0;
-    let mut at = 0;
-    while k < count {
-        move_values(&mut out[at..], codes, &sides[start..start + m]);
-        start += m;
-        at += codes.len();
-        k += 1;
+    for k in 0..count as usize {
+        let side = &sides[k * m..k * m + m];
+        move_values(&mut out[k * codes.len()..], codes, side);
     }
 }

@@ -17,19 +17,16 @@ fn origins_rise(first: u64, count: u32, words: &[u32]) -> bool
 {
     let mut least = first;
     let mut at = 0;
-    let mut left = count;
-    while 0 < left {
-        let p = Pattern::here(words, at);
-        let origin = p.orig_index as u64;
+    for i in 0..count {
+        let origin = Pattern::here(words, at).orig_index as u64;
         if origin < least {
             return false;
         }
-        least = origin + 1;
-        if left == 1 {
+        if i + 1 == count {
             return true;
         }
+        least = origin + 1;
         at = supernode_tree::pattern_next(words, at);
-        left -= 1;
     }
     true
 }
@@ -41,12 +38,8 @@ fn pattern_right(cones: &[u32], words: &[u32], at: usize) -> bool
     ensures { result ≡ pattern_right cones.now (pattern_at words.now at) }
 {
     let p = Pattern::here(words, at);
-    if !supportedcone::is_psd_of(cones, p.orig_index as usize, p.vertex_count) {
-        return false;
-    }
-    let a = p.ordering;
-    let e = p.cliques;
-    utils::is_short_permutation(&words[a..e])
+    supportedcone::is_psd_of(cones, p.orig_index as usize, p.vertex_count)
+        && utils::is_short_permutation(&words[p.ordering..p.cliques])
 }
 
 // Returns whether each pattern names a PSD cone of its dimension and its ordering is a permutation. The last pattern's end is not looked for.
@@ -55,16 +48,14 @@ fn patterns_right(cones: &[u32], count: u32, words: &[u32]) -> bool
     ensures { result ≡ all (pattern_right cones.now) (patterns count words.now) }
 {
     let mut at = 0;
-    let mut left = count;
-    while 0 < left {
+    for i in 0..count {
         if !pattern_right(cones, words, at) {
             return false;
         }
-        if left == 1 {
+        if i + 1 == count {
             return true;
         }
         at = supernode_tree::pattern_next(words, at);
-        left -= 1;
     }
     true
 }
@@ -73,11 +64,7 @@ fn patterns_right(cones: &[u32], count: u32, words: &[u32]) -> bool
 pub fn check_patterns(cones: &[u32], least: u64, count: u32, words: &[u32]) -> bool
     ensures { result ≡ patterns_read_from cones.now least count words.now }
 {
-    if !supernode_tree::patterns_end(count, words) {
-        return false;
-    }
-    if !origins_rise(least, count, words) {
-        return false;
-    }
-    patterns_right(cones, count, words)
+    supernode_tree::patterns_end(count, words)
+        && origins_rise(least, count, words)
+        && patterns_right(cones, count, words)
 }

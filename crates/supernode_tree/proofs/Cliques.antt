@@ -11,24 +11,23 @@ use Rattle.layout.specs.Checks.{tree_right}
 use lib.Dec.{T}
 use Rattle.supernode_tree.specs.Reads.{is_whole, Whole, rest, ended, cliques_from, value_or, clique_of, clique_read, CliqueInside, pattern_at}
 use Rattle.supernode_tree.specs.declared.Clique.{Clique as CliqueAt}
-use Rattle.supernode_tree.specs.declared.CliqueRead.{CliqueRead}
-use Rattle.supernode_tree.specs.declared.CliqueRead.TheVariants.{Clique as Found}
+use Rattle.std.specs.Prelude.{Option, Some}
 use Rattle.supernode_tree.proofs.Words.{clique-found, part-part, length_part}
 use Rattle.supernode_tree.proofs.Many.{many-whole, many-rest, many-value, first-whole as some-whole}
 use Rattle.layout.proofs.Lists.Tests.{differ, and_cases}
 
-module _ (ws : List ℕ) (at k : ℕ) (r : CliqueRead) (e : clique_read ws r ≡ read_clique (drop at ws)) (more : 0 < k) where
-  pub whole-next : (q : CliqueAt) → r ≡ Found q → is_whole (read_cliques k (drop at ws)) ≡ is_whole (read_cliques (k - 1) (drop q.next ws))
+module _ (ws : List ℕ) (at k : ℕ) (r : Option CliqueAt) (e : clique_read ws r ≡ read_clique (drop at ws)) (more : 0 < k) where
+  pub whole-next : (q : CliqueAt) → r ≡ Some q → is_whole (read_cliques k (drop at ws)) ≡ is_whole (read_cliques (k - 1) (drop q.next ws))
   whole-next q f = many-whole read_clique k (drop at ws) more (clique_of ws q) (drop q.next ws) (clique-found ws at r q e f)
 
-  pub rest-next : (q : CliqueAt) → r ≡ Found q → rest (read_cliques k (drop at ws)) ≡ rest (read_cliques (k - 1) (drop q.next ws))
+  pub rest-next : (q : CliqueAt) → r ≡ Some q → rest (read_cliques k (drop at ws)) ≡ rest (read_cliques (k - 1) (drop q.next ws))
   rest-next q f = many-rest read_clique k (drop at ws) more (clique_of ws q) (drop q.next ws) (clique-found ws at r q e f)
 
-  pub from_next : (q : CliqueAt) → r ≡ Found q → Whole ws at k → cliques_from ws at k ≡ clique_of ws q ∷ cliques_from ws q.next (k - 1)
+  pub from_next : (q : CliqueAt) → r ≡ Some q → Whole ws at k → cliques_from ws at k ≡ clique_of ws q ∷ cliques_from ws q.next (k - 1)
   from_next q f h = many-value read_clique k (drop at ws) more (clique_of ws q) (drop q.next ws) (clique-found ws at r q e f) h
 
   -- a test f of all cliques, where b is the result for the first
-  module _ (q : CliqueAt) (found : r ≡ Found q) (w : Whole ws at k) (f : Clique → Bool) (x b : Bool) (so : x ≡ all f (cliques_from ws at k)) (same : b ≡ f (clique_of ws q)) where
+  module _ (q : CliqueAt) (found : r ≡ Some q) (w : Whole ws at k) (f : Clique → Bool) (x b : Bool) (so : x ≡ all f (cliques_from ws at k)) (same : b ≡ f (clique_of ws q)) where
     cases : (b ≡ false → x ≡ false) × (b ≡ true → x ≡ all f (cliques_from ws q.next (k - 1)))
     cases =
         and_cases b (all f (cliques_from ws q.next (k - 1))) x
@@ -53,7 +52,7 @@ pub starts_before : {a n : ℕ} (b : ℕ) → n ≡ a + b → a ≤ n
 starts_before b e = omega arith
 
 -- the snode, separator and members of a clique that is read, as parts of the words between offsets
-module _ (ws : List ℕ) (at : ℕ) (q : CliqueAt) (in_words_lem : CliqueInside (length ws) at (Found q)) where
+module _ (ws : List ℕ) (at : ℕ) (q : CliqueAt) (in_words_lem : CliqueInside (length ws) at (Some q)) where
   pub snode-part : take (q.separator - q.snode) (drop q.snode ws) ≡ (clique_of ws q).snode
   snode-part = let e : q.separator - q.snode ≡ q.snode_count = omega arith in ap (λ (n : ℕ). take n (drop q.snode ws)) e
 

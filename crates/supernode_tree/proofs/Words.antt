@@ -14,11 +14,8 @@ use Rattle.layout.specs.Problems.Patterns.{Read, read, short, and_then, read_hea
 use Rattle.layout.proofs.Lists.Tests.{differ, lt_or_le}
 use Rattle.supernode_tree.specs.Reads.{head_of, pattern_read, clique_of, clique_read, is_whole}
 use Rattle.supernode_tree.specs.declared.Clique.{Clique as CliqueAt}
-use Rattle.supernode_tree.specs.declared.CliqueRead.{CliqueRead}
-use Rattle.supernode_tree.specs.declared.CliqueRead.TheVariants.{Clique as FoundClique}
+use Rattle.std.specs.Prelude.{Option, Some}
 use Rattle.supernode_tree.specs.declared.Pattern.{Pattern as PatternAt}
-use Rattle.supernode_tree.specs.declared.PatternRead.{PatternRead}
-use Rattle.supernode_tree.specs.declared.PatternRead.TheVariants.{Pattern as FoundPattern}
 
 pub drop-next : (ws : List ℕ) (at next : ℕ) → at + 1 ≡ next → at < length ws → drop at ws ≡ get_or ws at 0 ∷ drop next ws
 drop-next ws at next e h = rw (← e, add-one, drop-cons ws at 0)
@@ -191,11 +188,11 @@ ends_at a ws at = go (drop at ws) (length-drop at ws)
     go (w ∷ l) e = sym (lt-leb (length ws) at (omega arith))
 
 -- the clique that is read, and the words after it
-pub clique-found : (ws : List ℕ) (at : ℕ) (r : CliqueRead) (q : CliqueAt) → clique_read ws r ≡ read_clique (drop at ws) → r ≡ FoundClique q
+pub clique-found : (ws : List ℕ) (at : ℕ) (r : Option CliqueAt) (q : CliqueAt) → clique_read ws r ≡ read_clique (drop at ws) → r ≡ Some q
     → read_clique (drop at ws) ≡ read (clique_of ws q) (drop q.next ws)
 clique-found ws at r q e f = sym e ∙ ap (clique_read ws) f
 
-pub head-found : (ws : List ℕ) (at : ℕ) (r : PatternRead) (p : PatternAt) → pattern_read ws r ≡ read_head (drop at ws) → r ≡ FoundPattern p
+pub head-found : (ws : List ℕ) (at : ℕ) (r : Option PatternAt) (p : PatternAt) → pattern_read ws r ≡ read_head (drop at ws) → r ≡ Some p
     → read_head (drop at ws) ≡ read (head_of ws p) (drop p.cliques ws)
 head-found ws at r p e f = sym e ∙ ap (pattern_read ws) f
 

@@ -1,16 +1,10 @@
 -- The cliques and patterns that offsets into the words represent.
-use Rattle.std.specs.Prelude.{ℕ, ◌+◌, ◌-◌, ◌≤◌, ◌<◌, ◌≡◌, Bool, true, false, List, [], length, take, drop}
+use Rattle.std.specs.Prelude.{ℕ, ◌+◌, ◌-◌, ◌≤◌, ◌<◌, ◌≡◌, Bool, true, false, List, [], length, take, drop, Option, Some, None}
 use Rattle.layout.specs.Problems.Patterns as P
 use Rattle.layout.specs.Problems.Patterns.{Read, read, short, Head}
 use Rattle.supernode_tree.specs.declared.Clique.{Clique}
-use Rattle.supernode_tree.specs.declared.CliqueRead.{CliqueRead}
-use Rattle.supernode_tree.specs.declared.CliqueRead.TheVariants.{Clique as Found, Short}
 use Rattle.supernode_tree.specs.declared.Members.{Members}
 use Rattle.supernode_tree.specs.declared.Pattern.{Pattern}
-use Rattle.supernode_tree.specs.declared.PatternRead.{PatternRead}
-use Rattle.supernode_tree.specs.declared.PatternRead.TheVariants.{Pattern as FoundP, Short as ShortP}
-use Rattle.supernode_tree.specs.declared.End.{End}
-use Rattle.supernode_tree.specs.declared.End.TheVariants.{At, Short as ShortE}
 
 abbrev pub clique_of : List ℕ → Clique → P.Clique
 clique_of ws c = record {
@@ -19,15 +13,15 @@ clique_of ws c = record {
   separator = take c.separator_count (drop c.separator ws);
 }
 
-abbrev pub clique_read : List ℕ → CliqueRead → Read P.Clique
-clique_read ws (Found c) = read (clique_of ws c) (drop c.next ws)
-clique_read ws Short = short
+abbrev pub clique_read : List ℕ → Option Clique → Read P.Clique
+clique_read ws (Some c) = read (clique_of ws c) (drop c.next ws)
+clique_read ws None = short
 
 -- a clique's parts follow each other from offset `at` on, and end within n words
-abbrev pub CliqueInside : ℕ → ℕ → CliqueRead → Type 0
-CliqueInside n at (Found c) =
+abbrev pub CliqueInside : ℕ → ℕ → Option Clique → Type 0
+CliqueInside n at (Some c) =
     (c.snode ≡ at + 3) × (c.separator ≡ c.snode + c.snode_count) × (c.next ≡ c.separator + c.separator_count) × (c.next ≤ n)
-CliqueInside n at Short = Unit {0}
+CliqueInside n at None = Unit {0}
 
 -- ---- a pattern's head: all but its cliques
 
@@ -39,15 +33,15 @@ head_of ws p = record {
   ordering = take p.vertex_count (drop p.ordering ws);
 }
 
-abbrev pub pattern_read : List ℕ → PatternRead → Read Head
-pattern_read ws (FoundP p) = read (head_of ws p) (drop p.cliques ws)
-pattern_read ws ShortP = short
+abbrev pub pattern_read : List ℕ → Option Pattern → Read Head
+pattern_read ws (Some p) = read (head_of ws p) (drop p.cliques ws)
+pattern_read ws None = short
 
 -- a pattern's parts follow each other from offset `at` on, and end within n words; the vertex count fits in a word
-abbrev pub PatternInside : ℕ → ℕ → PatternRead → Type 0
-PatternInside n at (FoundP p) =
+abbrev pub PatternInside : ℕ → ℕ → Option Pattern → Type 0
+PatternInside n at (Some p) =
     (p.ordering ≡ at + 3) × (p.cliques ≡ p.ordering + p.vertex_count) × (p.cliques ≤ n) × (p.vertex_count < 4294967296)
-PatternInside n at ShortP = Unit {0}
+PatternInside n at None = Unit {0}
 
 -- ---- the pattern at an offset
 
@@ -81,9 +75,9 @@ module _ {A : Type 0} where
   ended (read a ws) = read tt ws
   ended short = short
 
-abbrev pub end_read : List ℕ → End → Read (Unit {0})
-end_read ws (At at) = read tt (drop at ws)
-end_read ws ShortE = short
+abbrev pub end_read : List ℕ → Option ℕ → Read (Unit {0})
+end_read ws (Some at) = read tt (drop at ws)
+end_read ws None = short
 
 -- k complete cliques start at the offset
 abbrev pub Whole : List ℕ → ℕ → ℕ → Type 0

@@ -8,8 +8,6 @@ ghost use Rattle.layout.specs.Problems.Patterns.{no_clique, members as clique_me
 ghost use Rattle.layout.specs.Rows.Blocks.{block_rows, overlap_rows};
 ghost use Rattle.layout.specs.Checks.{RightPattern};
 ghost use Rattle.supernode_tree.specs.Reads.{pattern_at, rest, is_whole, Whole, cliques_from, MembersOf, clique_read, CliqueInside, pattern_read, PatternInside, end_read, ended};
-ghost use Rattle.supernode_tree.specs.declared.CliqueRead.TheVariants.{Clique as Found};
-ghost use Rattle.supernode_tree.specs.declared.PatternRead.TheVariants.{Pattern as FoundPattern};
 ghost use Rattle.supernode_tree.specs.Offsets.{OffsetsEvery, OffsetsOf};
 ghost use Rattle.supernode_tree.specs.Sizes.{block_at_most};
 
@@ -49,12 +47,6 @@ pub struct Clique {
     pub next: usize,
 }
 
-#[derive(Clone, Copy)]
-pub enum CliqueRead {
-    Clique(Clique),
-    Short,
-}
-
 impl Clique {
     pub const NO_PARENT: u32 = constants::NONE;
 
@@ -72,22 +64,22 @@ impl Clique {
         )
     }
 
-    // Returns the clique at offset `at`, or `Short` if the words end before the clique does.
-    pub fn read(words: &[u32], at: usize) -> CliqueRead
+    // Returns the clique at offset `at`, or `None` if the words end before the clique does.
+    pub fn read(words: &[u32], at: usize) -> Option<Clique>
         ensures result_value { clique_read words.now result ≡ read_clique (drop at words.now) }
         ensures clique_inside { CliqueInside (length words.now) at result }
     {
         if !Clique::stands(words, at) {
-            return CliqueRead::Short;
+            return None;
         }
-        CliqueRead::Clique(Clique::here(words, at))
+        Some(Clique::here(words, at))
     }
 
     // Returns the clique at offset `at`, which must be complete: its counts are not checked.
     pub fn here(words: &[u32], at: usize) -> Clique
         requires { is_whole (read_clique (drop at words.now)) ≡ true }
-        ensures result_value { clique_read words.now (Found result) ≡ read_clique (drop at words.now) }
-        ensures clique_inside { CliqueInside (length words.now) at (Found result) }
+        ensures result_value { clique_read words.now (Some result) ≡ read_clique (drop at words.now) }
+        ensures clique_inside { CliqueInside (length words.now) at (Some result) }
     {
         let parent = words[at];
         let snode_count = word(words, at + 1);
@@ -95,11 +87,11 @@ impl Clique {
         let snode = at + HEAD_WORDS;
         let separator = snode + snode_count;
         Clique {
-            parent: parent,
-            snode: snode,
-            snode_count: snode_count,
-            separator: separator,
-            separator_count: separator_count,
+            parent,
+            snode,
+            snode_count,
+            separator,
+            separator_count,
             next: separator + separator_count,
         }
     }
@@ -123,12 +115,6 @@ pub struct Pattern {
     pub cliques: usize,
 }
 
-#[derive(Clone, Copy)]
-pub enum PatternRead {
-    Pattern(Pattern),
-    Short,
-}
-
 impl Pattern {
     // Returns whether the words from offset `at` on hold a complete head: a pattern up to the end of its ordering.
     fn stands(words: &[u32], at: usize) -> bool
@@ -140,32 +126,32 @@ impl Pattern {
         has_room(words, at + HEAD_WORDS, word(words, at + 1))
     }
 
-    // Returns the pattern at offset `at` without its cliques, or `Short` if the words end before its ordering does.
-    pub fn read(words: &[u32], at: usize) -> PatternRead
+    // Returns the pattern at offset `at` without its cliques, or `None` if the words end before its ordering does.
+    pub fn read(words: &[u32], at: usize) -> Option<Pattern>
         ensures result_value { pattern_read words.now result ≡ read_head (drop at words.now) }
         ensures pattern_inside { PatternInside (length words.now) at result }
     {
         if !Pattern::stands(words, at) {
-            return PatternRead::Short;
+            return None;
         }
-        PatternRead::Pattern(Pattern::here(words, at))
+        Some(Pattern::here(words, at))
     }
 
     // Returns the same where the head is complete: the vertex count is not checked.
     pub fn here(words: &[u32], at: usize) -> Pattern
         requires { is_whole (read_head (drop at words.now)) ≡ true }
-        ensures result_value { pattern_read words.now (FoundPattern result) ≡ read_head (drop at words.now) }
-        ensures pattern_inside { PatternInside (length words.now) at (FoundPattern result) }
+        ensures result_value { pattern_read words.now (Some result) ≡ read_head (drop at words.now) }
+        ensures pattern_inside { PatternInside (length words.now) at (Some result) }
     {
         let orig_index = words[at];
         let vertex_count = word(words, at + 1);
         let clique_count = words[at + 2];
         let ordering = at + HEAD_WORDS;
         Pattern {
-            orig_index: orig_index,
-            vertex_count: vertex_count,
-            clique_count: clique_count,
-            ordering: ordering,
+            orig_index,
+            vertex_count,
+            clique_count,
+            ordering,
             cliques: ordering + vertex_count,
         }
     }
@@ -173,38 +159,22 @@ impl Pattern {
 
 // ---- walks over words that may end early
 
-// The offset after what was read, or `Short` if the words end early.
-#[derive(Clone, Copy)]
-enum End {
-    At(usize),
-    Short,
-}
-
-// Returns the offset after `count` cliques that start at `first`, or `Short` if the words end early.
-fn cliques_end(words: &[u32], first: usize, count: u32) -> End
+// Returns the offset after `count` cliques that start at `first`, or `None` if the words end early.
+fn cliques_end(words: &[u32], first: usize, count: u32) -> Option<usize>
     ensures { end_read words.now result ≡ ended (read_cliques count (drop first words.now)) }
 {
     let mut at = first;
-    let mut left = count;
-    while 0 < left {
-        if !Clique::stands(words, at) {
-            return End::Short;
-        }
-        let q = Clique::here(words, at);
-        at = q.next;
-        left -= 1;
+    for _ in 0..count {
+        at = Clique::read(words, at)?.next;
     }
-    End::At(at)
+    Some(at)
 }
 
-// Returns the offset after the pattern at offset `at`, or `Short` if the words end early.
-fn pattern_end(words: &[u32], at: usize) -> End
+// Returns the offset after the pattern at offset `at`, or `None` if the words end early.
+fn pattern_end(words: &[u32], at: usize) -> Option<usize>
     ensures { end_read words.now result ≡ ended (read_pattern (drop at words.now)) }
 {
-    if !Pattern::stands(words, at) {
-        return End::Short;
-    }
-    let p = Pattern::here(words, at);
+    let p = Pattern::read(words, at)?;
     cliques_end(words, p.cliques, p.clique_count)
 }
 
@@ -213,13 +183,11 @@ pub fn patterns_end(count: u32, words: &[u32]) -> bool
     ensures { result ≡ ends_right (read_patterns count words.now) }
 {
     let mut at = 0;
-    let mut left = count;
-    while 0 < left {
-        let End::At(next) = pattern_end(words, at) else {
+    for _ in 0..count {
+        let Some(next) = pattern_end(words, at) else {
             return false;
         };
         at = next;
-        left -= 1;
     }
     words.len() <= at
 }
@@ -232,11 +200,8 @@ pub fn cliques_next(words: &[u32], first: usize, count: u32) -> usize
     ensures { rest (read_cliques count (drop first words.now)) ≡ drop result words.now }
 {
     let mut at = first;
-    let mut left = count;
-    while 0 < left {
-        let q = Clique::here(words, at);
-        at = q.next;
-        left -= 1;
+    for _ in 0..count {
+        at = Clique::here(words, at).next;
     }
     at
 }
@@ -334,18 +299,13 @@ fn dim_and_overlaps(words: &[u32], first: usize, count: u32) -> Decomposed
     let mut dim = 0;
     let mut overlaps = 0;
     let mut at = first;
-    let mut left = count;
-    while 0 < left {
+    for _ in 0..count {
         let q = Clique::here(words, at);
         dim += triangular_number(q.get_nblk() as u32) as u64;
         overlaps += triangular_number(q.separator_count as u32) as u64;
         at = q.next;
-        left -= 1;
     }
-    Decomposed {
-        dim: dim,
-        overlaps: overlaps,
-    }
+    Decomposed { dim, overlaps }
 }
 
 // Counts the rows and the overlaps of the blocks of the pattern at offset `at`, which passed the checks.

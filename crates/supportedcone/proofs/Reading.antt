@@ -13,8 +13,7 @@ use Rattle.layout.specs.Problems.Cones.{Cone, Kind, zero_cone, nonnegative, seco
 use Rattle.layout.proofs.Lists.Tests.{lt_or_le, and_right}
 use Rattle.supportedcone.specs.declared.SupportedCone.{SupportedCone}
 use Rattle.supportedcone.specs.declared.SupportedCone.TheVariants.{ZeroConeT, NonnegativeConeT, SecondOrderConeT, ExponentialConeT, PowerConeT, GenPowerConeT, PSDTriangleConeT}
-use Rattle.supportedcone.specs.declared.ReadCone.{ReadCone}
-use Rattle.supportedcone.specs.declared.ReadCone.TheVariants.{Is, Bad}
+use Rattle.std.proofs.Common.{Option, Some, None}
 use Rattle.supportedcone.specs.Cases.{cone_record, record_of, exponent_of, Answer, cone, refused, told, reads_as, reads_with}
 
 -- ---- records that read as no kind
@@ -90,14 +89,14 @@ abbrev record_in : Cone → Answer → Cone
 record_in d (cone c αs) = c
 record_in d (refused n) = d
 
-pub told_bad : (c : Cone) (α : Float) → told Bad ≡ reads_as c α → reads c ≡ false
+pub told_bad : (c : Cone) (α : Float) → told None ≡ reads_as c α → reads c ≡ false
 told_bad c α e = go (reads c) (ap is_refused e)
   where
     go : (b : Bool) → true ≡ is_refused (cond b (cone c (cond (eqb c.kind 4) (α ∷ []) [])) (refused 4)) → b ≡ false
     go true h = h
     go false h = refl
 
-pub told_is : (s : SupportedCone) (c : Cone) (α : Float) → told (Is s) ≡ reads_as c α → (reads c ≡ true) × (record_of s ≡ c)
+pub told_is : (s : SupportedCone) (c : Cone) (α : Float) → told (Some s) ≡ reads_as c α → (reads c ≡ true) × (record_of s ≡ c)
 told_is s c α e = go (reads c) e
   where
     go : (b : Bool) → cone (record_of s) (exponent_of s) ≡ cond b (cone c (cond (eqb c.kind 4) (α ∷ []) [])) (refused 4) → (b ≡ true) × (record_of s ≡ c)
@@ -105,14 +104,14 @@ told_is s c α e = go (reads c) e
     go false h = (ap is_refused h, absurd (subst T (sym (ap is_refused h)) tt))
 
 -- and about the α values not yet used
-pub bad_with : (c : Cone) (αs : List Float) → reads c ≡ true → told Bad ≡ reads_with c αs → length αs < alpha_count c
+pub bad_with : (c : Cone) (αs : List Float) → reads c ≡ true → told None ≡ reads_with c αs → length αs < alpha_count c
 bad_with c αs r e = go (lt_or_le (length αs) (alpha_count c))
   where
     go : (length αs < alpha_count c) ⊎ (alpha_count c ≤ length αs) → length αs < alpha_count c
     go (inl l) = l
     go (inr l) = absurd (subst T (sym r ∙ told_bad c (get_or αs 0 zero64) (e ∙ enough c αs l)) tt)
 
-pub is_with : (s : SupportedCone) (c : Cone) (αs : List Float) → told (Is s) ≡ reads_with c αs → (record_of s ≡ c) × (alpha_count c ≤ length αs)
+pub is_with : (s : SupportedCone) (c : Cone) (αs : List Float) → told (Some s) ≡ reads_with c αs → (record_of s ≡ c) × (alpha_count c ≤ length αs)
 is_with s c αs e = go (lt_or_le (length αs) (alpha_count c))
   where
     go : (length αs < alpha_count c) ⊎ (alpha_count c ≤ length αs) → (record_of s ≡ c) × (alpha_count c ≤ length αs)
@@ -121,27 +120,27 @@ is_with s c αs e = go (lt_or_le (length αs) (alpha_count c))
 
 -- ---- the record and exponent determine the result
 
-case_of : Kind → ℕ → ℕ → List Float → ReadCone
-case_of zero_cone a c αs = Is (ZeroConeT a)
-case_of nonnegative a c αs = Is (NonnegativeConeT a)
-case_of second_order a c αs = Is (SecondOrderConeT a)
-case_of exponential a c αs = Is ExponentialConeT
-case_of power a c αs = Is (PowerConeT (get_or αs 0 zero64))
-case_of gen_power a c αs = Is (GenPowerConeT a c)
-case_of psd_triangle a c αs = Is (PSDTriangleConeT a)
-case_of no_kind a c αs = Bad
+case_of : Kind → ℕ → ℕ → List Float → Option SupportedCone
+case_of zero_cone a c αs = Some (ZeroConeT a)
+case_of nonnegative a c αs = Some (NonnegativeConeT a)
+case_of second_order a c αs = Some (SecondOrderConeT a)
+case_of exponential a c αs = Some ExponentialConeT
+case_of power a c αs = Some (PowerConeT (get_or αs 0 zero64))
+case_of gen_power a c αs = Some (GenPowerConeT a c)
+case_of psd_triangle a c αs = Some (PSDTriangleConeT a)
+case_of no_kind a c αs = None
 
-answer_of : Answer → ReadCone
+answer_of : Answer → Option SupportedCone
 answer_of (cone c αs) = case_of (kind_of c.kind) c.first c.second αs
-answer_of (refused n) = Bad
+answer_of (refused n) = None
 
-answer-told : (r : ReadCone) → answer_of (told r) ≡ r
+answer-told : (r : Option SupportedCone) → answer_of (told r) ≡ r
 unfolding answer_of case_of
-answer-told (Is (ZeroConeT a)) = refl
-answer-told (Is (NonnegativeConeT a)) = refl
-answer-told (Is (SecondOrderConeT a)) = refl
-answer-told (Is ExponentialConeT) = refl
-answer-told (Is (PowerConeT α)) = refl
-answer-told (Is (GenPowerConeT a c)) = refl
-answer-told (Is (PSDTriangleConeT a)) = refl
-answer-told Bad = refl
+answer-told (Some (ZeroConeT a)) = refl
+answer-told (Some (NonnegativeConeT a)) = refl
+answer-told (Some (SecondOrderConeT a)) = refl
+answer-told (Some ExponentialConeT) = refl
+answer-told (Some (PowerConeT α)) = refl
+answer-told (Some (GenPowerConeT a c)) = refl
+answer-told (Some (PSDTriangleConeT a)) = refl
+answer-told None = refl

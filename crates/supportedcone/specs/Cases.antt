@@ -1,12 +1,10 @@
 -- The record and exponent that each case of the cone enum represents, and the refusal number of a bad record, as in document 01.
-use Rattle.std.specs.Prelude.{ℕ, cond, List, [], ◌∷◌, length, get_or, eqb, leb, Float}
+use Rattle.std.specs.Prelude.{ℕ, cond, List, [], ◌∷◌, length, get_or, eqb, leb, Float, Option, Some, None}
 use Rattle.layout.specs.General.Floats.{zero64}
 use Rattle.layout.specs.Problems.Cones.{Cone, records, reads, alpha_count}
 use Rattle.layout.specs.Checks.{no_cone}
 use Rattle.supportedcone.specs.declared.SupportedCone.{SupportedCone}
 use Rattle.supportedcone.specs.declared.SupportedCone.TheVariants.{ZeroConeT, NonnegativeConeT, SecondOrderConeT, ExponentialConeT, PowerConeT, GenPowerConeT, PSDTriangleConeT}
-use Rattle.supportedcone.specs.declared.ReadCone.{ReadCone}
-use Rattle.supportedcone.specs.declared.ReadCone.TheVariants.{Is, Bad}
 
 abbrev pub cone_record : ℕ → ℕ → ℕ → Cone
 cone_record k a c = record { kind = k; first = a; second = c }
@@ -36,9 +34,9 @@ pub data Answer : Type 0 where
   cone : Cone → List Float → Answer
   refused : ℕ → Answer
 
-abbrev pub told : ReadCone → Answer
-told (Is s) = cone (record_of s) (exponent_of s)
-told Bad = refused 4
+abbrev pub told : Option SupportedCone → Answer
+told (Some s) = cone (record_of s) (exponent_of s)
+told None = refused 4
 
 -- the result of reading record c: c itself, with exponent α if it is a power cone, or refusal 4
 abbrev pub reads_as : Cone → Float → Answer

@@ -1,5 +1,5 @@
 // Cones as in clarabel's solver/core/cones/supportedcone.rs: reading records, counting rows and α values, and checks 1 and 4 of the records.
-#![tactic(auto)]
+#![tactic(auto, using(layout::proofs::Patterns::Records::record_count_lem))]
 
 ghost use Rattle.std.specs.Prelude.{◌≡◌, true, cond, length};
 ghost use Rattle.layout.specs.General.Lists.{all};
@@ -24,13 +24,6 @@ pub enum SupportedCone {
     PSDTriangleConeT(u32),
 }
 
-// The result of reading a record: a cone, or `Bad` for a record that reads as none of the seven kinds.
-#[derive(Clone, Copy)]
-pub enum ReadCone {
-    Is(SupportedCone),
-    Bad,
-}
-
 impl SupportedCone {
     // codes of the kinds
     pub const ZERO: u32 = 0;
@@ -48,31 +41,21 @@ impl SupportedCone {
     pub const PSD_TRIANGLE: u32 = 6;
 
     // Reads a record. `alpha` is the exponent of a power cone (kind 4) and is ignored for other kinds.
-    // Returns `Bad` for an unknown kind or an unused size other than 0.
-    pub fn read(kind: u32, first: u32, second: u32, alpha: f64) -> ReadCone
+    // Returns `None` for an unknown kind or an unused size other than 0.
+    pub fn read(kind: u32, first: u32, second: u32, alpha: f64) -> Option<SupportedCone>
         ensures { told result ≡ reads_as (cone_record kind first second) alpha }
     {
-        if kind == SupportedCone::GEN_POWER {
-            return ReadCone::Is(SupportedCone::GenPowerConeT(first, second));
-        }
-        if second != 0 {
-            return ReadCone::Bad;
-        }
-        match kind {
-            SupportedCone::ZERO => ReadCone::Is(SupportedCone::ZeroConeT(first)),
-            SupportedCone::NONNEGATIVE => ReadCone::Is(SupportedCone::NonnegativeConeT(first)),
-            SupportedCone::SECOND_ORDER => ReadCone::Is(SupportedCone::SecondOrderConeT(first)),
-            SupportedCone::PSD_TRIANGLE => ReadCone::Is(SupportedCone::PSDTriangleConeT(first)),
-            _ => {
-                if first != 0 {
-                    return ReadCone::Bad;
-                }
-                match kind {
-                    SupportedCone::EXPONENTIAL => ReadCone::Is(SupportedCone::ExponentialConeT),
-                    SupportedCone::POWER => ReadCone::Is(SupportedCone::PowerConeT(alpha)),
-                    _ => ReadCone::Bad,
-                }
+        match (kind, first, second) {
+            (SupportedCone::ZERO, dim, 0) => Some(SupportedCone::ZeroConeT(dim)),
+            (SupportedCone::NONNEGATIVE, dim, 0) => Some(SupportedCone::NonnegativeConeT(dim)),
+            (SupportedCone::SECOND_ORDER, dim, 0) => Some(SupportedCone::SecondOrderConeT(dim)),
+            (SupportedCone::EXPONENTIAL, 0, 0) => Some(SupportedCone::ExponentialConeT),
+            (SupportedCone::POWER, 0, 0) => Some(SupportedCone::PowerConeT(alpha)),
+            (SupportedCone::GEN_POWER, alphas, dim2) => {
+                Some(SupportedCone::GenPowerConeT(alphas, dim2))
             }
+            (SupportedCone::PSD_TRIANGLE, dim, 0) => Some(SupportedCone::PSDTriangleConeT(dim)),
+            _ => None,
         }
     }
 
@@ -111,47 +94,38 @@ pub fn record_count(cones: &[u32]) -> usize
     cones.len() / record::WORDS
 }
 
-// Reads record `i`, with `alpha` as the exponent of a power cone. Returns `Bad` where there is no record `i`.
+// Reads record `i`, with `alpha` as the exponent of a power cone. Returns `None` where there is no record `i`.
 // A joining has no α table; kinds and row counts do not depend on the exponent, so it may pass any number.
-pub fn cone_at(cones: &[u32], i: usize, alpha: f64) -> ReadCone
+pub fn cone_at(cones: &[u32], i: usize, alpha: f64) -> Option<SupportedCone>
     ensures { told result ≡ reads_as (record_at cones.now i) alpha }
 {
     if record_count(cones) <= i {
-        return ReadCone::Bad;
+        return None;
     }
     let at = i * record::WORDS;
     SupportedCone::read(cones[at], cones[at + 1], cones[at + 2], alpha)
 }
 
 // Reads record `i`, taking its exponent from `alphas`, the part of the α table that earlier records left.
-// Returns `Bad` where `alphas` has fewer values than the cone takes.
-pub fn read_with_alpha(cones: &[u32], i: usize, alphas: &[f64]) -> ReadCone
+// Returns `None` where `alphas` has fewer values than the cone takes.
+pub fn read_with_alpha(cones: &[u32], i: usize, alphas: &[f64]) -> Option<SupportedCone>
     ensures { told result ≡ reads_with (record_at cones.now i) alphas.now }
 {
-    let mut alpha = 0.0;
-    if 0 < alphas.len() {
-        alpha = alphas[0];
-    }
-    let ReadCone::Is(cone) = cone_at(cones, i, alpha) else {
-        return ReadCone::Bad;
-    };
+    let alpha = alphas.first().copied().unwrap_or(0.0);
+    let cone = cone_at(cones, i, alpha)?;
     if alphas.len() < cone.alpha_count() as usize {
-        return ReadCone::Bad;
+        return None;
     }
-    ReadCone::Is(cone)
+    Some(cone)
 }
 
 // Checks that one record's sizes are within check 1's bounds, whatever its kind.
 fn sizes_bounded(kind: u32, first: u32, second: u32) -> bool
     ensures { result ≡ sizes_bounded (cone_record kind first second) }
 {
-    if limit::SIZE < first {
-        return false;
-    }
-    if limit::SIZE < second {
-        return false;
-    }
-    kind != SupportedCone::PSD_TRIANGLE || first <= limit::PSD_SIZE
+    first <= limit::SIZE
+        && second <= limit::SIZE
+        && (kind != SupportedCone::PSD_TRIANGLE || first <= limit::PSD_SIZE)
 }
 
 // Makes check 1 on the cones: at most 1,024 complete records, each with sizes within bounds. A partial record at the end is ignored.
@@ -162,13 +136,11 @@ pub fn cones_bounded(cones: &[u32]) -> bool
     if limit::CONES < count {
         return false;
     }
-    let mut i = 0;
-    while i < count {
+    for i in 0..count {
         let at = i * record::WORDS;
         if !sizes_bounded(cones[at], cones[at + 1], cones[at + 2]) {
             return false;
         }
-        i += 1;
     }
     true
 }
@@ -184,13 +156,11 @@ pub fn check_cones(m: u32, cones: &[u32]) -> u32
         return refusal::CONES;
     }
     let mut rows = 0;
-    let mut i = 0;
-    while i < count {
-        let ReadCone::Is(cone) = cone_at(cones, i, 0.0) else {
+    for i in 0..count {
+        let Some(cone) = cone_at(cones, i, 0.0) else {
             return refusal::CONES;
         };
         rows += cone.nvars();
-        i += 1;
     }
     if rows != m {
         return refusal::CONES;
@@ -205,13 +175,11 @@ pub fn alphas_as_many(cones: &[u32], alphas: &[f64]) -> bool
 {
     let count = record_count(cones);
     let mut next = 0;
-    let mut i = 0;
-    while i < count {
-        let ReadCone::Is(cone) = read_with_alpha(cones, i, &alphas[next..]) else {
+    for i in 0..count {
+        let Some(cone) = read_with_alpha(cones, i, &alphas[next..]) else {
             return false;
         };
         next += cone.alpha_count() as usize;
-        i += 1;
     }
     next == alphas.len()
 }
@@ -223,9 +191,8 @@ pub fn alphas_counted(cones: &[u32], count: usize) -> bool
 {
     let records = record_count(cones);
     let mut next = 0;
-    let mut i = 0;
-    while i < records {
-        let ReadCone::Is(cone) = cone_at(cones, i, 0.0) else {
+    for i in 0..records {
+        let Some(cone) = cone_at(cones, i, 0.0) else {
             return false;
         };
         let taken = cone.alpha_count() as usize;
@@ -233,7 +200,6 @@ pub fn alphas_counted(cones: &[u32], count: usize) -> bool
             return false;
         }
         next += taken;
-        i += 1;
     }
     next == count
 }
@@ -244,7 +210,7 @@ pub fn cone_rows(cones: &[u32], i: usize) -> u32
     requires cones_value_2 { all reads (records cones.now) ≡ true }
     ensures { result ≡ row_count (record_at cones.now i) }
 {
-    let ReadCone::Is(cone) = cone_at(cones, i, 0.0) else {
+    let Some(cone) = cone_at(cones, i, 0.0) else {
         return 0;
     };
     cone.nvars()

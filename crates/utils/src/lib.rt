@@ -15,11 +15,7 @@ use constants::refusal;
 pub fn clear(marks: &mut [bool])
     ensures { marks.new ≡ replicate (length marks.old) false }
 {
-    let mut i = 0;
-    while i < marks.len() {
-        marks[i] = false;
-        i += 1;
-    }
+    marks.fill(false);
 }
 
 // Marks each number of `words` that lies in the window of `marks.len()` numbers from `low` on.
@@ -27,10 +23,8 @@ pub fn clear(marks: &mut [bool])
 pub fn mark(words: &[u32], low: usize, marks: &mut [bool]) -> bool
     ensures { MarksMore low marks.old words.now result marks.new }
 {
-    let mut i = 0;
-    while i < words.len() {
-        let x = words[i] as usize;
-        i += 1;
+    for &word in words {
+        let x = word as usize;
         if x < low {
             continue;
         }
@@ -51,12 +45,10 @@ pub fn all_below(words: &[u32], n: usize) -> bool
     ensures { result ≡ all (λ x. ltb x n) words.now }
 {
     let mut holds = true;
-    let mut i = 0;
-    while i < words.len() {
-        if n <= words[i] as usize {
+    for &word in words {
+        if n <= word as usize {
             holds = false;
         }
-        i += 1;
     }
     holds
 }
@@ -91,12 +83,20 @@ const SOME: usize = 8192;
 
 const MANY: usize = 262144;
 
+// Makes the same check with `N` marks of its own.
+fn permutation_in<const N: usize>(words: &[u32]) -> bool
+    requires { (0 < N) × (N ≤ 262144) }
+    ensures { result ≡ is_permutation words.now }
+{
+    let mut marks = [false; N];
+    permutation_by(words, &mut marks)
+}
+
 // Checks that `words` is a permutation of the numbers below its length, with little stack: windows of 256 numbers.
 pub fn is_short_permutation(words: &[u32]) -> bool
     ensures { result ≡ is_permutation words.now }
 {
-    let mut marks = [false; FEW];
-    permutation_by(words, &mut marks)
+    permutation_in::<FEW>(words)
 }
 
 // Checks that `words` is a permutation of the numbers below its length, in linear time up to 262,144 numbers (the largest window).
@@ -105,14 +105,12 @@ pub fn is_permutation(words: &[u32]) -> bool
     ensures { result ≡ is_permutation words.now }
 {
     if words.len() <= FEW {
-        return is_short_permutation(words);
+        return permutation_in::<FEW>(words);
     }
     if words.len() <= SOME {
-        let mut some = [false; SOME];
-        return permutation_by(words, &mut some);
+        return permutation_in::<SOME>(words);
     }
-    let mut marks = [false; MANY];
-    permutation_by(words, &mut marks)
+    permutation_in::<MANY>(words)
 }
 
 // ---- the inverse
@@ -124,13 +122,11 @@ pub fn scatter(words: &[u32], out: &mut [u32])
     requires words_len_bound { length words.now ≤ 4294967296 }
     ensures { out.new ≡ scattered 0 words.now out.old }
 {
-    let mut k = 0;
-    while k < words.len() {
-        let w = words[k] as usize;
+    for (k, &word) in words.iter().enumerate() {
+        let w = word as usize;
         if out[w] != k as u32 {
             out[w] = k as u32;
         }
-        k += 1;
     }
 }
 
@@ -145,17 +141,12 @@ pub fn invperm(words: &[u32], table: &mut [u32]) -> bool
     ensures value { result ≡ is_permutation words.now }
     ensures table_after { result ≡ true → table.new ≡ scattered 0 words.now table.old }
 {
-    let mut k = 0;
-    while k < words.len() {
-        let w = words[k] as usize;
-        if words.len() <= w {
-            return false;
-        }
-        if table[w] != UNPLACED {
+    for (k, &word) in words.iter().enumerate() {
+        let w = word as usize;
+        if words.len() <= w || table[w] != UNPLACED {
             return false;
         }
         table[w] = k as u32;
-        k += 1;
     }
     true
 }
@@ -166,15 +157,10 @@ pub fn invperm(words: &[u32], table: &mut [u32]) -> bool
 pub fn check_rooms(needs: &[u32], rooms: &[usize]) -> u32
     ensures { result ≡ cond (roomy needs.now rooms.now) 0 11 }
 {
-    let mut i = 0;
-    while i < needs.len() {
-        if rooms.len() <= i {
+    for (i, &need) in needs.iter().enumerate() {
+        if rooms.len() <= i || rooms[i] < need as usize {
             return refusal::SHORT;
         }
-        if rooms[i] < needs[i] as usize {
-            return refusal::SHORT;
-        }
-        i += 1;
     }
     refusal::DONE
 }

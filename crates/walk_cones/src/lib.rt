@@ -24,7 +24,6 @@ pub struct Place {
 pub enum Met {
     Whole(u32, Place),
     Cut(usize, Place),
-    Done,
 }
 
 impl Place {
@@ -43,43 +42,39 @@ impl Place {
         }
     }
 
-    // Returns what is at this place, with the next place; `Done` after the last cone.
-    pub fn next(self, m: u32, cones: &[u32], words: &[u32]) -> Met
+    // Returns what is at this place, with the next place; `None` after the last cone.
+    pub fn next(self, m: u32, cones: &[u32], words: &[u32]) -> Option<Met>
         requires { Reached m cones.now words.now self }
         ensures self_value { ahead cones.now words.now self ≡ meets cones.now words.now self result }
         ensures knows { Knows m cones.now words.now self result }
     {
         let i = self.cone;
         if cones.len() / 3 <= i {
-            return Met::Done;
+            return None;
         }
         let rows = supportedcone::cone_rows(cones, i);
         let row = self.row + rows;
         let at = self.at;
-        if 0 < self.left {
-            if words[at] as usize == i {
-                return Met::Cut(
-                    at,
-                    Place {
-                        cone: i + 1,
-                        row: row,
-                        pattern: self.pattern + 1,
-                        left: self.left - 1,
-                        at: supernode_tree::pattern_next(words, at),
-                    },
-                );
-            }
+        if 0 < self.left && words[at] as usize == i {
+            return Some(Met::Cut(
+                at,
+                Place {
+                    cone: i + 1,
+                    row,
+                    pattern: self.pattern + 1,
+                    left: self.left - 1,
+                    at: supernode_tree::pattern_next(words, at),
+                },
+            ));
         }
-        Met::Whole(
+        Some(Met::Whole(
             rows,
             Place {
                 cone: i + 1,
-                row: row,
-                pattern: self.pattern,
-                left: self.left,
-                at: at,
+                row,
+                ..self
             },
-        )
+        ))
     }
 }
 

@@ -1,12 +1,8 @@
-use Prim.Native.Nat.{◌≤◌, ◌-◌, ◌*◌}
 use mathlib.Core.Path.{◌≡◌}
-use lib.ListN.{length, take, drop}
+use lib.ListN.{take, drop}
 use Rattle.layout.specs.General.Lists.{written}
 use Rattle.augment_standard.specs.Beside.{h_rows}
 use Rattle.augment_standard.proofs.spread_rows.Given as goal
 
 abbrev pub invariant-loop-i : goal.invariant-loop-i
-invariant-loop-i l = (l.i ≤ l.k) × (l.t ≡ 2 * l.i) × (length l.out ≡ length l.initial.out) × (l.out ≡ written (h_rows l.m (take l.i (take l.k (drop l.k l.initial.out)))) l.initial.out)
-
-abbrev pub decreases-loop-i : goal.decreases-loop-i
-decreases-loop-i l = l.k - l.i
+invariant-loop-i l = l.out ≡ written (h_rows l.m (take l.i (take l.k (drop l.k l.initial.out)))) l.initial.out

@@ -1,7 +1,6 @@
-use Prim.Native.Nat.{◌-◌, ◌+◌}
+use Prim.Native.Nat.{◌+◌}
 use native.Mathlib.Omega.{arith}
 use mathlib.Core.Path.{◌≡◌, sym}
-use lib.ListN.{length-set}
 use Rattle.layout.proofs.Lists.Buffers.{set-written}
 use Rattle.augment_standard.specs.Beside.{h_starts}
 use Rattle.augment_standard.proofs.Columns.{length-h_starts, starts_more}
@@ -12,14 +11,9 @@ loop-i-preserved c =
     let a = c.args in
     let i = c.loop-i.i in (
       omega arith,
-      omega arith,
-      simp length-set c.loop-i.invariant.2,
-      rw (c.loop-i.invariant.3, starts_more a.entries i c.loop-i.end c.loop-i.invariant.1)
+      rw (c.loop-i.invariant.1, starts_more a.entries i c.loop-i.end c.loop-i.invariant.0)
           (set-written (h_starts a.entries i) a.out.now (c.loop-i.end + 2) i (sym (length-h_starts a.entries i)) (omega arith)),
     )
 
-pub shape_of-out : goal.shape_of-out
-shape_of-out c = c.loop-i.invariant.2
-
 pub returns : goal.returns
-returns c = let e : c.loop-i.i ≡ c.args.k = omega arith in rw e at c.loop-i.invariant.3
+returns c = let e : c.loop-i.i ≡ c.args.k = omega arith in rw e at c.loop-i.invariant.1

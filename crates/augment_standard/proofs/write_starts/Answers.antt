@@ -9,4 +9,4 @@ use Rattle.augment_standard.proofs.write_starts.Goals as goal
 pub returns : goal.returns
 returns c =
     let a = c.args in
-    written_after a.starts.now (h_starts a.entries a.k) a.out.now (length a.starts.now) refl (omega (arith, length-h_starts a.entries a.k)) c.copy_numbers.ensures c.write_h_starts.ensures
+    written_after a.starts.now (h_starts a.entries a.k) a.out.now (length a.starts.now) refl (omega (arith, length-h_starts a.entries a.k)) c.copy_front.ensures c.write_h_starts.ensures

@@ -12,4 +12,4 @@ pub returns : goal.returns
 unfolding of_bits neg
 returns c =
     let a = c.args in
-    written_after a.values.now (pair_values one64 minus_one64 a.k) a.out.now (length a.values.now) refl (omega (arith, length_pairs one64 minus_one64 a.k)) c.copy_values.ensures c.write_pairs.ensures
+    written_after a.values.now (pair_values one64 minus_one64 a.k) a.out.now (length a.values.now) refl (omega (arith, length_pairs one64 minus_one64 a.k)) c.copy_front.ensures c.write_pairs.ensures

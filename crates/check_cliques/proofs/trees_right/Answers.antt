@@ -1,42 +1,21 @@
-use mathlib.Core.Path.{sym, ap, ◌∙◌}
-use borrow.Author.Tests.{not-true, not-false}
-use Rattle.layout.specs.General.Lists.{all}
+use Prim.Native.Nat.{◌+◌, ◌-◌}
+use native.Mathlib.Omega.{arith}
+use mathlib.Core.Path.{◌≡◌, sym}
 use Rattle.layout.specs.Checks.{tree_right}
-use Rattle.supernode_tree.proofs.Patterns.{patterns-whole, patterns_start, patterns-none, pattern_first, whole-later, all_stops, all_last, all_goes}
+use Rattle.supernode_tree.proofs.Patterns.{whole-later, all_stops, all_goes}
 use Rattle.check_cliques.proofs.trees_right.Goals as goal
-
-pub loop-left-init : goal.loop-left-init
-loop-left-init c =
-    let ws = c.args.words.now in
-    (patterns-whole ws c.args.count c.requires, ap (all tree_right) (patterns_start ws c.args.count c.requires))
-
-pub tree_right-requires : goal.tree_right-requires
-tree_right-requires c =
-    pattern_first c.args.words.now c.loop-left.at c.loop-left.left c.loop-left-test.true c.loop-left.invariant.0
 
 pub returns-then-not-tree_right : goal.returns-then-not-tree_right
 returns-then-not-tree_right c =
-    let ws = c.args.words.now in
-    sym (all_stops ws c.loop-left.at c.loop-left.left c.loop-left-test.true c.loop-left.invariant.0 tree_right _ _ c.loop-left.invariant.1 c.tree_right.ensures (not-true _ c.if-not-tree_right.true-raw))
+    sym (all_stops c.args.words.now c.loop-i.at (c.args.count - c.loop-i.i) (omega arith) c.loop-i.invariant.0 tree_right _ _ c.loop-i.invariant.1 c.tree_right.ensures c.if-not-tree_right.true)
 
--- the pattern is the last
-pub returns-then-left-eq1 : goal.returns-then-left-eq1
-returns-then-left-eq1 c =
+pub loop-i-preserved : goal.loop-i-preserved
+loop-i-preserved c =
     let ws = c.args.words.now in
-    sym (all_last ws c.loop-left.at c.loop-left.left c.loop-left-test.true c.loop-left.invariant.0 tree_right _ _ c.loop-left.invariant.1 c.tree_right.ensures c.if-left-eq1.true (not-false _ c.if-not-tree_right.false-raw))
-
-pub pattern_next-at-requires : goal.pattern_next-at-requires
-pattern_next-at-requires c =
-    pattern_first c.args.words.now c.loop-left.at c.loop-left.left c.loop-left-test.true c.loop-left.invariant.0
-
-pub loop-left-preserved : goal.loop-left-preserved
-loop-left-preserved c =
-    let ws = c.args.words.now in
-    let more = c.loop-left-test.true in (
-      whole-later ws c.loop-left.at c.loop-left.left more c.loop-left.invariant.0 c.pattern_next-at.result c.pattern_next-at.ensures,
-      all_goes ws c.loop-left.at c.loop-left.left more c.loop-left.invariant.0 tree_right _ _ c.loop-left.invariant.1 c.tree_right.ensures c.pattern_next-at.result c.pattern_next-at.ensures (not-false _ c.if-not-tree_right.false-raw),
+    let left = c.args.count - c.loop-i.i in
+    let e : c.args.count - (c.loop-i.i + 1) ≡ left - 1 = omega arith in
+    let next = c.pattern_next-at in
+    rw e (
+      whole-later ws c.loop-i.at left (omega arith) c.loop-i.invariant.0 next.result next.ensures,
+      all_goes ws c.loop-i.at left (omega arith) c.loop-i.invariant.0 tree_right _ _ c.loop-i.invariant.1 c.tree_right.ensures next.result next.ensures c.if-not-tree_right.false,
     )
-
-pub returns : goal.returns
-returns c =
-    sym (c.loop-left.invariant.1 ∙ ap (all tree_right) (patterns-none c.args.words.now c.loop-left.at c.loop-left.left c.loop-left-test.false))

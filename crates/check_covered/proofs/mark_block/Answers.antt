@@ -1,4 +1,4 @@
-use Prim.Native.Nat.{ℕ, ◌-◌}
+use Prim.Native.Nat.{ℕ}
 use mathlib.Core.Bool.{true}
 use mathlib.Core.Path.{◌≡◌, refl, ap, sym, ◌∙◌}
 use mathlib.Core.List.{List, map}
@@ -13,29 +13,23 @@ use Rattle.check_covered.proofs.mark_block.Goals as goal
 
 pub loop-j-init : goal.loop-j-init
 unfolding marked
-loop-j-init c = (omega arith, refl, refl)
+loop-j-init c = refl
 
 pub mark_column-requires : goal.mark_column-requires
 mark_column-requires c =
-    record { j_in_bounds = (c.loop-j-test.true, c.requires.0); block_fits = (c.requires.1 c.loop-j.j c.loop-j-test.true, rw c.loop-j.invariant.1 (c.requires.2 c.loop-j.j c.loop-j-test.true)) }
+    record { j_in_bounds = (c.loop-j-test.true, c.requires.0); block_fits = (c.requires.1 c.loop-j.j c.loop-j-test.true, rw c.loop-j.auto.covered (c.requires.2 c.loop-j.j c.loop-j-test.true)) }
 
 pub loop-j-preserved : goal.loop-j-preserved
 loop-j-preserved c =
     let a = c.args in
     let f = pair_row a.base in
-    let vs = a.vertices.now in (
-      omega arith,
-      c.mark_column.auto.covered ∙ c.loop-j.invariant.1,
-      c.mark_column.ensures ∙ ap (marked true (map f (column_pairs vs c.loop-j.j))) c.loop-j.invariant.2
-          ∙ sym (marked_append true (columns_below f vs c.loop-j.j) (map f (column_pairs vs c.loop-j.j)) a.covered.now)
-          ∙ ap (λ (os : List ℕ). marked true os a.covered.now) (sym (columns_more f vs c.loop-j.j)),
-    )
-
-pub shape_of-covered : goal.shape_of-covered
-shape_of-covered c = c.loop-j.invariant.1
+    let vs = a.vertices.now in
+    c.mark_column.ensures ∙ ap (marked true (map f (column_pairs vs c.loop-j.j))) c.loop-j.invariant
+    ∙ sym (marked_append true (columns_below f vs c.loop-j.j) (map f (column_pairs vs c.loop-j.j)) a.covered.now)
+    ∙ ap (λ (os : List ℕ). marked true os a.covered.now) (sym (columns_more f vs c.loop-j.j))
 
 pub returns : goal.returns
 returns c =
     let a = c.args in
     let e : c.loop-j.j ≡ length a.vertices.now = omega arith in
-    c.loop-j.invariant.2 ∙ ap (λ (n : ℕ). marked true (columns_below (pair_row a.base) a.vertices.now n) a.covered.now) e
+    c.loop-j.invariant ∙ ap (λ (n : ℕ). marked true (columns_below (pair_row a.base) a.vertices.now n) a.covered.now) e

@@ -1,15 +1,9 @@
-use Prim.Native.Nat.{◌≤◌, ◌-◌}
 use mathlib.Core.Bool.{true}
 use mathlib.Core.Path.{◌≡◌}
-use lib.ListN.{length}
 use Rattle.layout.specs.Rows.Blocks.{pair_row}
 use Rattle.rows_blocks.proofs.Columns.{columns_below}
 use Rattle.rows_blocks.specs.Vertices.{marked}
 use Rattle.check_covered.proofs.mark_block.Given as goal
 
 abbrev pub invariant-loop-j : goal.invariant-loop-j
-invariant-loop-j l =
-    (l.j ≤ length l.vertices) × (length l.covered ≡ length l.initial.covered) × (l.covered ≡ marked true (columns_below (pair_row l.base) l.vertices l.j) l.initial.covered)
-
-abbrev pub decreases-loop-j : goal.decreases-loop-j
-decreases-loop-j l = length l.vertices - l.j
+invariant-loop-j l = l.covered ≡ marked true (columns_below (pair_row l.base) l.vertices l.j) l.initial.covered

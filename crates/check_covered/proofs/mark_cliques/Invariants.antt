@@ -1,8 +1,7 @@
-use Prim.Native.Nat.{◌-◌, ◌≤◌}
 use mathlib.Core.Bool.{true}
 use mathlib.Core.Path.{◌≡◌}
 use mathlib.Core.List.{reverse}
-use lib.ListN.{length, take}
+use lib.ListN.{take}
 use Rattle.layout.specs.General.Lists.{join}
 use Rattle.rows_blocks.specs.Cliques.{rows_here}
 use Rattle.rows_blocks.specs.Vertices.{marked}
@@ -11,8 +10,4 @@ use Rattle.check_covered.proofs.mark_cliques.Given as goal
 abbrev pub invariant-loop-c : goal.invariant-loop-c
 invariant-loop-c l =
     let f = rows_here l.base l.words l.ordering in
-    (l.c ≤ length l.offsets) × (length l.covered ≡ length l.initial.covered)
-    × (marked true (join f (reverse (take l.c l.offsets))) l.covered ≡ marked true (join f (reverse l.offsets)) l.initial.covered)
-
-abbrev pub decreases-loop-c : goal.decreases-loop-c
-decreases-loop-c l = l.c
+    marked true (join f (reverse (take l.c l.offsets))) l.covered ≡ marked true (join f (reverse l.offsets)) l.initial.covered

@@ -1,6 +1,6 @@
 use Prim.Native.Nat.{ℕ}
 use mathlib.Core.Bool.{true}
-use mathlib.Core.Path.{◌≡◌, refl, sym, ap, subst, ◌∙◌}
+use mathlib.Core.Path.{refl, sym, ap, ◌∙◌}
 use mathlib.Core.List.{List, map}
 use lib.ListN.{length, get_or}
 use Rattle.layout.specs.General.Lists.{up_from, join}
@@ -23,59 +23,59 @@ loop-size-init c =
           ∙ ap (λ (os : List ℕ). marked true os a.covered.now) (sym (covered_parts c.requires.sound)),
     )
 
-pub next-met-requires : goal.next-met-requires
-next-met-requires c = c.loop-size.invariant.0
+pub next-requires : goal.next-requires
+next-requires c = c.loop-size.invariant.0
 
 pub mark_range-requires : goal.mark_range-requires
 mark_range-requires c =
-    omega (arith, c.in-Whole.ensures.knows.1, c.loop-size.invariant.0.few, c.loop-size.invariant.1, c.requires.m_in_bounds)
+    omega (arith, (rw c.in-Some-Whole.field-0-is at c.in-Some-Whole.ensures).knows.1, c.loop-size.invariant.0.few, c.loop-size.invariant.1, c.requires.m_in_bounds)
 
-pub loop-size-smaller-in-Whole : goal.loop-size-smaller-in-Whole
-loop-size-smaller-in-Whole c = omega (arith, ap length c.in-Whole.ensures.self_value)
+pub loop-size-smaller-in-Some-Whole : goal.loop-size-smaller-in-Some-Whole
+loop-size-smaller-in-Some-Whole c = omega (arith, ap length (rw c.in-Some-Whole.field-0-is at c.in-Some-Whole.ensures).self_value)
 
-pub loop-size-preserved-in-Whole : goal.loop-size-preserved-in-Whole
-loop-size-preserved-in-Whole c =
+pub loop-size-preserved-in-Some-Whole : goal.loop-size-preserved-in-Some-Whole
+loop-size-preserved-in-Some-Whole c =
     let cones = c.args.cones.now in
     let words = c.args.words.now in
     let at = c.loop-size.place in (
-      c.in-Whole.ensures.knows.5,
+      (rw c.in-Some-Whole.field-0-is at c.in-Some-Whole.ensures).knows.5,
       c.mark_range.auto.covered ∙ c.loop-size.invariant.1,
-      ap (marked true (join part_originals (ahead cones words c.in-Whole.next))) c.mark_range.ensures
+      ap (marked true (join part_originals (ahead cones words c.in-Some-Whole.next))) c.mark_range.ensures
           ∙ part_step (whole at.cone (get_or (records cones) at.cone no_cone) at.row) (ahead cones words at)
-          (ahead cones words c.in-Whole.next) (up_from at.row c.in-Whole.size) c.loop-size.covered c.in-Whole.ensures.self_value
-          (ap (up_from at.row) c.in-Whole.ensures.knows.0)
+          (ahead cones words c.in-Some-Whole.next) (up_from at.row c.in-Some-Whole.size) c.loop-size.covered (rw c.in-Some-Whole.field-0-is at c.in-Some-Whole.ensures).self_value
+          (ap (up_from at.row) (rw c.in-Some-Whole.field-0-is at c.in-Some-Whole.ensures).knows.0)
           ∙ c.loop-size.invariant.2,
     )
 
 pub mark_pattern-requires : goal.mark_pattern-requires
 mark_pattern-requires c =
-    let k = c.in-Cut.ensures.knows in
+    let k = (rw c.in-Some-Cut.field-0-is at c.in-Some-Cut.ensures).knows in
     record {
       right_pattern = (k.1, k.2);
       block_fits = (omega (arith, k.3, c.loop-size.invariant.0.few), omega (arith, k.3, c.loop-size.invariant.1, c.requires.m_in_bounds));
     }
 
 pub loop-size-smaller : goal.loop-size-smaller
-loop-size-smaller c = omega (arith, ap length c.in-Cut.ensures.self_value)
+loop-size-smaller c = omega (arith, ap length (rw c.in-Some-Cut.field-0-is at c.in-Some-Cut.ensures).self_value)
 
 pub loop-size-preserved : goal.loop-size-preserved
 loop-size-preserved c =
     let cones = c.args.cones.now in
     let words = c.args.words.now in
     let at = c.loop-size.place in
-    let p = pattern_at words c.in-Cut.at in (
-      c.in-Cut.ensures.knows.6,
+    let p = pattern_at words c.in-Some-Cut.at in (
+      (rw c.in-Some-Cut.field-0-is at c.in-Some-Cut.ensures).knows.6,
       c.mark_pattern.auto.covered ∙ c.loop-size.invariant.1,
-      ap (marked true (join part_originals (ahead cones words c.in-Cut.next))) (c.mark_pattern.ensures 0)
+      ap (marked true (join part_originals (ahead cones words c.in-Some-Cut.next))) (c.mark_pattern.ensures 0)
           ∙ part_step (cut at.cone at.row at.pattern p) (ahead cones words at)
-          (ahead cones words c.in-Cut.next) (map original_row (pattern_rows p at.row 0)) c.loop-size.covered c.in-Cut.ensures.self_value refl
+          (ahead cones words c.in-Some-Cut.next) (map original_row (pattern_rows p at.row 0)) c.loop-size.covered (rw c.in-Some-Cut.field-0-is at c.in-Some-Cut.ensures).self_value refl
           ∙ c.loop-size.invariant.2,
     )
 
-pub shape_of-covered-in-Done : goal.shape_of-covered-in-Done
-shape_of-covered-in-Done c = c.loop-size.invariant.1
+pub shape_of-covered-in-None : goal.shape_of-covered-in-None
+shape_of-covered-in-None c = c.loop-size.invariant.1
 
-pub returns-in-Done : goal.returns-in-Done
-returns-in-Done c =
+pub returns-in-None : goal.returns-in-None
+returns-in-None c =
     let a = c.args in
-    parts-done (ahead a.cones.now a.words.now c.loop-size.place) c.loop-size.covered c.in-Done.ensures.self_value ∙ c.loop-size.invariant.2
+    parts-done (ahead a.cones.now a.words.now c.loop-size.place) c.loop-size.covered c.in-None.ensures.self_value ∙ c.loop-size.invariant.2

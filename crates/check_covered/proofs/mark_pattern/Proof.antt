@@ -7,7 +7,7 @@ use lib.Seq.{length-take-le}
 use Rattle.layout.specs.General.Lists.{join}
 use Rattle.layout.specs.Problems.Patterns.{clique_count}
 use Rattle.supernode_tree.specs.Reads.{pattern_at, PatternInside}
-use Rattle.supernode_tree.specs.declared.PatternRead.TheVariants.{Pattern as Found}
+use Rattle.std.specs.Prelude.{Some}
 use Rattle.rows_blocks.specs.Cliques.{rows_here}
 use Rattle.supernode_tree.proofs.Cliques.{right-head}
 use Rattle.rows_blocks.proofs.Offsets.{StandAt, cliques_here, cliques-count, count-few, ordering-part, stand_here, all-stand, rows-down}
@@ -18,7 +18,7 @@ use Rattle.check_covered.proofs.mark_pattern.Statement.{statement}
 use Rattle.check_covered.proofs.mark_pattern.Tie as tie
 
 -- the head of the pattern lies in the words
-inside : (k : tie.After-here-p) → PatternInside (length k.args.words.now) k.args.at (Found k.here-p.result)
+inside : (k : tie.After-here-p) → PatternInside (length k.args.words.now) k.args.at (Some k.here-p.result)
 inside k = k.here-p.ensures.1
 
 -- the number of cliques is the count read, and at most 256

@@ -1,4 +1,4 @@
-use Prim.Native.Nat.{ℕ, ◌-◌, ◌≤◌}
+use Prim.Native.Nat.{ℕ}
 use mathlib.Core.Path.{◌≡◌}
 use mathlib.Core.Bool.{Bool, false, ◌&&◌, ◌||◌}
 use mathlib.Core.List.{List}
@@ -15,7 +15,4 @@ fine covered b r = eq (get_or b r nan) zero64 || get_or covered r false
 
 -- `holds` is whether the first i rows pass
 abbrev pub invariant-loop-i : goal.invariant-loop-i
-invariant-loop-i l = (l.i ≤ length l.b) × (values_marked l.covered l.b ≡ (l.holds && all (fine l.covered l.b) (drop l.i (below (length l.b)))))
-
-abbrev pub decreases-loop-i : goal.decreases-loop-i
-decreases-loop-i l = length l.b - l.i
+invariant-loop-i l = values_marked l.covered l.b ≡ (l.holds && all (fine l.covered l.b) (drop l.i (below (length l.b))))

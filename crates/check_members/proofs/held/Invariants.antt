@@ -12,7 +12,4 @@ abbrev pub decreases-loop-j : goal.decreases-loop-j
 decreases-loop-j l = cond l.around 0 (length l.ms + 1) + (length l.ms - l.j)
 
 abbrev pub invariant-walk : goal.invariant-walk
-invariant-walk l = (l.i ≤ length l.us) × (l.j ≤ length l.ms) × (all (λ u. has u l.ms) l.us ≡ all (λ u. has u l.ms) (drop l.i l.us)) × (l.ok ≡ true)
-
-abbrev pub decreases-walk : goal.decreases-walk
-decreases-walk l = length l.us - l.i
+invariant-walk l = (l.j ≤ length l.ms) × (all (λ u. has u l.ms) l.us ≡ all (λ u. has u l.ms) (drop l.x-index l.us)) × (l.ok ≡ true)

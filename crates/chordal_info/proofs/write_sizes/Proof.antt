@@ -85,10 +85,10 @@ mul-entries c = omega (arith, short c.before)
 add-entries : tie.Need-overflow_add-entries
 add-entries c = omega (arith, short c.before)
 
-slice-aggregate-copy-numbers : tie.Need-slice_bounds-copy_numbers-end
+slice-aggregate-copy-numbers : tie.Need-slice_bounds-copy_front-end
 slice-aggregate-copy-numbers c = search rules
 
-copy-numbers-requires : tie.Need-copy_numbers-requires
+copy-numbers-requires : tie.Need-copy_front-requires
 copy-numbers-requires c κs = search rules
 
 same_length : tie.Need-shape_of-out
@@ -100,7 +100,7 @@ returns c =
     let j = w.before.before.before.before in
     let a = j.args in
     let x = j.if-route-eq-STANDARD in
-    w.copy_numbers.ensures
+    w.copy_front.ensures
     ∙ ap (λ (xs : List ℕ). written xs a.out.now)
     (lengths-listed (a.n + x.added) a.p_entries (a.a_entries + 2 * x.added) x.b x.cone_words a.alphas x.map_words ∙ lengths j)
 

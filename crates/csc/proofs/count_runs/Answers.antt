@@ -1,4 +1,3 @@
-use Prim.Native.Nat.{◌-◌}
 use mathlib.Core.Path.{◌≡◌}
 use lib.ListN.{length}
 use Rattle.layout.proofs.Columns.Repeats.{runs-few}
@@ -18,10 +17,9 @@ loop-i-preserved c =
     let rows = c.args.rows.now in
     let i = c.loop-i.i in
     elim c.if-rows-i.branch [
-      | then-rows-i w ↦ (omega arith, omega (arith, w.count-is, c.loop-i.invariant.1), omega (arith, w.count-is, c.loop-i.invariant.2, runs_apart rows i (omega arith) w.if-rows-i.true))
-      | else-rows-i w ↦ (omega arith, omega (arith, w.count-is, c.loop-i.invariant.1), omega (arith, w.count-is, c.loop-i.invariant.2, runs_same rows i (omega arith) w.if-rows-i.false))
+      | then-rows-i w ↦ (omega arith, omega (arith, runs_apart rows i c.loop-i.auto.i c.loop-i-test.true w.if-rows-i.true))
+      | else-rows-i w ↦ (omega arith, omega (arith, runs_same rows i c.loop-i.auto.i c.loop-i-test.true w.if-rows-i.false))
     ]
 
 pub returns : goal.returns
-returns c =
-    omega (arith, c.loop-i.invariant.2, runs_last c.args.rows.now c.loop-i.i c.loop-i.invariant.0 c.loop-i-test.false)
+returns c = omega (arith, runs_last c.args.rows.now c.loop-i.i c.loop-i.auto.i (omega arith))

@@ -8,7 +8,7 @@ use Rattle.csc.proofs.first_place.Goals as goal
 pub loop-first-preserved : goal.loop-first-preserved
 loop-first-preserved c =
     let rows = c.args.rows.now in
-    (omega arith, c.loop-first.invariant.1 ∙ first_step rows c.loop-first.first (c.loop-first.first - 1) (omega arith) c.if-rows-first.false)
+    (omega arith, c.loop-first.invariant.1 ∙ first_step rows c.loop-first.first (c.loop-first.first - 1) (omega arith) c.if-rows-first.true)
 
 pub returns-after-loop-first : goal.returns-after-loop-first
 returns-after-loop-first c =
@@ -16,7 +16,7 @@ returns-after-loop-first c =
     let none : c.loop-first.first ≡ 0 = omega (arith, c.loop-first-test.false) in
     sym (c.loop-first.invariant.1 ∙ ap (run_first rows) none ∙ sym none)
 
-pub returns-then-rows-first : goal.returns-then-rows-first
-returns-then-rows-first c =
+pub returns-else-rows-first : goal.returns-else-rows-first
+returns-else-rows-first c =
     let rows = c.args.rows.now in
-    sym (c.loop-first.invariant.1 ∙ first_done rows c.loop-first.first (c.loop-first.first - 1) (omega arith) c.if-rows-first.true)
+    sym (c.loop-first.invariant.1 ∙ first_done rows c.loop-first.first (c.loop-first.first - 1) (omega arith) c.if-rows-first.false)

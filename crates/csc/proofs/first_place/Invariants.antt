@@ -1,4 +1,4 @@
-use Prim.Native.Nat.{◌≤◌, ◌-◌}
+use Prim.Native.Nat.{◌≤◌}
 use mathlib.Core.Path.{◌≡◌}
 use Rattle.layout.specs.Cuts.Runs.{run_first}
 use Rattle.csc.proofs.first_place.Given as goal

@@ -1,5 +1,3 @@
-use Prim.Native.Nat.{◌-◌}
-use native.Mathlib.Omega.{arith}
 use mathlib.Core.Path.{sym, ◌∙◌}
 use borrow.Author.Tests.{lt-ltb, le-ltb}
 use lib.Dec.{ltb}
@@ -9,14 +7,13 @@ use Rattle.csc.proofs.rise_strictly.Goals as goal
 pub returns-then-rows-i : goal.returns-then-rows-i
 returns-then-rows-i c =
     let rows = c.args.rows.now in
-    sym (rises_chained rows ∙ c.loop-i.invariant.1 ∙ chain_fails ltb rows c.loop-i.i (omega arith) (le-ltb _ _ c.if-rows-i.true))
+    sym (rises_chained rows ∙ c.loop-i.invariant ∙ chain_fails ltb rows c.loop-i.i c.loop-i.auto.i c.loop-i-test.true (le-ltb _ _ c.if-rows-i.true))
 
 pub loop-i-preserved : goal.loop-i-preserved
 loop-i-preserved c =
-    let rows = c.args.rows.now in
-    (omega arith, c.loop-i.invariant.1 ∙ chain_step ltb rows c.loop-i.i (omega arith) (lt-ltb _ _ c.if-rows-i.false))
+    c.loop-i.invariant ∙ chain_step ltb c.args.rows.now c.loop-i.i c.loop-i.auto.i c.loop-i-test.true (lt-ltb _ _ c.if-rows-i.false)
 
 pub returns : goal.returns
 returns c =
     let rows = c.args.rows.now in
-    sym (rises_chained rows ∙ c.loop-i.invariant.1 ∙ chain_done ltb rows c.loop-i.i c.loop-i-test.false)
+    sym (rises_chained rows ∙ c.loop-i.invariant ∙ chain_done ltb rows c.loop-i.i c.loop-i-test.false)

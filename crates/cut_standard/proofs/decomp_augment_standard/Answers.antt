@@ -26,8 +26,8 @@ pub write_values-requires : goal.write_values-requires
 write_values-requires c =
     room-values c.requires.accepted c.args.k c.requires.added _ c.requires.values
 
-pub extend_values-requires : goal.extend_values-requires
-extend_values-requires c =
+pub extend_front-requires : goal.extend_front-requires
+extend_front-requires c =
     room_b c.requires.accepted c.args.k c.requires.added _ c.requires.slacks
 
 pub standard_cones-requires : goal.standard_cones-requires
@@ -44,7 +44,7 @@ pub shape_of-a_values_out : goal.shape_of-a_values_out
 shape_of-a_values_out c = c.write_values.auto.out
 
 pub shape_of-b_out : goal.shape_of-b_out
-shape_of-b_out c = c.extend_values.auto.out
+shape_of-b_out c = c.extend_front.auto.out
 
 pub shape_of-cones_out : goal.shape_of-cones_out
 shape_of-cones_out c = c.standard_cones.auto.out
@@ -58,6 +58,6 @@ returns c =
       a_starts = renamed a.a_starts_out.now (starts_A h a.k e) c.write_starts.ensures;
       a_rows = renamed a.a_rows_out.now (rows_A h) c.standard_a_rows.ensures;
       a_values = renamed a.a_values_out.now (values_A h a.k e) c.write_values.ensures;
-      b = renamed a.b_out.now (ap (λ (j : ℕ). a.b.now ++ replicate j zero64) e) c.extend_values.ensures;
+      b = renamed a.b_out.now (ap (λ (j : ℕ). a.b.now ++ replicate j zero64) e) c.extend_front.ensures;
       cones = c.standard_cones.ensures;
     }

@@ -7,9 +7,7 @@ pub loop-k-preserved : goal.loop-k-preserved
 loop-k-preserved c =
     let ws = c.args.words.now in
     let ys = c.args.entries.now in
-    let k = c.loop-k.k in (
-      omega arith,
-      ap (λ (xs : List ConeMapEntry). slice_set xs k c.read.result) c.loop-k.invariant.1
-          ∙ filled_more ws ys k c.read.result (omega arith) c.read.ensures
-          ∙ sym (ap (filled ws ys) (add-one k)),
-    )
+    let k = c.loop-k.k in
+    ap (λ (xs : List ConeMapEntry). slice_set xs k c.read.result) c.loop-k.invariant
+    ∙ filled_more ws ys k c.read.result (omega arith) c.read.ensures
+    ∙ sym (ap (filled ws ys) (add-one k))

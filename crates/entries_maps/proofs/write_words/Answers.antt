@@ -6,9 +6,7 @@ pub loop-w-preserved : goal.loop-w-preserved
 loop-w-preserved c =
     let ys = c.args.entries.now in
     let old = c.args.out.now in
-    let w = c.loop-w.w in (
-      omega arith,
-      ap (λ (xs : List ℕ). slice_set xs w c.word.result) c.loop-w.invariant.1
-          ∙ told_more ys old w c.word.result _ (omega arith) (omega arith) c.word.ensures
-          ∙ sym (ap (told ys old) (add-one w)),
-    )
+    let w = c.loop-w.w in
+    ap (λ (xs : List ℕ). slice_set xs w c.word.result) c.loop-w.invariant
+    ∙ told_more ys old w c.word.result _ (omega arith) (omega arith) c.word.ensures
+    ∙ sym (ap (told ys old) (add-one w))

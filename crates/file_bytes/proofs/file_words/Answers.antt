@@ -4,9 +4,8 @@ use lib.ListN.{set}
 use mathlib.Core.Path.{ap₂}
 use mathlib.Core.List.{List}
 use Prim.Native.Nat.{ℕ}
-use Prim.Native.Nat.{◌-◌}
 use mathlib.Core.Path.{refl, sym, ◌∙◌}
-use lib.ListN.{length, length-set}
+use lib.ListN.{length}
 use Rattle.layout.specs.Files.FileWords.{file_words}
 use Rattle.layout.proofs.Files.FileWords.{words-length}
 use Rattle.layout.proofs.Files.FileWalks.{word_bytes}
@@ -24,16 +23,10 @@ returns-then-out-count c =
 pub loop-i-preserved : goal.loop-i-preserved
 loop-i-preserved c =
     let ws = file_words c.args.file.now in
-    let long = words-length c.args.file.now in (
-      omega arith,
-      simp length-set c.loop-i.invariant.1,
-      ap₂ (λ (o : List ℕ) (v : ℕ). set o c.loop-i.i v) c.loop-i.invariant.2
-          (c.word_at.ensures ∙ sym (word_bytes c.args.file.now c.loop-i.i (omega arith)))
-          ∙ copy_more ws c.args.out.now c.loop-i.i 0 (omega arith) (omega arith),
-    )
-
-pub shape_of-out : goal.shape_of-out
-shape_of-out c = c.loop-i.invariant.1
+    let long = words-length c.args.file.now in
+    ap₂ (λ (o : List ℕ) (v : ℕ). set o c.loop-i.i v) c.loop-i.invariant
+    (c.word_at.ensures ∙ sym (word_bytes c.args.file.now c.loop-i.i (omega arith)))
+    ∙ copy_more ws c.args.out.now c.loop-i.i 0 (omega arith) (omega arith)
 
 pub returns : goal.returns
 returns c =
@@ -41,5 +34,5 @@ returns c =
     let long = words-length c.args.file.now in
     record {
       number = sym (cond_passed (leb (length ws) (length c.args.out.now)) 0 11 (le→leb (length ws) (length c.args.out.now) (omega arith)));
-      out = c.loop-i.invariant.2 ∙ copy_done ws c.args.out.now c.loop-i.i (omega arith);
+      out = c.loop-i.invariant ∙ copy_done ws c.args.out.now c.loop-i.i (omega arith);
     }

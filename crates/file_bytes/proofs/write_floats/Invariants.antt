@@ -1,12 +1,8 @@
-use Prim.Native.Nat.{◌-◌, ◌≤◌}
 use mathlib.Core.Path.{◌≡◌}
-use lib.ListN.{length, take}
+use lib.ListN.{take}
 use Rattle.layout.specs.General.Lists.{written}
 use Rattle.layout.specs.General.Floats.{floats}
 use Rattle.file_bytes.proofs.write_floats.Given as goal
 
 abbrev pub invariant-loop-i : goal.invariant-loop-i
-invariant-loop-i l = (l.i ≤ length l.patterns) × (length l.out ≡ length l.initial.out) × (l.out ≡ written (take l.i (floats l.patterns)) l.initial.out)
-
-abbrev pub decreases-loop-i : goal.decreases-loop-i
-decreases-loop-i l = length l.patterns - l.i
+invariant-loop-i l = l.out ≡ written (take l.i (floats l.patterns)) l.initial.out

@@ -5,5 +5,5 @@ use Rattle.file_tables.proofs.copy_table.Goals as goal
 
 pub returns : goal.returns
 returns c =
-    c.copy_numbers.ensures
+    c.copy_front.ensures
     ∙ ap (λ (a : ℕ). written (part a (a + c.args.count) c.args.words.now) c.args.out.now) c.start_of-at.ensures.0

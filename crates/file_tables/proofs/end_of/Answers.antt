@@ -1,4 +1,4 @@
-use Prim.Native.Nat.{ℕ, ◌+◌, ◌-◌}
+use Prim.Native.Nat.{ℕ, ◌+◌}
 use mathlib.Core.Path.{sym, ap, ◌∙◌}
 use lib.ListN.{drop}
 use Rattle.layout.specs.Files.File.{widths, products, end_from}
@@ -11,13 +11,12 @@ loop-i-preserved c =
     let ks = products widths c.args.lengths.now in
     let many = length-products widths c.args.lengths.now c.requires in
     let r = c.next_end-end.ensures in (
-      omega arith,
       omega (arith, r.1),
-      ap (λ (e : ℕ). end_from e (drop (c.loop-i.i + 1) ks)) r.0 ∙ sym (end_step c.loop-i.end ks c.loop-i.i (omega (arith, many))) ∙ c.loop-i.invariant.2,
+      ap (λ (e : ℕ). end_from e (drop (c.loop-i.i + 1) ks)) r.0 ∙ sym (end_step c.loop-i.end ks c.loop-i.i (omega (arith, many))) ∙ c.loop-i.invariant.1,
     )
 
 pub returns : goal.returns
 returns c =
     let ks = products widths c.args.lengths.now in
     let many = length-products widths c.args.lengths.now c.requires in
-    (sym (end_done c.loop-i.end ks c.loop-i.i (omega (arith, many))) ∙ c.loop-i.invariant.2, omega arith)
+    (sym (end_done c.loop-i.end ks c.loop-i.i (omega (arith, many))) ∙ c.loop-i.invariant.1, omega arith)

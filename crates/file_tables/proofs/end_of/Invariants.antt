@@ -1,4 +1,4 @@
-use Prim.Native.Nat.{◌+◌, ◌-◌, ◌*◌, ◌≤◌}
+use Prim.Native.Nat.{◌+◌, ◌*◌, ◌≤◌}
 use mathlib.Core.Path.{◌≡◌}
 use lib.ListN.{drop}
 use Rattle.layout.specs.Files.File.{widths, products, end_from}
@@ -6,7 +6,4 @@ use Rattle.file_tables.proofs.end_of.Given as goal
 
 abbrev pub invariant-loop-i : goal.invariant-loop-i
 invariant-loop-i l =
-    (l.i ≤ 11) × (l.end ≤ 80 + 34359738375 * l.i) × (end_from l.end (drop l.i (products widths l.lengths)) ≡ end_from 80 (products widths l.lengths))
-
-abbrev pub decreases-loop-i : goal.decreases-loop-i
-decreases-loop-i l = 11 - l.i
+    (l.end ≤ 80 + 34359738375 * l.i) × (end_from l.end (drop l.i (products widths l.lengths)) ≡ end_from 80 (products widths l.lengths))

@@ -14,4 +14,4 @@ returns c =
     let os : List ℕ = offsets_from 80 ks ++ (end_from 80 ks ∷ []) in
     let many : length os ≡ 12 =
     length-append (offsets_from 80 ks) (end_from 80 ks ∷ []) ∙ ap (λ (k : ℕ). k + 1) (length_offsets 80 ks ∙ length-products widths c.args.lengths.now c.requires.1) in
-    written_after c.args.counts.now os c.args.out.now 8 (sym c.requires.0) (omega (arith, many)) c.copy_numbers.ensures c.write_offsets.ensures
+    written_after c.args.counts.now os c.args.out.now 8 (sym c.requires.0) (omega (arith, many)) c.copy_front.ensures c.write_offsets.ensures

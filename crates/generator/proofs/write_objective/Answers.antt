@@ -9,4 +9,4 @@ use Rattle.generator.proofs.write_objective.Goals as goal
 pub returns : goal.returns
 unfolding of_bits
 returns c =
-    let a = c.args in record { p_starts_out_after = c.fill_numbers.ensures ∙ ap (λ (k : ℕ). written (replicate k 0) a.p_starts_out.now) (add-one a.n); q_out_after = c.fill_values.ensures }
+    let a = c.args in record { p_starts_out_after = c.fill_front.ensures ∙ ap (λ (k : ℕ). written (replicate k 0) a.p_starts_out.now) (add-one a.n); q_out_after = c.fill_front-2.ensures }

@@ -11,4 +11,4 @@ pub returns : goal.returns
 returns c =
     let a = c.args in
     written_after (a.parent ∷ a.snode ∷ a.separator ∷ []) (up_from a.first (a.snode + a.separator)) a.out.now 3 refl
-    (omega (arith, length-up_from a.first (a.snode + a.separator))) c.copy_numbers.ensures c.write_members.ensures
+    (omega (arith, length-up_from a.first (a.snode + a.separator))) c.copy_front.ensures c.write_members.ensures

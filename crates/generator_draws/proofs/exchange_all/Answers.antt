@@ -18,15 +18,12 @@ loop-done-preserved c =
     let i = count - c.loop-done.done in
     let s = c.loop-done.s in
     let less : count - (c.loop-done.done + 1) ≡ i - 1 = omega arith in
-    let drawn = c.draw-s.ensures in
-    let put = c.exchange_entries.ensures in (
-      omega arith,
-      omega arith,
-      omega arith,
-      rw (less, drawn) (sym (draws-step i s (omega arith)) ∙ c.loop-done.invariant.3),
-      rw (less, put, drawn) (sym (exchanges-step i s c.loop-done.out (omega arith)) ∙ c.loop-done.invariant.4),
+    let drawn = c.draw-s.ensures in (
+      rw (less, drawn) (sym (draws-step i s (omega arith)) ∙ c.loop-done.invariant.0),
+      rw (less, c.exchange_entries.ensures, drawn) (sym (exchanges-step i s c.loop-done.out (omega arith)) ∙ c.loop-done.invariant.1),
     )
 
 pub returns : goal.returns
 returns c =
-    let e : length c.args.out.now - c.loop-done.done ≡ 0 = omega arith in record { value = rw e at c.loop-done.invariant.3; out_after = rw e at c.loop-done.invariant.4 }
+    let e : length c.args.out.now - c.loop-done.done ≡ 0 = omega arith in
+    record { value = rw e at c.loop-done.invariant.0; out_after = rw e at c.loop-done.invariant.1 }

@@ -1,4 +1,4 @@
-use Prim.Native.Nat.{ℕ, suc, ◌+◌, ◌*◌, ◌/◌, ◌%◌, ◌^◌, ◌<◌}
+use Prim.Native.Nat.{ℕ, suc, ◌*◌, ◌/◌, ◌%◌, ◌^◌, ◌<◌}
 use native.Mathlib.Omega.{arith}
 use mathlib.Core.Path.{◌≡◌, sym, ap, ◌∙◌}
 use mathlib.Core.Bool.{Bool, true, false, not}
@@ -18,9 +18,8 @@ use Rattle.inverse_marks.proofs.mark_window.Goals as goal
 use Rattle.inverse_marks.proofs.mark_window.Goals.{then-x-window, else-x-window}
 
 -- the number of words of marks
-pub loop-i-init : goal.loop-i-init
-loop-i-init c = (
-  omega arith,
+pub loop-word-init : goal.loop-word-init
+loop-word-init c = (
   ap length c.requires ∙ length-replicate {A = ℕ} 131072 0,
   rw c.requires (flagged_none (c.args.window * 8388608) 131072),
   tt,
@@ -39,46 +38,44 @@ seen window i words marks n f e =
 pub returns-then-w-bit-ne0 : goal.returns-then-w-bit-ne0
 returns-then-w-bit-ne0 c =
     let ws = c.args.words.now in
-    let i = c.loop-i.i in
+    let i = c.loop-word.word-index in
     let x : ℕ = get_or ws i 0 in
     let p : ℕ → Bool = within (c.args.window * 8388608) 8388608 in
-    let w : ℕ = get_or c.loop-i.marks (x % 8388608 / 64) 0 in
+    let w : ℕ = get_or c.loop-word.marks (x % 8388608 / 64) 0 in
     elim c.if-x-window.branch [
       | then-x-window t ↦
           let met : has x (take i ws) ≡ true =
-          not-false _ (sym (seen c.args.window i ws c.loop-i.marks c.loop-i.invariant.1 c.loop-i.invariant.2 t.if-x-window.true)
+          not-false _ (sym (seen c.args.window i ws c.loop-word.marks c.loop-word.invariant.0 c.loop-word.invariant.1 t.if-x-window.true)
           ∙ ne_eqb _ 0 (rw t.bit-is at c.if-w-bit-ne0.true)) in
           sym (ap (λ (k : List ℕ). distinct (keep p k)) (split_more [] ws i (omega arith))
           ∙ old_more p (take i ws) x (drop (suc i) ws) (inside _ x t.if-x-window.true) met)
       | else-x-window e ↦ absurd (c.if-w-bit-ne0.true (ap (bit_and w) e.bit-is ∙ and_zero_r w))
     ]
 
-pub loop-i-preserved : goal.loop-i-preserved
-loop-i-preserved c =
+pub loop-word-preserved : goal.loop-word-preserved
+loop-word-preserved c =
     let ws = c.args.words.now in
-    let i = c.loop-i.i in
+    let i = c.loop-word.word-index in
     let x : ℕ = get_or ws i 0 in
     let low : ℕ = c.args.window * 8388608 in
     let h : i < length ws = omega arith in
     elim c.if-x-window.branch [
       | then-x-window t ↦
           let new : has x (take i ws) ≡ false =
-          not-true _ (sym (seen c.args.window i ws c.loop-i.marks c.loop-i.invariant.1 c.loop-i.invariant.2 t.if-x-window.true)
+          not-true _ (sym (seen c.args.window i ws c.loop-word.marks c.loop-word.invariant.0 c.loop-word.invariant.1 t.if-x-window.true)
           ∙ eq-eqb _ 0 (rw t.bit-is at c.if-w-bit-ne0.false)) in (
-            omega arith,
-            simp length-set c.loop-i.invariant.1,
-            rw (t.bit-is, take_more [] ws i h) (flagged_more low c.loop-i.marks (take i ws) x (x % 8388608) (omega (arith, t.if-x-window.true)) (omega arith) c.loop-i.invariant.2),
-            rw (take_more [] ws i h) (new_more _ (take i ws) x (inside _ x t.if-x-window.true) new c.loop-i.invariant.3),
+            simp length-set c.loop-word.invariant.0,
+            rw (t.bit-is, take_more [] ws i h) (flagged_more low c.loop-word.marks (take i ws) x (x % 8388608) (omega (arith, t.if-x-window.true)) (omega arith) c.loop-word.invariant.1),
+            rw (take_more [] ws i h) (new_more _ (take i ws) x (inside _ x t.if-x-window.true) new c.loop-word.invariant.2),
           )
       | else-x-window e ↦ (
-        omega arith,
-        simp length-set c.loop-i.invariant.1,
-        rw (e.bit-is, take_more [] ws i h) (flagged_out low c.loop-i.marks (take i ws) (x % 8388608 / 64) x (λ v k d. e.if-x-window.false (omega arith)) c.loop-i.invariant.2),
-        rw (take_more [] ws i h) (skip_more _ (take i ws) x (outside _ x e.if-x-window.false) c.loop-i.invariant.3),
+        simp length-set c.loop-word.invariant.0,
+        rw (e.bit-is, take_more [] ws i h) (flagged_out low c.loop-word.marks (take i ws) (x % 8388608 / 64) x (λ v k d. e.if-x-window.false (omega arith)) c.loop-word.invariant.1),
+        rw (take_more [] ws i h) (skip_more _ (take i ws) x (outside _ x e.if-x-window.false) c.loop-word.invariant.2),
       )
     ]
 
 pub returns : goal.returns
 returns c =
     let ws = c.args.words.now in
-    sym (passed _ (rw (take_all c.loop-i.i ws c.loop-i-test.false) at c.loop-i.invariant.3))
+    sym (passed _ (rw (take_all c.loop-word.word-index ws c.loop-word-test.false) at c.loop-word.invariant.2))

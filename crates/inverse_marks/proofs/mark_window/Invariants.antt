@@ -1,4 +1,4 @@
-use Prim.Native.Nat.{◌-◌, ◌*◌, ◌≤◌}
+use Prim.Native.Nat.{◌*◌}
 use mathlib.Core.Path.{◌≡◌}
 use lib.ListN.{length, take}
 use lib.Dec.{T}
@@ -7,10 +7,7 @@ use Rattle.utils.specs.Windows.{within}
 use Rattle.inverse_marks.specs.Flags.{Flagged}
 use Rattle.inverse_marks.proofs.mark_window.Given as goal
 
-abbrev pub invariant-loop-i : goal.invariant-loop-i
-invariant-loop-i l =
-    (l.i ≤ length l.words) × (length l.marks ≡ 131072)
-    × Flagged (l.window * 8388608) l.marks (take l.i l.words) × T (distinct (keep (within (l.window * 8388608) 8388608) (take l.i l.words)))
-
-abbrev pub decreases-loop-i : goal.decreases-loop-i
-decreases-loop-i l = length l.words - l.i
+abbrev pub invariant-loop-word : goal.invariant-loop-word
+invariant-loop-word l =
+    (length l.marks ≡ 131072) × Flagged (l.window * 8388608) l.marks (take l.word-index l.words)
+    × T (distinct (keep (within (l.window * 8388608) 8388608) (take l.word-index l.words)))

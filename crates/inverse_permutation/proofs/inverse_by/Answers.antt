@@ -4,7 +4,6 @@ use Rattle.inverse_permutation.proofs.Inverted.{scattered_front, refused_order, 
 use Rattle.layout.proofs.Lists.Tests.{passes}
 use Rattle.layout.specs.General.Lists.{is_permutation, written}
 use Rattle.layout.specs.Calls.Inverse.{inverse}
-use borrow.Author.Tests.{not-true, not-false}
 use lib.ListN.{length, take}
 use Prim.Native.Nat.{ℕ, ◌≤◌}
 use mathlib.Core.Path.{◌≡◌, refl, sym, ap, ◌∙◌}
@@ -19,31 +18,31 @@ front ps old new e h s = ap (take (length ps)) s ∙ scattered_front ps old (pas
 
 pub returns-then-not-invert : goal.returns-then-not-invert
 returns-then-not-invert c =
-    record { number = sym (refused_order c.args.p.now (length c.args.out.now) (sym c.invert.ensures.value ∙ not-true _ c.if-not-invert.true-raw)); out = refl }
+    record { number = sym (refused_order c.args.p.now (length c.args.out.now) (sym c.if-not-invert.ensures.value)); out = refl }
 
 pub returns-then-out-p : goal.returns-then-out-p
 returns-then-out-p c =
-    record { number = sym (refused-room c.args.p.now (length c.args.out.now) (sym c.invert.ensures.value ∙ not-false _ c.if-not-invert.false-raw) (omega arith)); out = refl }
+    record { number = sym (refused-room c.args.p.now (length c.args.out.now) (sym c.if-not-invert.ensures.value) (omega arith)); out = refl }
 
-pub slice_bounds-copy_numbers-end-2 : goal.slice_bounds-copy_numbers-end-2
-slice_bounds-copy_numbers-end-2 c =
+pub slice_bounds-copy_front-end-2 : goal.slice_bounds-copy_front-end-2
+slice_bounds-copy_front-end-2 c =
     let ps = c.args.p.now in
-    let t = not-false _ c.if-not-invert.false-raw in
+    let t = c.if-not-invert.false in
     sym (ap length (front ps c.args.table.now c.invert.new.table (sym c.invert.ensures.value ∙ t) c.requires.p_in_bounds.0 (c.invert.ensures.table_after t)) ∙ length-inverse ps)
 
-pub copy_numbers-requires : goal.copy_numbers-requires
-copy_numbers-requires c =
+pub copy_front-requires : goal.copy_front-requires
+copy_front-requires c =
     let ps = c.args.p.now in
-    let t = not-false _ c.if-not-invert.false-raw in
+    let t = c.if-not-invert.false in
     omega (arith, ap length (front ps c.args.table.now c.invert.new.table (sym c.invert.ensures.value ∙ t) c.requires.p_in_bounds.0 (c.invert.ensures.table_after t)), length-inverse ps)
 
 pub returns : goal.returns
 returns c =
     let ps = c.args.p.now in
     let old = c.args.out.now in
-    let t = not-false _ c.if-not-invert.false-raw in
+    let t = c.if-not-invert.false in
     let p = sym c.invert.ensures.value ∙ t in record {
       number = sym (accepted ps (length old) p (omega arith));
-      out = c.copy_numbers.ensures
+      out = c.copy_front.ensures
           ∙ ap (λ (l : List ℕ). written l old) (front ps c.args.table.now c.invert.new.table p c.requires.p_in_bounds.0 (c.invert.ensures.table_after t));
     }

@@ -1,4 +1,3 @@
-use Prim.Native.Nat.{◌-◌, ◌≤◌}
 use mathlib.Core.Path.{◌≡◌}
 use lib.ListN.{length, drop}
 use lib.Dec.{ltb}
@@ -9,8 +8,5 @@ use Rattle.inverse_permutation.proofs.place.Given as goal
 -- the first k numbers are below the length and have been written
 abbrev pub invariant-loop-k : goal.invariant-loop-k
 invariant-loop-k l =
-    (l.k ≤ length l.p) × (length l.table ≡ length l.initial.table) × (all (λ x. ltb x (length l.p)) l.p ≡ all (λ x. ltb x (length l.p)) (drop l.k l.p))
+    (length l.table ≡ length l.initial.table) × (all (λ x. ltb x (length l.p)) l.p ≡ all (λ x. ltb x (length l.p)) (drop l.k l.p))
     × (scattered l.k (drop l.k l.p) l.table ≡ scattered 0 l.p l.initial.table)
-
-abbrev pub decreases-loop-k : goal.decreases-loop-k
-decreases-loop-k l = length l.p - l.k

@@ -15,7 +15,7 @@ use Rattle.layout.specs.Rows.Blocks.{block_rows}
 use Rattle.layout.specs.Joinings.Reverse.{add_columns}
 use Rattle.supernode_tree.specs.Reads.{pattern_at, cliques_from}
 use Rattle.supernode_tree.specs.declared.Pattern.{Pattern as Head}
-use Rattle.supernode_tree.specs.declared.PatternRead.TheVariants.{Pattern as Found}
+use Rattle.std.specs.Prelude.{Some}
 use Rattle.supernode_tree.proofs.Cliques.{right-head, starts_before}
 use Rattle.rows_blocks.specs.Cliques.{rows_here}
 use Rattle.rows_blocks.proofs.Patterns.{clique-sortable}
@@ -40,12 +40,12 @@ head h = h.here-p.result
 count : (h : tie.After-here-p) → clique_count (pattern (start h)) ≡ (head h).clique_count
 count h =
     let s = start h in
-    cliques-count s.args.words.now s.args.at (Found (head h)) s.requires.0.0 h.here-p.ensures.0 (head h) refl
+    cliques-count s.args.words.now s.args.at (Some (head h)) s.requires.0.0 h.here-p.ensures.0 (head h) refl
 
 few : (h : tie.After-here-p) → (head h).clique_count ≤ 256
 few h =
     let s = start h in
-    count-few s.args.words.now s.args.at (Found (head h)) s.requires.0.0 h.here-p.ensures.0 (head h) refl s.requires.0.1
+    count-few s.args.words.now s.args.at (Some (head h)) s.requires.0.0 h.here-p.ensures.0 (head h) refl s.requires.0.1
 
 -- the ordering is a part of the words
 ordering-ends : (h : tie.After-here-p) → (head h).ordering ≤ (head h).cliques
@@ -57,7 +57,7 @@ ordering h = take ((head h).cliques - (head h).ordering) (drop (head h).ordering
 ordering_here : (h : tie.After-here-p) → ordering h ≡ (pattern (start h)).ordering
 ordering_here h =
     let s = start h in
-    ordering-part s.args.words.now s.args.at (Found (head h)) s.requires.0.0 h.here-p.ensures.0 (head h) refl h.here-p.ensures.1
+    ordering-part s.args.words.now s.args.at (Some (head h)) s.requires.0.0 h.here-p.ensures.0 (head h) refl h.here-p.ensures.1
 
 covers : (h : tie.After-here-p) → triangle (length (ordering h)) ≤ length (start h).args.s_out.now
 covers h =
@@ -112,7 +112,7 @@ cliques h = cliques_from (start h).args.words.now (head h).cliques (head h).cliq
 cliques_are : (h : tie.After-here-p) → cliques h ≡ (pattern (start h)).cliques
 cliques_are h =
     let s = start h in
-    sym (ap (λ (p : Pattern). p.cliques) (pattern_here s.args.words.now s.args.at (Found (head h)) s.requires.0.0 h.here-p.ensures.0 (head h) refl))
+    sym (ap (λ (p : Pattern). p.cliques) (pattern_here s.args.words.now s.args.at (Some (head h)) s.requires.0.0 h.here-p.ensures.0 (head h) refl))
 
 up-rows : (h : tie.After-here-p) → rows_up (ordering h) (cliques h) ≡ own_rows true (pattern (start h))
 up-rows h =
@@ -140,7 +140,7 @@ join-cliques-up-requires c κs =
     let a = s.args in
     let p = pattern s in (
       (
-        cliques_here a.words.now a.at (Found (head h)) s.requires.0.0 h.here-p.ensures.0 (head h) refl,
+        cliques_here a.words.now a.at (Some (head h)) s.requires.0.0 h.here-p.ensures.0 (head h) refl,
         subst (λ (ordering : List ℕ). AllSortable ordering (cliques h)) (sym (ordering_here h))
             (subst (AllSortable p.ordering) (sym (cliques_are h)) (clique-sortable p s.requires.0.0 s.requires.0.1)),
       ),
@@ -204,7 +204,7 @@ standing : (o : tie.After-clique_offsets) → let s = start (read o) in StandAt 
 standing o =
     let h = read o in
     let s = start h in
-    stand_here s.args.words.now s.args.at (Found (head h)) s.requires.0.0 h.here-p.ensures.0 (head h) refl (offsets o) o.clique_offsets.ensures
+    stand_here s.args.words.now s.args.at (Some (head h)) s.requires.0.0 h.here-p.ensures.0 (head h) refl (offsets o) o.clique_offsets.ensures
 
 -- the rows of the cliques at the offsets are those of the pattern
 abbrev downward : tie.After-clique_offsets → List ℕ
@@ -225,7 +225,7 @@ clique-offsets-requires : tie.Need-clique_offsets-requires
 clique-offsets-requires c κs =
     let h = c.before.before in
     let s = start h in (
-      cliques_here s.args.words.now s.args.at (Found (head h)) s.requires.0.0 h.here-p.ensures.0 (head h) refl,
+      cliques_here s.args.words.now s.args.at (Some (head h)) s.requires.0.0 h.here-p.ensures.0 (head h) refl,
       le_trans (few h) s.requires.1.1.1.1.0.0,
     )
 

@@ -32,7 +32,7 @@ use native.Mathlib.Omega.{arith}
 use Rattle.layout.proofs.Patterns.WordCounts.{cliques-few}
 use Rattle.layout.proofs.Lists.Walks.{same_le}
 use Rattle.join_rows.proofs.join_parts.Goals as goal
-use Rattle.join_rows.proofs.join_parts.Goals.{In-Whole, In-Cut}
+use Rattle.join_rows.proofs.join_parts.Goals.{In-Some-Whole, In-Some-Cut}
 
 -- ---- numbers: n of those left belong to the next part
 
@@ -87,7 +87,7 @@ rows_of ps = sum (map cone_rows ps)
 
 -- ---- the next cone is not decomposed
 
-module _ (c : In-Whole) where
+module _ (c : In-Some-Whole) where
   abbrev left-whole : List Part
   left-whole = ahead c.args.cones.now c.args.words.now c.loop-rows.place
 
@@ -98,22 +98,22 @@ module _ (c : In-Whole) where
   whole_of = whole c.loop-rows.place.cone cone_of c.loop-rows.place.row
 
   abbrev after-whole : List Part
-  after-whole = ahead c.args.cones.now c.args.words.now c.in-Whole.next
+  after-whole = ahead c.args.cones.now c.args.words.now c.in-Some-Whole.next
 
   met_whole : left-whole ≡ whole_of ∷ after-whole
-  met_whole = c.in-Whole.ensures.self_value
+  met_whole = (rw c.in-Some-Whole.field-0-is at c.in-Some-Whole.ensures).self_value
 
   -- the cone's rows and values
-  rows_whole : c.loop-rows.row + c.in-Whole.rows ≤ c.args.m
+  rows_whole : c.loop-rows.row + c.in-Some-Whole.rows ≤ c.args.m
   rows_whole =
-      sum_fits c.loop-rows.row c.in-Whole.rows (cone_rows whole_of) (rows_of after-whole) (rows_of left-whole) c.args.m c.loop-rows.invariant.3 (ap rows_of met_whole) c.in-Whole.ensures.knows.0
+      sum_fits c.loop-rows.row c.in-Some-Whole.rows (cone_rows whole_of) (rows_of after-whole) (rows_of left-whole) c.args.m c.loop-rows.invariant.3 (ap rows_of met_whole) (rw c.in-Some-Whole.field-0-is at c.in-Some-Whole.ensures).knows.0
 
-  s_whole : c.loop-rows.t + c.in-Whole.rows ≤ length c.args.s.now
+  s_whole : c.loop-rows.t + c.in-Some-Whole.rows ≤ length c.args.s.now
   s_whole =
-      sum_fits c.loop-rows.t c.in-Whole.rows (cone_rows whole_of) (block_row_count after-whole) (block_row_count left-whole) (length c.args.s.now) c.loop-rows.invariant.4
-      (ap block_row_count met_whole) c.in-Whole.ensures.knows.0
+      sum_fits c.loop-rows.t c.in-Some-Whole.rows (cone_rows whole_of) (block_row_count after-whole) (block_row_count left-whole) (length c.args.s.now) c.loop-rows.invariant.4
+      (ap block_row_count met_whole) (rw c.in-Some-Whole.field-0-is at c.in-Some-Whole.ensures).knows.0
 
-  z_whole : c.loop-rows.t + c.in-Whole.rows ≤ length c.args.z.now
+  z_whole : c.loop-rows.t + c.in-Some-Whole.rows ≤ length c.args.z.now
   z_whole = le_same s_whole (same_count c.args.standard c.requires.joinable)
 
   -- the index of the cone's first value, which its map entry holds on the compact route
@@ -125,21 +125,21 @@ module _ (c : In-Whole) where
 
 -- ---- the next cone is decomposed
 
-module _ (c : In-Cut) where
+module _ (c : In-Some-Cut) where
   abbrev left-cut : List Part
   left-cut = ahead c.args.cones.now c.args.words.now c.loop-rows.place
 
   abbrev pattern_of : Pattern
-  pattern_of = pattern_at c.args.words.now c.in-Cut.at
+  pattern_of = pattern_at c.args.words.now c.in-Some-Cut.at
 
   abbrev cut_of : Part
   cut_of = cut c.loop-rows.place.cone c.loop-rows.place.row c.loop-rows.place.pattern pattern_of
 
   abbrev after-cut : List Part
-  after-cut = ahead c.args.cones.now c.args.words.now c.in-Cut.next
+  after-cut = ahead c.args.cones.now c.args.words.now c.in-Some-Cut.next
 
   met_cut : left-cut ≡ cut_of ∷ after-cut
-  met_cut = c.in-Cut.ensures.self_value
+  met_cut = (rw c.in-Some-Cut.field-0-is at c.in-Some-Cut.ensures).self_value
 
   -- the pattern names its cone
   named-cut : T (names_its_cone (records c.args.cones.now) pattern_of)
@@ -160,7 +160,7 @@ module _ (c : In-Cut) where
 
   -- there are at most 256 cliques
   cliques-cut : clique_count pattern_of ≤ 256
-  cliques-cut = let h = c.in-Cut.ensures.knows in le_trans (cliques-few pattern_of h.1) h.2
+  cliques-cut = let h = (rw c.in-Some-Cut.field-0-is at c.in-Some-Cut.ensures).knows in le_trans (cliques-few pattern_of h.1) h.2
 
   few-cut : block_rows pattern_of ≤ 262144
   few-cut = first-few (block_rows pattern_of) (block_row_count after-cut) (block_row_count left-cut) 262144 (ap block_row_count met_cut) c.loop-rows.invariant.5
@@ -201,50 +201,50 @@ loop-rows-init c =
       zero-le,
     )
 
-pub next-met-requires : goal.next-met-requires
-next-met-requires c = c.loop-rows.invariant.6
+pub next-requires : goal.next-requires
+next-requires c = c.loop-rows.invariant.6
 
 pub block_start-start-requires : goal.block_start-start-requires
-block_start-start-requires c = (here-whole (goal.at.block_start-start-requires c).In-Whole).0
+block_start-start-requires c = (here-whole (goal.at.block_start-start-requires c).In-Some-Whole).0
 
 pub join_whole-requires : goal.join_whole-requires
 join_whole-requires c =
-    let k = (goal.at.join_whole-requires c).In-Whole in
+    let k = (goal.at.join_whole-requires c).In-Some-Whole in
     let began : c.block_start-start.result ≡ c.loop-rows.t = c.block_start-start.ensures ∙ (here-whole k).1 in
-    (subst (λ (n : ℕ). n + c.in-Whole.rows ≤ length c.args.s.now) (sym began) (s_whole k), le_same (le_trans (rows_whole k) c.requires.m_in_bounds.0) c.loop-rows.invariant.0.size)
+    (subst (λ (n : ℕ). n + c.in-Some-Whole.rows ≤ length c.args.s.now) (sym began) (s_whole k), le_same (le_trans (rows_whole k) c.requires.m_in_bounds.0) c.loop-rows.invariant.0.size)
 
-pub join_whole-requires-in-Whole : goal.join_whole-requires-in-Whole
-join_whole-requires-in-Whole c =
-    let k = (goal.at.join_whole-requires-in-Whole c).In-Whole in
+pub join_whole-requires-in-Some-Whole : goal.join_whole-requires-in-Some-Whole
+join_whole-requires-in-Some-Whole c =
+    let k = (goal.at.join_whole-requires-in-Some-Whole c).In-Some-Whole in
     let began : c.block_start-start.result ≡ c.loop-rows.t = c.block_start-start.ensures ∙ (here-whole k).1 in
-    (subst (λ (n : ℕ). n + c.in-Whole.rows ≤ length c.args.z.now) (sym began) (z_whole k), le_same (le_trans (rows_whole k) c.requires.m_in_bounds.1) c.loop-rows.invariant.1.size)
+    (subst (λ (n : ℕ). n + c.in-Some-Whole.rows ≤ length c.args.z.now) (sym began) (z_whole k), le_same (le_trans (rows_whole k) c.requires.m_in_bounds.1) c.loop-rows.invariant.1.size)
 
 pub overflow_add-row : goal.overflow_add-row
-overflow_add-row c = omega (arith, rows_whole (goal.at.overflow_add-row c).In-Whole)
+overflow_add-row c = omega (arith, rows_whole (goal.at.overflow_add-row c).In-Some-Whole)
 
 pub overflow_add-t : goal.overflow_add-t
 overflow_add-t c =
-    let k = (goal.at.overflow_add-t c).In-Whole in
+    let k = (goal.at.overflow_add-t c).In-Some-Whole in
     let began : c.block_start-start.result ≡ c.loop-rows.t = c.block_start-start.ensures ∙ (here-whole k).1 in
-    fits_count 8 (subst (λ (n : ℕ). n + c.in-Whole.rows ≤ length c.args.s.now) (sym began) (s_whole k)) c.well_formed.1.1.1.1.1.1.0
+    fits_count 8 (subst (λ (n : ℕ). n + c.in-Some-Whole.rows ≤ length c.args.s.now) (sym began) (s_whole k)) c.well_formed.1.1.1.1.1.1.0
 
 pub overflow_add-entry : goal.overflow_add-entry
-overflow_add-entry c = omega (arith, c.loop-rows.invariant.10, c.in-Whole.ensures.knows.2)
+overflow_add-entry c = omega (arith, c.loop-rows.invariant.10, (rw c.in-Some-Whole.field-0-is at c.in-Some-Whole.ensures).knows.2)
 
-pub loop-rows-smaller-in-Whole : goal.loop-rows-smaller-in-Whole
-loop-rows-smaller-in-Whole c = omega (arith, ap length c.in-Whole.ensures.self_value)
+pub loop-rows-smaller-in-Some-Whole : goal.loop-rows-smaller-in-Some-Whole
+loop-rows-smaller-in-Some-Whole c = omega (arith, ap length (rw c.in-Some-Whole.field-0-is at c.in-Some-Whole.ensures).self_value)
 
-pub loop-rows-preserved-in-Whole : goal.loop-rows-preserved-in-Whole
-loop-rows-preserved-in-Whole c =
-    let k = (goal.at.loop-rows-preserved-in-Whole c).In-Whole in
+pub loop-rows-preserved-in-Some-Whole : goal.loop-rows-preserved-in-Some-Whole
+loop-rows-preserved-in-Some-Whole c =
+    let k = (goal.at.loop-rows-preserved-in-Some-Whole c).In-Some-Whole in
     let began : c.block_start-start.result ≡ c.loop-rows.t = c.block_start-start.ensures ∙ (here-whole k).1 in
     let v = c.join_whole in
-    let w = c.join_whole-in-Whole in
+    let w = c.join_whole-in-Some-Whole in
     let a = c.args in
     let q = c.loop-rows.place in
     let e = met_whole k in
-    let n = c.in-Whole.rows in
-    let h = c.in-Whole.ensures.knows in
+    let n = c.in-Some-Whole.rows in
+    let h = (rw c.in-Some-Whole.field-0-is at c.in-Some-Whole.ensures).knows in
     let row = c.loop-rows.row in
     let t = c.loop-rows.t in
     let ps = joined_parts a.cones.now a.count a.words.now in
@@ -266,23 +266,23 @@ loop-rows-preserved-in-Whole c =
       from (λ (j : ℕ). Starts a.standard a.map.now (c.loop-rows.entry + 1) (j + n) (block_sizes (after-whole k)))
           (subst (λ (r : ℕ). Starts a.standard a.map.now (c.loop-rows.entry + 1) (t + r) (block_sizes (after-whole k))) (sym h.0)
           (starts-next a.standard a.map.now c.loop-rows.entry t (row_count (cone_of k)) (block_sizes (after-whole k)) (starts-whole k))),
-      more_entries c.loop-rows.entry 1 q.cone c.in-Whole.next.cone c.loop-rows.invariant.10 (lit≤ tt) h.4,
+      more_entries c.loop-rows.entry 1 q.cone c.in-Some-Whole.next.cone c.loop-rows.invariant.10 (lit≤ tt) h.4,
     )
 
 pub cone_rows-n-requires : goal.cone_rows-n-requires
-cone_rows-n-requires c = let h = c.in-Cut.ensures.knows in (h.1, h.2)
+cone_rows-n-requires c = let h = (rw c.in-Some-Cut.field-0-is at c.in-Some-Cut.ensures).knows in (h.1, h.2)
 
 pub slice_bounds-join_cut-end : goal.slice_bounds-join_cut-end
 slice_bounds-join_cut-end c = sym c.loop-rows.invariant.7
 
-pub slice_bounds-join_cut-end-in-Cut : goal.slice_bounds-join_cut-end-in-Cut
-slice_bounds-join_cut-end-in-Cut c = sym c.loop-rows.invariant.8
+pub slice_bounds-join_cut-end-in-Some-Cut : goal.slice_bounds-join_cut-end-in-Some-Cut
+slice_bounds-join_cut-end-in-Some-Cut c = sym c.loop-rows.invariant.8
 
 pub join_cut-t-requires : goal.join_cut-t-requires
 join_cut-t-requires c =
-    let k = (goal.at.join_cut-t-requires c).In-Cut in
+    let k = (goal.at.join_cut-t-requires c).In-Some-Cut in
     let a = c.args in
-    let h = c.in-Cut.ensures.knows in
+    let h = (rw c.in-Some-Cut.field-0-is at c.in-Some-Cut.ensures).knows in
     let n = c.cone_rows-n.result in
     let rows = rows_cut k n c.cone_rows-n.ensures in
     record {
@@ -298,22 +298,22 @@ join_cut-t-requires c =
       starts = ((starts-cut k).0, few-entries c.loop-rows.entry c.loop-rows.place.cone c.loop-rows.invariant.10 h.4);
     }
 
-pub overflow_add-row-in-Cut : goal.overflow_add-row-in-Cut
-overflow_add-row-in-Cut c = omega (arith, rows_cut (goal.at.overflow_add-row-in-Cut c).In-Cut c.cone_rows-n.result c.cone_rows-n.ensures)
+pub overflow_add-row-in-Some-Cut : goal.overflow_add-row-in-Some-Cut
+overflow_add-row-in-Some-Cut c = omega (arith, rows_cut (goal.at.overflow_add-row-in-Some-Cut c).In-Some-Cut c.cone_rows-n.result c.cone_rows-n.ensures)
 
 pub clique_count-requires : goal.clique_count-requires
-clique_count-requires c = c.in-Cut.ensures.knows.1
+clique_count-requires c = (rw c.in-Some-Cut.field-0-is at c.in-Some-Cut.ensures).knows.1
 
-pub overflow_add-entry-in-Cut : goal.overflow_add-entry-in-Cut
-overflow_add-entry-in-Cut c =
-    omega (arith, c.loop-rows.invariant.10, c.in-Cut.ensures.knows.4, cliques-cut (goal.at.overflow_add-entry-in-Cut c).In-Cut, c.clique_count.ensures)
+pub overflow_add-entry-in-Some-Cut : goal.overflow_add-entry-in-Some-Cut
+overflow_add-entry-in-Some-Cut c =
+    omega (arith, c.loop-rows.invariant.10, (rw c.in-Some-Cut.field-0-is at c.in-Some-Cut.ensures).knows.4, cliques-cut (goal.at.overflow_add-entry-in-Some-Cut c).In-Some-Cut, c.clique_count.ensures)
 
 pub loop-rows-smaller : goal.loop-rows-smaller
-loop-rows-smaller c = omega (arith, ap length c.in-Cut.ensures.self_value)
+loop-rows-smaller c = omega (arith, ap length (rw c.in-Some-Cut.field-0-is at c.in-Some-Cut.ensures).self_value)
 
 pub loop-rows-preserved : goal.loop-rows-preserved
 loop-rows-preserved c =
-    let k = (goal.at.loop-rows-preserved c).In-Cut in
+    let k = (goal.at.loop-rows-preserved c).In-Some-Cut in
     let count = c.clique_count in
     let a = c.args in
     let p = pattern_of k in
@@ -334,13 +334,13 @@ loop-rows-preserved c =
       sum-next row c.cone_rows-n.result (triangle p.vertex_count) (rows_of (after-cut k)) (rows_of (left-cut k)) a.m c.loop-rows.invariant.3 (ap rows_of e) n,
       values-next t w.result (block_rows p) (block_row_count (after-cut k)) (block_row_count (left-cut k)) (length a.s.now) c.loop-rows.invariant.4 (ap block_row_count e) w.ensures.value,
       rest-few (block_rows p) (block_row_count (after-cut k)) (block_row_count (left-cut k)) 262144 (ap block_row_count e) c.loop-rows.invariant.5,
-      c.in-Cut.ensures.knows.6,
+      (rw c.in-Some-Cut.field-0-is at c.in-Some-Cut.ensures).knows.6,
       ◌∙◌ {b = length c.loop-rows.offsets} w.auto.offsets c.loop-rows.invariant.7,
       ◌∙◌ {b = length c.loop-rows.vertices} w.auto.vertices c.loop-rows.invariant.8,
       subst (λ (n : ℕ). Starts a.standard a.map.now (c.loop-rows.entry + n) w.result (block_sizes (after-cut k))) (sizes-count p ∙ sym count.ensures)
           (subst (λ (n : ℕ). Starts a.standard a.map.now (c.loop-rows.entry + length (down_sizes p)) n (block_sizes (after-cut k)))
           (ap (λ (n : ℕ). t + n) (sizes-sum p) ∙ sym w.ensures.value) (starts-cut k).1),
-      more_entries c.loop-rows.entry count.result c.loop-rows.place.cone c.in-Cut.next.cone c.loop-rows.invariant.10 (same_le count.ensures (cliques-cut k)) c.in-Cut.ensures.knows.5,
+      more_entries c.loop-rows.entry count.result c.loop-rows.place.cone c.in-Some-Cut.next.cone c.loop-rows.invariant.10 (same_le count.ensures (cliques-cut k)) (rw c.in-Some-Cut.field-0-is at c.in-Some-Cut.ensures).knows.5,
     )
 
 pub shape_of-s_out : goal.shape_of-s_out
@@ -357,7 +357,7 @@ returns c =
     let a = c.args in
     let ps = joined_parts a.cones.now a.count a.words.now in
     let left : List Part = ahead a.cones.now a.words.now c.loop-rows.place in
-    let none : left ≡ [] = c.in-Done.ensures.self_value in
+    let none : left ≡ [] = c.in-None.ensures.self_value in
     let all : c.loop-rows.row ≡ a.m = sum_done c.loop-rows.row (rows_of left) a.m c.loop-rows.invariant.3 (ap rows_of none) in
     record {
       s_out_after = by_same (λ (xs : List Float). written xs a.s_out.now)

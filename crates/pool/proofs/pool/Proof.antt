@@ -1,7 +1,9 @@
 use mathlib.Core.Path.{◌≡◌, refl, sym, ap, ◌∙◌}
 use mathlib.Core.List.{List}
-use Prim.Native.Nat.{ℕ}
+use Prim.Native.Nat.{ℕ, ◌≤◌}
 use lib.Ieee.{Float}
+use lib.ListN.{length}
+use borrow.Author.Rules.{rules}
 use Rattle.layout.specs.General.Lists.{written}
 use Rattle.layout.specs.Problems.Problem.{Problem, problem}
 use Rattle.layout.specs.Calls.Pool.{pool, pool_refusal}
@@ -61,11 +63,12 @@ copy-matrix-requires c κs =
     let f = pool-fits (given s) (given2 s) (lent s) (accepted e) in
     (f.p_starts, f.p_rows, f.p_values)
 
-copy-values-requires : tie.Need-copy_values-requires
+copy-values-requires : tie.Need-copy_front-requires
 copy-values-requires c κs =
     let e = c.before.before.before.before.before.before.before.before.before.before.before in
     let s = start e.before in
-    (pool-fits (given s) (given2 s) (lent s) (accepted e)).q
+    let h : length s.args.q.now ≤ length s.args.q_out.now = (pool-fits (given s) (given2 s) (lent s) (accepted e)).q in
+    search rules
 
 write-constraints-requires : tie.Need-write_constraints-requires
 write-constraints-requires c κs =
@@ -109,7 +112,7 @@ same-length-3 : tie.Need-shape_of-p_values_out
 same-length-3 c = c.copy_matrix.auto.values_out
 
 same-length-4 : tie.Need-shape_of-q_out
-same-length-4 c = c.copy_values.auto.out
+same-length-4 c = c.copy_front.auto.out
 
 same-length-5 : tie.Need-shape_of-a_starts_out
 same-length-5 c = c.write_constraints.auto.a_starts_out
@@ -150,7 +153,7 @@ returns-2 c =
           p_starts = o.copy_matrix.ensures.0;
           p_rows = o.copy_matrix.ensures.1.0;
           p_values = o.copy_matrix.ensures.1.1;
-          q = v.copy_values.ensures;
+          q = v.copy_front.ensures;
           alphas = y.write_layout.ensures.1.0;
         };
         constrained = record {

@@ -10,4 +10,4 @@ pub returns : goal.returns
 returns c =
     let a = c.args in
     written_after a.xs.now (raised a.k a.ys.now) a.out.now (length a.xs.now) refl
-    (omega (arith, c.requires.ys_in_bounds, length-map a.ys.now (λ y. a.k + y))) c.copy_numbers.ensures c.raise_numbers.ensures
+    (omega (arith, c.requires.ys_in_bounds, length-map a.ys.now (λ y. a.k + y))) c.copy_front.ensures c.raise_numbers.ensures

@@ -12,8 +12,8 @@ pub stack_values-requires : goal.stack_values-requires
 stack_values-requires c =
     let f = c.requires in record { starts_of = (f.starts.1, f.starts2.1); values2_in_bounds = f.a_values }
 
-pub append_values-requires : goal.append_values-requires
-append_values-requires c = c.requires.b
+pub append-requires : goal.append-requires
+append-requires c = c.requires.b
 
 pub returns : goal.returns
 returns c =
@@ -21,5 +21,5 @@ returns c =
       a_starts = c.stack_starts.ensures;
       a_rows = c.stack_rows.ensures;
       a_values = c.stack_values.ensures;
-      b = c.append_values.ensures;
+      b = c.append.ensures;
     }

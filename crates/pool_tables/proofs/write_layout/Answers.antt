@@ -13,8 +13,8 @@ write_words-requires c =
 pub returns : goal.returns
 returns c =
     let a = c.args in record {
-      cones_out_after = c.append_numbers.ensures;
-      alphas_out_after = c.append_values.ensures;
+      cones_out_after = c.append.ensures;
+      alphas_out_after = c.append-2.ensures;
       words_out_after = c.write_words.ensures
           ∙ ap (λ (i : ℕ). written (a.words.now ++ raised_words i (patterns a.count2 a.words2.now)) a.words_out.now) c.record_count-k.ensures;
     }

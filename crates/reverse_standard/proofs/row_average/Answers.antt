@@ -1,19 +1,9 @@
-use Prim.Native.Nat.{ℕ, zero, suc, ◌<◌}
-use native.Mathlib.Omega.{arith}
-use mathlib.Core.Path.{◌≡◌, refl, sym, ap, subst, ◌∙◌}
-use mathlib.Core.Bool.{Bool, true, false, cond}
-use lib.Dec.{T, ltb}
-use lib.IntN.{pos}
+use Rattle.std.proofs.Common.{ℕ, ◌≡◌, Bool, true, false, refl, sym, ap, subst, ◌∙◌, cond, ltb, pos}
+use lib.Dec.{T}
 use lib.Ieee.{Float, div, of_int, fits, binary64}
-use borrow.Author.Tests.{lt-ltb}
 use Rattle.layout.proofs.Floats.Division.{divided_by_one}
 use Rattle.reverse_standard.specs.Averages.{shared}
 use Rattle.reverse_standard.proofs.row_average.Goals as goal
-
-above : (k : ℕ) → 0 < cond (ltb 1 k) k 1
-above zero = omega arith
-above (suc zero) = omega arith
-above (suc (suc k)) = rw (lt-ltb 1 (suc (suc k)) (omega arith)) (omega arith)
 
 -- the quotient by the divisor that is never 0 is the average
 average : (k : ℕ) (v : Float) → T (fits binary64 v) → div binary64 v (of_int binary64 (pos (cond (ltb 1 k) k 1))) ≡ shared k v
@@ -22,9 +12,6 @@ average k v t = go (ltb 1 k)
     go : (b : Bool) → div binary64 v (of_int binary64 (pos (cond b k 1))) ≡ cond b (div binary64 v (of_int binary64 (pos k))) v
     go true = refl
     go false = divided_by_one v t
-
-pub quotient-requires : goal.quotient-requires
-quotient-requires c = subst (λ (k : ℕ). 0 < k) (sym c.at_least_one.ensures) (above c.args.count)
 
 pub returns : goal.returns
 returns c =

@@ -1,4 +1,4 @@
-use Prim.Native.Nat.{◌+◌, ◌-◌}
+use Prim.Native.Nat.{◌+◌}
 use mathlib.Core.Path.{sym, ap, ◌∙◌}
 use mathlib.Core.Bool.{Bool, ◌&&◌, and-true, and-false}
 use lib.ListN.{drop}
@@ -8,7 +8,7 @@ use native.Mathlib.Omega.{arith}
 use lib.Dec.{eqb}
 use borrow.Author.Tests.{eq-eqb, ne_eqb}
 use Rattle.same_tables.proofs.same_numbers.Goals as goal
-use Rattle.same_tables.proofs.same_numbers.Goals.{then-xs-i, else-xs-i}
+use Rattle.same_tables.proofs.same_numbers.Goals.{then-x-ys, else-x-ys}
 
 pub returns-then-xs-ys : goal.returns-then-xs-ys
 returns-then-xs-ys c = sym (same_lengths eqb c.args.xs.now c.args.ys.now c.if-xs-ys.true)
@@ -20,12 +20,12 @@ loop-i-preserved c =
     let i = c.loop-i.i in
     let left : Bool → Bool = λ b. c.loop-i.same && b in
     let next : Bool → Bool = λ b. b && same_numbers (drop (i + 1) xs) (drop (i + 1) ys) in
-    elim c.if-xs-i.branch [
-      | then-xs-i w ↦ (omega arith, c.loop-i.invariant.1 ∙ ap left (same_miss eqb xs ys 0 i (omega arith) (omega arith) (ne_eqb _ _ w.if-xs-i.true)) ∙ and-false c.loop-i.same ∙ ap next (sym w.same-is))
-      | else-xs-i w ↦ (omega arith, c.loop-i.invariant.1 ∙ ap left (same_step eqb xs ys 0 i (omega arith) (omega arith) (eq-eqb _ _ w.if-xs-i.false)) ∙ ap next (sym w.same-is))
+    elim c.if-x-ys.branch [
+      | then-x-ys w ↦ (c.loop-i.invariant ∙ ap left (same_miss eqb xs ys 0 i (omega arith) (omega arith) (ne_eqb _ _ w.if-x-ys.true)) ∙ and-false c.loop-i.same ∙ ap next (sym w.same-is))
+      | else-x-ys w ↦ (c.loop-i.invariant ∙ ap left (same_step eqb xs ys 0 i (omega arith) (omega arith) (eq-eqb _ _ w.if-x-ys.false)) ∙ ap next (sym w.same-is))
     ]
 
 pub returns : goal.returns
 returns c =
     let left : Bool → Bool = λ b. c.loop-i.same && b in
-    sym (c.loop-i.invariant.1 ∙ ap left (same_done eqb c.args.xs.now c.args.ys.now c.loop-i.i (omega arith) (omega arith)) ∙ and-true c.loop-i.same)
+    sym (c.loop-i.invariant ∙ ap left (same_done eqb c.args.xs.now c.args.ys.now c.loop-i.i (omega arith) (omega arith)) ∙ and-true c.loop-i.same)

@@ -1,4 +1,4 @@
-use Prim.Native.Nat.{◌+◌, ◌-◌}
+use Prim.Native.Nat.{◌+◌}
 use mathlib.Core.Path.{sym, ap, ◌∙◌}
 use mathlib.Core.Bool.{Bool, ◌&&◌, and-true, and-false}
 use lib.ListN.{drop}
@@ -21,12 +21,12 @@ loop-i-preserved c =
     let left : Bool → Bool = λ b. c.loop-i.holds && b in
     let next : Bool → Bool = λ b. b && same_by le (drop (i + 1) low) (drop (i + 1) high) in
     elim c.if-not-low-i.branch [
-      | then-not-low-i w ↦ (omega arith, c.loop-i.invariant.1 ∙ ap left (same_miss le low high nan i (omega arith) (omega arith) w.if-not-low-i.true) ∙ and-false c.loop-i.holds ∙ ap next (sym w.holds-is))
-      | else-not-low-i w ↦ (omega arith, c.loop-i.invariant.1 ∙ ap left (same_step le low high nan i (omega arith) (omega arith) w.if-not-low-i.false) ∙ ap next (sym w.holds-is))
+      | then-not-low-i w ↦ c.loop-i.invariant ∙ ap left (same_miss le low high nan i (omega arith) (omega arith) w.if-not-low-i.true) ∙ and-false c.loop-i.holds ∙ ap next (sym w.holds-is)
+      | else-not-low-i w ↦ c.loop-i.invariant ∙ ap left (same_step le low high nan i (omega arith) (omega arith) w.if-not-low-i.false) ∙ ap next (sym w.holds-is)
     ]
 
 pub returns : goal.returns
 returns c =
     let a = c.args in
     let left : Bool → Bool = λ b. c.loop-i.holds && b in
-    sym (c.loop-i.invariant.1 ∙ ap left (same_done le a.low.now a.high.now c.loop-i.i (omega arith) (omega arith)) ∙ and-true c.loop-i.holds)
+    sym (c.loop-i.invariant ∙ ap left (same_done le a.low.now a.high.now c.loop-i.i (omega arith) (omega arith)) ∙ and-true c.loop-i.holds)

@@ -1,4 +1,4 @@
-use Prim.Native.Nat.{ℕ, ◌-◌}
+use Prim.Native.Nat.{ℕ}
 use native.Mathlib.Omega.{arith}
 use mathlib.Core.Path.{◌≡◌, sym, ◌∙◌}
 use mathlib.Core.List.{map}
@@ -21,17 +21,16 @@ loop-r-preserved c =
     let size : length (map value codes) ≡ length codes = length-map codes value in
     let e : c.code_value.result ≡ get_or (map value codes) c.loop-r.r nan =
     c.code_value.ensures ∙ sym (get_or_map value codes c.loop-r.r 0 nan (omega arith)) in (
-      omega arith,
-      simp length-set c.loop-r.invariant.1,
-      rw (c.loop-r.invariant.2, e) (copy_more (map value codes) a.out.now c.loop-r.r nan (omega arith) (omega (arith, c.requires.0))),
+      simp length-set c.loop-r.invariant.0,
+      rw (c.loop-r.invariant.1, e) (copy_more (map value codes) a.out.now c.loop-r.r nan (omega arith) (omega (arith, c.requires.0))),
     )
 
 pub shape_of-out : goal.shape_of-out
-shape_of-out c = c.loop-r.invariant.1
+shape_of-out c = c.loop-r.invariant.0
 
 pub returns : goal.returns
 returns c =
     let a = c.args in
     let src = map (code_value a.b.now) a.codes.now in
-    c.loop-r.invariant.2
+    c.loop-r.invariant.1
     ∙ copy_done src a.out.now c.loop-r.r (omega (arith, length-map a.codes.now (code_value a.b.now), c.loop-r-test.false))

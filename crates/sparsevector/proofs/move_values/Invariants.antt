@@ -1,4 +1,3 @@
-use Prim.Native.Nat.{◌≤◌, ◌-◌}
 use mathlib.Core.Path.{◌≡◌}
 use mathlib.Core.List.{map}
 use lib.ListN.{length, take}
@@ -7,8 +6,4 @@ use Rattle.sparsevector.specs.Values.{code_value}
 use Rattle.sparsevector.proofs.move_values.Given as goal
 
 abbrev pub invariant-loop-r : goal.invariant-loop-r
-invariant-loop-r l =
-    (l.r ≤ length l.codes) × (length l.out ≡ length l.initial.out) × (l.out ≡ written (take l.r (map (code_value l.b) l.codes)) l.initial.out)
-
-abbrev pub decreases-loop-r : goal.decreases-loop-r
-decreases-loop-r l = length l.codes - l.r
+invariant-loop-r l = (length l.out ≡ length l.initial.out) × (l.out ≡ written (take l.r (map (code_value l.b) l.codes)) l.initial.out)

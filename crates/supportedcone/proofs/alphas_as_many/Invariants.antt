@@ -1,14 +1,10 @@
 use mathlib.Core.Path.{◌≡◌}
 use mathlib.Core.List.{map}
-use Prim.Native.Nat.{◌-◌, ◌≤◌}
+use Prim.Native.Nat.{◌≤◌}
 use lib.ListN.{length, take}
 use Rattle.layout.specs.General.Lists.{sum}
 use Rattle.layout.specs.Problems.Cones.{records, alpha_count}
 use Rattle.supportedcone.proofs.alphas_as_many.Given as goal
 
 abbrev pub invariant-loop-i : goal.invariant-loop-i
-invariant-loop-i l =
-    (l.i ≤ l.count) × (l.next ≡ sum (map alpha_count (take l.i (records l.cones)))) × (l.next ≤ length l.alphas)
-
-abbrev pub decreases-loop-i : goal.decreases-loop-i
-decreases-loop-i l = l.count - l.i
+invariant-loop-i l = (l.next ≡ sum (map alpha_count (take l.i (records l.cones)))) × (l.next ≤ length l.alphas)

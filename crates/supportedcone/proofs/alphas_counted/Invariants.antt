@@ -1,14 +1,10 @@
 use mathlib.Core.Path.{◌≡◌}
 use mathlib.Core.List.{map}
-use Prim.Native.Nat.{◌-◌, ◌≤◌}
+use Prim.Native.Nat.{◌≤◌}
 use lib.ListN.{take}
 use Rattle.layout.specs.General.Lists.{sum}
 use Rattle.layout.specs.Problems.Cones.{records, alpha_count}
 use Rattle.supportedcone.proofs.alphas_counted.Given as goal
 
 abbrev pub invariant-loop-i : goal.invariant-loop-i
-invariant-loop-i l =
-    (l.i ≤ l.records) × (l.next ≡ sum (map alpha_count (take l.i (records l.cones)))) × (l.next ≤ l.count)
-
-abbrev pub decreases-loop-i : goal.decreases-loop-i
-decreases-loop-i l = l.records - l.i
+invariant-loop-i l = (l.next ≡ sum (map alpha_count (take l.i (records l.cones)))) × (l.next ≤ l.count)

@@ -12,7 +12,7 @@ use Rattle.layout.specs.Checks.{no_cone, sizes_bounded, cones_bounded, cones_rea
 use Rattle.layout.specs.Problems.Cones.{records, reads, row_count}
 use Rattle.supportedcone.specs.Ranges.{row_total}
 use Rattle.supportedcone.specs.declared.SupportedCone.{SupportedCone}
-use Rattle.supportedcone.specs.declared.ReadCone.TheVariants.{Is}
+use Rattle.std.specs.declared.option.Option.TheVariants.{Some}
 use Rattle.supportedcone.specs.Cases.{told, record_of, record_at, reads_as}
 use Rattle.layout.proofs.Lists.Walks.{all-step, all_fails, all_done}
 use Rattle.supportedcone.proofs.Steps.{total_more, total-done}
@@ -23,7 +23,7 @@ use native.Mathlib.Omega.{arith}
 use Rattle.supportedcone.proofs.check_cones.Goals as goal
 
 -- the cone's row count, with bounds on it and on the number of records
-counted : (s : SupportedCone) (ws : List ℕ) (i n : ℕ) (α : Float) → cones_bounded ws ≡ true → told (Is s) ≡ reads_as (record_at ws i) α
+counted : (s : SupportedCone) (ws : List ℕ) (i n : ℕ) (α : Float) → cones_bounded ws ≡ true → told (Some s) ≡ reads_as (record_at ws i) α
     → n ≡ row_count (record_of s)
     → (n ≡ row_count (record_at ws i)) × (row_count (record_at ws i) ≤ 131072) × (length (records ws) ≤ 1024)
 counted s ws i n α b read e =
@@ -45,43 +45,42 @@ returns-then-count-cones c =
 pub loop-i-init : goal.loop-i-init
 loop-i-init c =
     let ws = c.args.cones.now in
-    (omega arith, refl, omega arith, rw (whole ws (sym (ap (λ (n : ℕ). n * 3) c.record_count-count.ensures) ∙ c.if-count-cones.false)))
+    (refl, omega arith, rw (whole ws (sym (ap (λ (n : ℕ). n * 3) c.record_count-count.ensures) ∙ c.if-count-cones.false)))
 
 pub returns-in_default : goal.returns-in_default
 returns-in_default c =
     let cs = records c.args.cones.now in
-    let bad = told_bad (record_at c.args.cones.now c.loop-i.i) _ (ap told (sym c.in_default.is) ∙ c.cone_at.ensures) in
-    sym (ap (λ (b : Bool). cond b 0 4) (c.loop-i.invariant.3 ∙ ap (λ (b : Bool). b && eqb (row_total cs) c.args.m) (all_fails reads cs c.loop-i.i no_cone (omega arith) bad)))
+    let bad = told_bad (record_at c.args.cones.now c.loop-i.i) _ c.in_default.ensures in
+    sym (ap (λ (b : Bool). cond b 0 4) (c.loop-i.invariant.2 ∙ ap (λ (b : Bool). b && eqb (row_total cs) c.args.m) (all_fails reads cs c.loop-i.i no_cone (omega arith) bad)))
 
 pub nvars-rows-requires : goal.nvars-rows-requires
 nvars-rows-requires c =
-    ap sizes_bounded (told_is c.in-Is.cone (record_at c.args.cones.now c.loop-i.i) _ (ap told (sym c.in-Is.is) ∙ c.cone_at.ensures)).1
+    ap sizes_bounded (told_is c.in-Some.cone (record_at c.args.cones.now c.loop-i.i) _ c.in-Some.ensures).1
     ∙ bounded_at c.args.cones.now c.loop-i.i c.requires
 
 pub overflow_add-rows : goal.overflow_add-rows
 overflow_add-rows c =
-    omega (arith, counted c.in-Is.cone c.args.cones.now c.loop-i.i c.nvars-rows.result _ c.requires (ap told (sym c.in-Is.is) ∙ c.cone_at.ensures) c.nvars-rows.ensures)
+    omega (arith, counted c.in-Some.cone c.args.cones.now c.loop-i.i c.nvars-rows.result _ c.requires c.in-Some.ensures c.nvars-rows.ensures)
 
 pub loop-i-preserved : goal.loop-i-preserved
 loop-i-preserved c =
     let cs = records c.args.cones.now in
-    let read = ap told (sym c.in-Is.is) ∙ c.cone_at.ensures in
-    let k = counted c.in-Is.cone c.args.cones.now c.loop-i.i c.nvars-rows.result _ c.requires read c.nvars-rows.ensures in (
-      omega arith,
+    let read = c.in-Some.ensures in
+    let k = counted c.in-Some.cone c.args.cones.now c.loop-i.i c.nvars-rows.result _ c.requires read c.nvars-rows.ensures in (
       omega (arith, k, total_more row_count cs c.loop-i.i no_cone (omega arith)),
       omega (arith, k),
-      c.loop-i.invariant.3 ∙ ap (λ (b : Bool). b && eqb (row_total cs) c.args.m)
-          (all-step reads cs c.loop-i.i no_cone (omega arith) (told_is c.in-Is.cone (record_at c.args.cones.now c.loop-i.i) _ read).0),
+      c.loop-i.invariant.2 ∙ ap (λ (b : Bool). b && eqb (row_total cs) c.args.m)
+          (all-step reads cs c.loop-i.i no_cone (omega arith) (told_is c.in-Some.cone (record_at c.args.cones.now c.loop-i.i) _ read).0),
     )
 
 pub returns-then-rows-m : goal.returns-then-rows-m
 returns-then-rows-m c =
     let ws = c.args.cones.now in
-    let all-rows = c.loop-i.invariant.1 ∙ total-done row_count (records ws) c.loop-i.i (omega arith) in
-    sym (ap (λ (b : Bool). cond b 0 4) (left_over c.args.m ws c.loop-i.i c.loop-i.invariant.3 (omega arith) ∙ ne_eqb _ _ (λ e. c.if-rows-m.true (all-rows ∙ e))))
+    let all-rows = c.loop-i.invariant.0 ∙ total-done row_count (records ws) c.loop-i.i (omega arith) in
+    sym (ap (λ (b : Bool). cond b 0 4) (left_over c.args.m ws c.loop-i.i c.loop-i.invariant.2 (omega arith) ∙ ne_eqb _ _ (λ e. c.if-rows-m.true (all-rows ∙ e))))
 
 pub returns : goal.returns
 returns c =
     let ws = c.args.cones.now in
-    let all-rows = c.loop-i.invariant.1 ∙ total-done row_count (records ws) c.loop-i.i (omega arith) in
-    sym (ap (λ (b : Bool). cond b 0 4) (left_over c.args.m ws c.loop-i.i c.loop-i.invariant.3 (omega arith) ∙ eq-eqb _ _ (sym all-rows ∙ c.if-rows-m.false)))
+    let all-rows = c.loop-i.invariant.0 ∙ total-done row_count (records ws) c.loop-i.i (omega arith) in
+    sym (ap (λ (b : Bool). cond b 0 4) (left_over c.args.m ws c.loop-i.i c.loop-i.invariant.2 (omega arith) ∙ eq-eqb _ _ (sym all-rows ∙ c.if-rows-m.false)))

@@ -1,6 +1,6 @@
 use mathlib.Core.Path.{◌≡◌}
 use mathlib.Core.Bool.{◌&&◌}
-use Prim.Native.Nat.{◌*◌, ◌-◌, ◌≤◌}
+use Prim.Native.Nat.{◌*◌, ◌≤◌}
 use lib.Dec.{eqb}
 use lib.ListN.{take, drop}
 use Rattle.layout.specs.General.Lists.{all}
@@ -11,8 +11,5 @@ use Rattle.supportedcone.proofs.check_cones.Given as goal
 
 abbrev pub invariant-loop-i : goal.invariant-loop-i
 invariant-loop-i l =
-    (l.i ≤ l.count) × (l.rows ≡ row_total (take l.i (records l.cones))) × (l.rows ≤ 131072 * l.i)
+    (l.rows ≡ row_total (take l.i (records l.cones))) × (l.rows ≤ 131072 * l.i)
     × (cones_read l.m l.cones ≡ (all reads (drop l.i (records l.cones)) && eqb (row_total (records l.cones)) l.m))
-
-abbrev pub decreases-loop-i : goal.decreases-loop-i
-decreases-loop-i l = l.count - l.i

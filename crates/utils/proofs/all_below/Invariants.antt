@@ -1,14 +1,10 @@
 use Rattle.layout.specs.General.Lists.{all}
-use lib.ListN.{length, drop}
+use lib.ListN.{drop}
 use lib.Dec.{ltb}
-use Prim.Native.Nat.{◌-◌, ◌≤◌}
 use mathlib.Core.Path.{◌≡◌}
 use mathlib.Core.Bool.{◌&&◌}
 use Rattle.utils.proofs.all_below.Given as goal
 
--- `holds` is whether the first i numbers are below n
-abbrev pub invariant-loop-i : goal.invariant-loop-i
-invariant-loop-i l = (l.i ≤ length l.words) × (all (λ x. ltb x l.n) l.words ≡ (l.holds && all (λ x. ltb x l.n) (drop l.i l.words)))
-
-abbrev pub decreases-loop-i : goal.decreases-loop-i
-decreases-loop-i l = length l.words - l.i
+-- `holds` is whether the numbers so far are below n
+abbrev pub invariant-loop-word : goal.invariant-loop-word
+invariant-loop-word l = all (λ x. ltb x l.n) l.words ≡ (l.holds && all (λ x. ltb x l.n) (drop l.word-index l.words))

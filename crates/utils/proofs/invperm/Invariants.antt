@@ -1,4 +1,3 @@
-use Prim.Native.Nat.{◌-◌, ◌≤◌}
 use mathlib.Core.Path.{◌≡◌}
 use lib.ListN.{length, take, drop}
 use Rattle.utils.specs.Passed.{PassedTo}
@@ -7,8 +6,5 @@ use Rattle.utils.proofs.invperm.Given as goal
 
 abbrev pub invariant-loop-k : goal.invariant-loop-k
 invariant-loop-k l =
-    (l.k ≤ length l.words) × (length l.table ≡ length l.initial.table) × Placed 4294967295 l.table (take l.k l.words) × PassedTo l.words l.k
+    (length l.table ≡ length l.initial.table) × Placed 4294967295 l.table (take l.k l.words) × PassedTo l.words l.k
     × (scattered l.k (drop l.k l.words) l.table ≡ scattered 0 l.words l.initial.table)
-
-abbrev pub decreases-loop-k : goal.decreases-loop-k
-decreases-loop-k l = length l.words - l.k

@@ -13,11 +13,10 @@ use mathlib.Core.Bool.{Bool, false}
 use native.Mathlib.Omega.{arith}
 use Rattle.utils.proofs.mark.Goals as goal
 
-pub loop-i-init : goal.loop-i-init
-loop-i-init c =
+pub loop-word-init : goal.loop-word-init
+loop-word-init c =
     let ws = c.args.words.now in
     let low = c.args.low in (
-      omega arith,
       refl,
       λ met m d. (
         subst (λ (l : List ℕ). Marked low c.args.marks.now l) (take_none met ws) m,
@@ -25,37 +24,32 @@ loop-i-init c =
       ),
     )
 
-pub overflow_cast-x : goal.overflow_cast-x
-overflow_cast-x c = omega (arith, c.shared_slice_known-1.given c.loop-i.i)
-
-pub loop-i-preserved-then-x-low : goal.loop-i-preserved-then-x-low
-loop-i-preserved-then-x-low c =
+pub loop-word-preserved-then-x-low : goal.loop-word-preserved-then-x-low
+loop-word-preserved-then-x-low c =
     let ws = c.args.words.now in
     let low = c.args.low in
-    let i = c.loop-i.i in (
-      omega arith,
-      c.loop-i.invariant.1,
+    let i = c.loop-word.word-index in (
+      c.loop-word.invariant.0,
       λ met m d.
-          let now = c.loop-i.invariant.2 met m d in
+          let now = c.loop-word.invariant.1 met m d in
           let h : i < length ws = omega arith in
           rw (take_more met ws i h) (
-            marked-out low c.loop-i.marks (met ++ take i ws) (get_or ws i 0) (inl c.if-x-low.true) now.0,
+            marked-out low c.loop-word.marks (met ++ take i ws) (get_or ws i 0) (inl c.if-x-low.true) now.0,
             skip_more _ (met ++ take i ws) (get_or ws i 0) (within_before low _ (get_or ws i 0) c.if-x-low.true) now.1,
           ),
     )
 
-pub loop-i-preserved-then-marks-v : goal.loop-i-preserved-then-marks-v
-loop-i-preserved-then-marks-v c =
+pub loop-word-preserved-then-marks-v : goal.loop-word-preserved-then-marks-v
+loop-word-preserved-then-marks-v c =
     let ws = c.args.words.now in
     let low = c.args.low in
-    let i = c.loop-i.i in (
-      omega arith,
-      c.loop-i.invariant.1,
+    let i = c.loop-word.word-index in (
+      c.loop-word.invariant.0,
       λ met m d.
-          let now = c.loop-i.invariant.2 met m d in
+          let now = c.loop-word.invariant.1 met m d in
           let h : i < length ws = omega arith in
           rw (take_more met ws i h) (
-            marked-out low c.loop-i.marks (met ++ take i ws) (get_or ws i 0) (inr (omega arith)) now.0,
+            marked-out low c.loop-word.marks (met ++ take i ws) (get_or ws i 0) (inr (omega arith)) now.0,
             skip_more _ (met ++ take i ws) (get_or ws i 0) (within-after low _ (get_or ws i 0) (omega arith) (omega arith)) now.1,
           ),
     )
@@ -64,10 +58,10 @@ pub returns-then-marks-v-2 : goal.returns-then-marks-v-2
 returns-then-marks-v-2 c =
     let ws = c.args.words.now in
     let low = c.args.low in
-    let i = c.loop-i.i in
+    let i = c.loop-word.word-index in
     let x : ℕ = get_or ws i 0 in
     λ met m d.
-    let now = c.loop-i.invariant.2 met m d in
+    let now = c.loop-word.invariant.1 met m d in
     let e : low + (x - low) ≡ x = omega arith in
     let p : ℕ → Bool = within low (length c.args.marks.now) in (
       sym (ap (λ (k : List ℕ). distinct (keep p k)) (split_more met ws i (omega arith))
@@ -76,20 +70,19 @@ returns-then-marks-v-2 c =
       λ z. absurd (differ false z refl),
     )
 
-pub loop-i-preserved : goal.loop-i-preserved
-loop-i-preserved c =
+pub loop-word-preserved : goal.loop-word-preserved
+loop-word-preserved c =
     let ws = c.args.words.now in
     let low = c.args.low in
-    let i = c.loop-i.i in
+    let i = c.loop-word.word-index in
     let x : ℕ = get_or ws i 0 in (
-      omega arith,
-      simp length-set c.loop-i.invariant.1,
+      simp length-set c.loop-word.invariant.0,
       λ met m d.
-          let now = c.loop-i.invariant.2 met m d in
+          let now = c.loop-word.invariant.1 met m d in
           let h : i < length ws = omega arith in
           let e : low + (x - low) ≡ x = omega arith in
           rw (take_more met ws i h) (
-            marked_in low c.loop-i.marks (met ++ take i ws) x (x - low) (sym e) (omega arith) now.0,
+            marked_in low c.loop-word.marks (met ++ take i ws) x (x - low) (sym e) (omega arith) now.0,
             new_more _ (met ++ take i ws) x (within_in low _ x (omega arith) (omega arith))
                 (ap (λ (y : ℕ). has y (met ++ take i ws)) (sym e) ∙ sym (now.0 (x - low) (omega arith)) ∙ c.if-marks-v-2.false) now.1,
           ),
@@ -98,7 +91,7 @@ loop-i-preserved c =
 pub returns : goal.returns
 returns c =
     let ws = c.args.words.now in
-    let e : take c.loop-i.i ws ≡ ws = take_all c.loop-i.i ws c.loop-i-test.false in
+    let e : take c.loop-word.word-index ws ≡ ws = take_all c.loop-word.word-index ws c.loop-word-test.false in
     λ met m d.
-    let now = rw e at (c.loop-i.invariant.2 met m d) in
+    let now = rw e at (c.loop-word.invariant.1 met m d) in
     (sym (passed _ now.1), λ _. now.0)

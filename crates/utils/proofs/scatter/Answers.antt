@@ -1,14 +1,11 @@
-use Prim.Native.Nat.{ℕ, ◌+◌, ◌-◌, ◌≤◌, ◌<◌}
+use Prim.Native.Nat.{ℕ}
 use native.Mathlib.Omega.{arith}
 use mathlib.Core.Path.{◌≡◌, sym, ap, ◌∙◌}
-use lib.ListN.{length, get_or, set, length-set}
+use lib.ListN.{get_or, set, length-set}
 use Rattle.std.proofs.lemmas.List.{set-get_or}
 use Rattle.utils.proofs.Scattered.{scattered-step, scattered-done}
 use Rattle.utils.proofs.scatter.Goals as goal
 use Rattle.utils.proofs.scatter.Goals.{then-out-w, else-out-w}
-
-pub overflow_cast-w : goal.overflow_cast-w
-overflow_cast-w c = omega (arith, c.shared_slice_known-1.given c.loop-k.k)
 
 -- the index written is within `out`
 pub offset_bounds-out-w : goal.offset_bounds-out-w
@@ -32,11 +29,10 @@ loop-k-preserved c =
       | then-out-w t ↦ t.out-is
       | else-out-w e ↦ e.out-is ∙ sym (ap (set out w) (sym e.if-out-w.false) ∙ set-get_or out w 0)
     ] in (
-      omega arith,
-      rw wrote (length-set out _ _ ∙ c.loop-k.invariant.1),
-      rw wrote (sym (scattered-step c.args.words.now out c.loop-k.k (omega arith)) ∙ c.loop-k.invariant.2),
+      rw wrote (length-set out _ _ ∙ c.loop-k.invariant.0),
+      rw wrote (sym (scattered-step c.args.words.now out c.loop-k.k (omega arith)) ∙ c.loop-k.invariant.1),
     )
 
 pub returns : goal.returns
 returns c =
-    sym (scattered-done c.args.words.now c.loop-k.out c.loop-k.k c.loop-k-test.false) ∙ c.loop-k.invariant.2
+    sym (scattered-done c.args.words.now c.loop-k.out c.loop-k.k c.loop-k-test.false) ∙ c.loop-k.invariant.1

@@ -1,4 +1,4 @@
-use Prim.Native.Nat.{◌+◌, ◌≤◌, ◌<◌}
+use Prim.Native.Nat.{◌≤◌, ◌<◌}
 use mathlib.Core.Path.{◌≡◌, refl, ap}
 use mathlib.Core.Bool.{false}
 use Rattle.layout.proofs.Lists.Tests.{passed}
@@ -11,7 +11,7 @@ use Rattle.walk_cones.specs.Ahead.{patterns_ahead}
 use Rattle.walk_cones.proofs.Laws.{few-cones, row_fits, whole-ahead, whole-stands, none_left, first_read, head-inside, not_mine, cut-ahead, cut_right, cut-rows, cut-few, cut_stands}
 use native.Mathlib.Omega.{arith}
 use Rattle.walk_cones.proofs.Place.next.Goals as goal
-use Rattle.walk_cones.proofs.Place.next.Goals.{then-self-gt0+else-words-at, else-self-gt0}
+use Rattle.walk_cones.proofs.Place.next.Goals.{else-self-gt0-via-then-self-gt0+else-words-at, else-self-gt0-via-else-self-gt0}
 
 pub returns-then-cones-i : goal.returns-then-cones-i
 returns-then-cones-i c =
@@ -80,9 +80,9 @@ returns c =
     let rows = c.cone_rows-rows.result in
     let e = c.cone_rows-rows.ensures in
     let free : is_cut p.cone (patterns_ahead words p) ≡ false =
-    elim c.if-self-gt0.branch [
-      | then-self-gt0+else-words-at w ↦ not_mine m cones words p h l w.if-self-gt0.true w.if-words-at.false
-      | else-self-gt0 w ↦ none_left m cones words p h l (omega (arith, w.if-self-gt0.false))
+    elim c.else-self-gt0.branch [
+      | else-self-gt0-via-then-self-gt0+else-words-at w ↦ not_mine m cones words p h l w.if-self-gt0.true w.if-words-at.false
+      | else-self-gt0-via-else-self-gt0 w ↦ none_left m cones words p h l (omega (arith, w.if-self-gt0.false))
     ] in
     record {
       self_value = whole-ahead m cones words p h l rows e free;

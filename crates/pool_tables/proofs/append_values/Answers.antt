@@ -1,8 +1,0 @@
-use mathlib.Core.Path.{refl}
-use lib.ListN.{length}
-use Rattle.layout.proofs.Lists.Buffers.{written_after}
-use Rattle.pool_tables.proofs.append_values.Goals as goal
-
-pub returns : goal.returns
-returns c =
-    written_after c.args.xs.now c.args.ys.now c.args.out.now (length c.args.xs.now) refl c.requires c.copy_values.ensures c.copy_values-2.ensures
