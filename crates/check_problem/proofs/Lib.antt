@@ -1,4 +1,4 @@
 pub mod Order
 pub mod Checked
-pub mod Counts
+pub mod Sums
 pub mod Left

@@ -3,18 +3,18 @@
 
 ghost use Rattle.std.specs.Prelude.{◌≡◌, ◌≤◌, ◌<◌, cond, length, T, ltb};
 ghost use Rattle.layout.specs.General.Lists.{all, written};
-ghost use Rattle.layout.specs.Problems.Cones.{records};
-ghost use Rattle.layout.specs.Problems.Patterns.{patterns};
-ghost use Rattle.layout.specs.Rows.Blocks.{parts};
 ghost use Rattle.layout.specs.Checks.{Sound, first_failing};
 ghost use Rattle.layout.specs.Calls.Answers.{route_of};
 ghost use Rattle.csc.specs.Matrix.{ColumnsInside};
 ghost use Rattle.chordal_info.specs.Sizes.{rows_fit, entries_kept, route_sizes, Fitting};
 ghost use Rattle.chordal_info.specs.Routes.{Counted, route_tests};
+ghost use Rattle.constants.specs.Refusals.{refusal_of};
+ghost use Rattle.problemdata.specs.Tables.{parts_of};
 
 use check_covered::entries_right;
-use constants::{entry, limit, record, refusal, route};
+use constants::{Refusal, entry, limit, record, route};
 use csc::copy_front;
+use problemdata::Problem;
 
 // ---- check 10
 
@@ -33,40 +33,37 @@ pub fn rows_right(route: u32, m: u32, rows: u64, overlaps: u64) -> bool
 
 // ---- the route's checks in order
 
-// Makes check 10 alone, the only one that a joining's route adds to its checks. Returns 0 or 10.
-pub fn rows_refusal(route: u32, m: u32, rows: u64, overlaps: u64) -> u32
-    ensures { result ≡ cond (rows_fit (route_of route) m rows overlaps) 0 10 }
+// Makes check 10 alone, the only one that a joining's route adds to its checks.
+pub fn rows_refusal(route: u32, m: u32, rows: u64, overlaps: u64) -> Result<(), Refusal>
+    ensures { refusal_of result ≡ cond (rows_fit (route_of route) m rows overlaps) 0 10 }
 {
     if rows_right(route, m, rows, overlaps) {
-        return refusal::DONE;
+        return Ok(());
     }
-    refusal::TOO_LARGE
+    Err(Refusal::TooLarge)
 }
 
-// Makes checks 9 and 10 of a whole problem, given its blocks' `rows` and `overlaps`. Returns the number of the first that fails, or 0.
-pub fn check_route(
-    route: u32,
-    m: u32,
-    a_rows: &[u32],
-    b: &[f64],
-    cones: &[u32],
-    count: u32,
-    words: &[u32],
-    rows: u64,
-    overlaps: u64,
-) -> u32
-    requires sound { Sound m cones.now count words.now }
-    requires t { T (all (λ r. ltb r m) a_rows.now) × (length b.now ≡ m) }
-    requires counted { Counted (parts (records cones.now) (patterns count words.now)) rows overlaps }
-    ensures { result ≡ first_failing (route_tests (route_of route) m a_rows.now b.now (parts (records cones.now) (patterns count words.now))) }
+// Makes checks 9 and 10 of a whole problem, given its blocks' `rows` and `overlaps`. Returns the first refusal.
+pub fn check_route(route: u32, problem: &Problem, rows: u64, overlaps: u64) -> Result<(), Refusal>
+    requires sound { Sound problem.now.m problem.now.cones.now problem.now.count problem.now.words.now }
+    requires t { T (all (λ r. ltb r problem.now.m) problem.now.a.rows.now) × (length problem.now.b.now ≡ problem.now.m) }
+    requires counted { Counted (parts_of problem.now) rows overlaps }
+    ensures { refusal_of result ≡ first_failing (route_tests (route_of route) problem.now.m problem.now.a.rows.now problem.now.b.now (parts_of problem.now)) }
 {
     if route == route::STANDARD {
-        return rows_refusal(route, m, rows, overlaps);
+        return rows_refusal(route, problem.m, rows, overlaps);
     }
-    if !entries_right(m, cones, count, words, a_rows, b) {
-        return refusal::UNCOVERED;
+    if !entries_right(
+        problem.m,
+        problem.cones,
+        problem.count,
+        problem.words,
+        problem.a.rows,
+        problem.b,
+    ) {
+        return Err(Refusal::Uncovered);
     }
-    rows_refusal(route, m, rows, overlaps)
+    rows_refusal(route, problem.m, rows, overlaps)
 }
 
 // ---- the sizes

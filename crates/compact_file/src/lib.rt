@@ -10,9 +10,10 @@ ghost use Rattle.layout.specs.Files.File.{refused_text};
 ghost use Rattle.layout.specs.Files.FileWords.{pairs_of, word_tables, word_shape_failing};
 ghost use Rattle.file_shape.specs.Parts.{WellShaped};
 ghost use Rattle.compact_file.specs.Program.{cut_tables_output, Small, words_output, CutFile};
+ghost use Rattle.constants.specs.Refusals.{number, refusal_of};
 
 use compact_tables::OUT_BYTES;
-use constants::{file_table, refusal};
+use constants::{Refusal, file_table};
 use std::io::{self, Read};
 
 // The longest file that is read, and the largest numbers of words and doubles in it.
@@ -41,11 +42,12 @@ pub fn read_full<R: Read>(input: &mut R, out: &mut [u8]) -> io::Result<usize>
 
 // ---- the refusal line
 
-// Writes "refused ", `number` and a line feed to `out`. Returns the number of bytes written.
-fn refuse(number: u32, out: &mut [u8]) -> usize
-    requires { (number < 100) × (11 ≤ length out.old) }
-    ensures { (result ≡ length (refused_text number)) × (out.new ≡ written (refused_text number) out.old) }
+// Writes "refused ", the number of `refusal` and a line feed to `out`. Returns the number of bytes written.
+fn refuse(refusal: Refusal, out: &mut [u8]) -> usize
+    requires { 11 ≤ length out.old }
+    ensures { (result ≡ length (refused_text (number refusal))) × (out.new ≡ written (refused_text (number refusal)) out.old) }
 {
+    let number = refusal.number();
     out[..8].copy_from_slice(b"refused ");
     if number < 10 {
         out[8] = b'0' + number as u8;
@@ -69,14 +71,14 @@ fn cut_doubles(words: &[u32], patterns: &[u64], values: &[f64], out: &mut [u8]) 
         (result ≡ length (cut_tables_output t)) × (out.new ≡ written (cut_tables_output t) out.old) }
 {
     let mut lengths = [0u32; file_table::COUNT];
-    let number = compact_parts::size_tables(words, values, &mut lengths);
-    if number != 0 {
-        return refuse(number, out);
+    match compact_parts::size_tables(words, values, &mut lengths) {
+        Ok(()) => (),
+        Err(refusal) => return refuse(refusal, out),
     }
     lengths[file_table::PATTERN_WORDS] = 0;
     let end = file_tables::end_of(&lengths);
     if OUT_BYTES < end {
-        return refuse(refusal::TOO_LARGE, out);
+        return refuse(Refusal::TooLarge, out);
     }
     compact_tables::write_cut(words, patterns, values, &lengths, out);
     end
@@ -102,11 +104,10 @@ fn cut_words(words: &[u32], bytes: usize, out: &mut [u8]) -> usize
     requires { (word_shape_failing words.now bytes ≡ 0 → Small words.now) × (65536 ≤ length out.old) }
     ensures { (result ≡ length (words_output words.now bytes)) × (out.new ≡ written (words_output words.now bytes) out.old) }
 {
-    let number = file_shape::shape_refusal(words, bytes);
-    if number != 0 {
-        return refuse(number, out);
+    match file_shape::shape_refusal(words, bytes) {
+        Ok(()) => cut_tables(words, out),
+        Err(refusal) => refuse(refusal, out),
     }
-    cut_tables(words, out)
 }
 
 // Writes to `out` what the program prints for `file`: the compact file, or "refused " and the number. Returns the number of bytes written;
@@ -118,9 +119,10 @@ pub fn cut_file(file: &[u8], out: &mut [u8]) -> usize
         return 0;
     }
     if IN_BYTES < file.len() {
-        return refuse(refusal::BOUND, out);
+        return refuse(Refusal::Bound, out);
     }
     let mut words = [0u32; IN_WORDS];
-    file_bytes::file_words(file, &mut words);
+    // Not refused: `words` has room for a file of this length.
+    let _ = file_bytes::file_words(file, &mut words);
     cut_words(&words[..file.len() / 4], file.len(), out)
 }

@@ -1,36 +1,42 @@
-// The refusal numbers, each that of the check that fails, under the names of include/chordal.h, which explains them. 8 is not used.
+ghost use Rattle.std.specs.Prelude.{◌≡◌};
+ghost use Rattle.constants.specs.Refusals.{number, refusal_of};
 
-// No check fails.
-pub const DONE: u32 = 0;
+// The check that a call's input fails. Its number, which C callers get, is that of include/chordal.h, which explains each; 8 is not used.
+#[derive(Clone, Copy, Debug, PartialEq, Eq)]
+pub enum Refusal {
+    Bound = 1,
+    Starts = 2,
+    Rows = 3,
+    Cones = 4,
+    Patterns = 5,
+    Tree = 6,
+    Cliques = 7,
+    Uncovered = 9,
+    TooLarge = 10,
+    Short = 11,
+    Solution = 12,
+    FileLength = 13,
+    FileTables = 14,
+    Ranges = 15,
+    Limits = 16,
+    Unknowns = 17,
+}
 
-pub const BOUND: u32 = 1;
+impl Refusal {
+    // Returns the number by which C callers know the refusal.
+    pub fn number(self) -> u32
+        ensures { result ≡ number self }
+    {
+        self as u32
+    }
+}
 
-pub const STARTS: u32 = 2;
-
-pub const ROWS: u32 = 3;
-
-pub const CONES: u32 = 4;
-
-pub const PATTERNS: u32 = 5;
-
-pub const TREE: u32 = 6;
-
-pub const CLIQUES: u32 = 7;
-
-pub const UNCOVERED: u32 = 9;
-
-pub const TOO_LARGE: u32 = 10;
-
-pub const SHORT: u32 = 11;
-
-pub const SOLUTION: u32 = 12;
-
-pub const FILE_LENGTH: u32 = 13;
-
-pub const FILE_TABLES: u32 = 14;
-
-pub const RANGES: u32 = 15;
-
-pub const LIMITS: u32 = 16;
-
-pub const UNKNOWNS: u32 = 17;
+// Returns the number that C callers get: 0 where nothing is refused.
+pub fn number_of(answer: Result<(), Refusal>) -> u32
+    ensures { result ≡ refusal_of answer }
+{
+    match answer {
+        Ok(()) => 0,
+        Err(refusal) => refusal.number(),
+    }
+}

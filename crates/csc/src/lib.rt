@@ -11,6 +11,14 @@ ghost use Rattle.layout.specs.Cuts.Compact.{extended_p};
 ghost use Rattle.layout.specs.Files.FileWords.{unvalued};
 ghost use Rattle.csc.specs.Matrix.{matrix, table, ColumnsInside};
 
+// A matrix in compressed columns, as clarabel's CscMatrix: the caller lends its tables.
+#[derive(Clone, Copy)]
+pub struct CscMatrix<'a> {
+    pub starts: &'a [u32],
+    pub rows: &'a [u32],
+    pub values: &'a [f64],
+}
+
 // Checks that no number in `xs` is less than the one before it. The walk goes on after a fall, so that the compiler tests several numbers
 // at a time.
 fn never_falls(xs: &[u32]) -> bool

@@ -1,26 +1,17 @@
 // The cut of a problem on either route; clarabel's `decomp_augment`.
 #![tactic(auto)]
 
-ghost use Rattle.layout.specs.Problems.Problem.{problem};
 ghost use Rattle.layout.specs.Calls.Cut.{outputs, Cut};
+ghost use Rattle.constants.specs.Refusals.{refusal_of};
+ghost use Rattle.problemdata.specs.Tables.{problem_of};
 
-// Cuts a problem on a route and writes the augmented one to the front of the outputs. Returns the refusal number, or 0.
+use constants::Refusal;
+use problemdata::Problem;
+
+// Cuts a problem on a route and writes the augmented one to the front of the outputs. Returns the first refusal.
 pub fn cut(
     route: u32,
-    n: u32,
-    m: u32,
-    p_starts: &[u32],
-    p_rows: &[u32],
-    p_values: &[f64],
-    q: &[f64],
-    a_starts: &[u32],
-    a_rows: &[u32],
-    a_values: &[f64],
-    b: &[f64],
-    cones: &[u32],
-    alphas: &[f64],
-    pattern_count: u32,
-    pattern_words: &[u32],
+    problem: &Problem,
     p_starts_out: &mut [u32],
     p_rows_out: &mut [u32],
     p_values_out: &mut [f64],
@@ -32,11 +23,11 @@ pub fn cut(
     cones_out: &mut [u32],
     alphas_out: &mut [f64],
     map_out: &mut [u32],
-) -> u32
-    ensures { let p = problem n m p_starts.now p_rows.now p_values.now q.now a_starts.now a_rows.now a_values.now b.now cones.now alphas.now pattern_count pattern_words.now in
+) -> Result<(), Refusal>
+    ensures { let p = problem_of problem.now in
         let before = outputs p_starts_out.old p_rows_out.old p_values_out.old q_out.old a_starts_out.old a_rows_out.old a_values_out.old b_out.old cones_out.old alphas_out.old map_out.old in
         let after = outputs p_starts_out.new p_rows_out.new p_values_out.new q_out.new a_starts_out.new a_rows_out.new a_values_out.new b_out.new cones_out.new alphas_out.new map_out.new in
-        Cut route p before after result }
+        Cut route p before after (refusal_of result) }
 {
     let rooms = [
         p_starts_out.len(),
@@ -51,34 +42,14 @@ pub fn cut(
         alphas_out.len(),
         map_out.len(),
     ];
-    let c = decomp::refuse_cut(
-        route,
-        n,
-        m,
-        p_starts,
-        p_rows,
-        p_values,
-        q,
-        a_starts,
-        a_rows,
-        a_values,
-        b,
-        cones,
-        alphas,
-        pattern_count,
-        pattern_words,
-        &rooms,
-    );
-    if c.refusal != 0 {
-        return c.refusal;
-    }
+    let c = decomp::refuse_cut(route, problem, &rooms)?;
     cut_standard::write_objective(
-        n,
-        p_starts,
-        p_rows,
-        p_values,
-        q,
-        alphas,
+        problem.n,
+        problem.p.starts,
+        problem.p.rows,
+        problem.p.values,
+        problem.q,
+        problem.alphas,
         c.columns,
         p_starts_out,
         p_rows_out,
@@ -88,15 +59,15 @@ pub fn cut(
     );
     cut_constraints::write_constraints(
         route,
-        n,
-        m,
-        a_starts,
-        a_rows,
-        a_values,
-        b,
-        cones,
-        pattern_count,
-        pattern_words,
+        problem.n,
+        problem.m,
+        problem.a.starts,
+        problem.a.rows,
+        problem.a.values,
+        problem.b,
+        problem.cones,
+        problem.count,
+        problem.words,
         c.rows,
         c.columns,
         a_starts_out,
@@ -106,5 +77,5 @@ pub fn cut(
         cones_out,
         map_out,
     );
-    0
+    Ok(())
 }

@@ -1,30 +1,20 @@
 // The compact cut of a problem whose b is known only within limits (Q-8).
 #![tactic(auto)]
 
-ghost use Rattle.layout.specs.Problems.Problem.{problem};
 ghost use Rattle.layout.specs.Calls.Cut.{outputs};
 ghost use Rattle.layout.specs.Calls.CutBetween.{limits, CutBetween};
+ghost use Rattle.constants.specs.Refusals.{refusal_of};
+ghost use Rattle.problemdata.specs.Tables.{problem_of};
 
+use constants::Refusal;
+use problemdata::Problem;
 use rows_tables::Table;
 
 // Cuts a problem on the compact route with the right sides `low` and `high`, and writes both augmented b, value by value to the same rows. Returns
-// the refusal number, or 0.
+// the first refusal.
 pub fn cut_between(
-    n: u32,
-    m: u32,
-    p_starts: &[u32],
-    p_rows: &[u32],
-    p_values: &[f64],
-    q: &[f64],
-    a_starts: &[u32],
-    a_rows: &[u32],
-    a_values: &[f64],
-    low: &[f64],
+    problem: &Problem,
     high: &[f64],
-    cones: &[u32],
-    alphas: &[f64],
-    pattern_count: u32,
-    pattern_words: &[u32],
     p_starts_out: &mut [u32],
     p_rows_out: &mut [u32],
     p_values_out: &mut [f64],
@@ -37,11 +27,11 @@ pub fn cut_between(
     cones_out: &mut [u32],
     alphas_out: &mut [f64],
     map_out: &mut [u32],
-) -> u32
-    ensures { let p = problem n m p_starts.now p_rows.now p_values.now q.now a_starts.now a_rows.now a_values.now low.now cones.now alphas.now pattern_count pattern_words.now in
+) -> Result<(), Refusal>
+    ensures { let p = problem_of problem.now in
         let before = limits (outputs p_starts_out.old p_rows_out.old p_values_out.old q_out.old a_starts_out.old a_rows_out.old a_values_out.old b_low_out.old cones_out.old alphas_out.old map_out.old) b_high_out.old in
         let after = limits (outputs p_starts_out.new p_rows_out.new p_values_out.new q_out.new a_starts_out.new a_rows_out.new a_values_out.new b_low_out.new cones_out.new alphas_out.new map_out.new) b_high_out.new in
-        CutBetween p low.now high.now before after result }
+        CutBetween p problem.now.b.now high.now before after (refusal_of result) }
 {
     let rooms = [
         p_starts_out.len(),
@@ -57,35 +47,14 @@ pub fn cut_between(
         map_out.len(),
     ];
     let high_room = b_high_out.len();
-    let c = side_refusals::refuse_between(
-        n,
-        m,
-        p_starts,
-        p_rows,
-        p_values,
-        q,
-        a_starts,
-        a_rows,
-        a_values,
-        low,
-        high,
-        cones,
-        alphas,
-        pattern_count,
-        pattern_words,
-        &rooms,
-        high_room,
-    );
-    if c.refusal != 0 {
-        return c.refusal;
-    }
+    let c = side_refusals::refuse_between(problem, high, &rooms, high_room)?;
     cut_standard::write_objective(
-        n,
-        p_starts,
-        p_rows,
-        p_values,
-        q,
-        alphas,
+        problem.n,
+        problem.p.starts,
+        problem.p.rows,
+        problem.p.values,
+        problem.q,
+        problem.alphas,
         c.columns,
         p_starts_out,
         p_rows_out,
@@ -94,18 +63,18 @@ pub fn cut_between(
         alphas_out,
     );
     cut_compact::write_compact_a(
-        n,
-        m,
-        a_starts,
-        a_rows,
-        a_values,
-        low,
+        problem.n,
+        problem.m,
+        problem.a.starts,
+        problem.a.rows,
+        problem.a.values,
+        problem.b,
         1,
         high, // to the same rows as low
         1,
-        cones,
-        pattern_count,
-        pattern_words,
+        problem.cones,
+        problem.count,
+        problem.words,
         c.rows,
         c.columns,
         a_starts_out,
@@ -116,19 +85,19 @@ pub fn cut_between(
     );
     rows_tables::write_table(
         Table::CompactCones,
-        m,
-        cones,
-        pattern_count,
-        pattern_words,
+        problem.m,
+        problem.cones,
+        problem.count,
+        problem.words,
         cones_out,
     );
     rows_tables::write_table(
         Table::ConeMap,
-        m,
-        cones,
-        pattern_count,
-        pattern_words,
+        problem.m,
+        problem.cones,
+        problem.count,
+        problem.words,
         map_out,
     );
-    0
+    Ok(())
 }

@@ -2,7 +2,7 @@
 use Prim.Native.Nat.{ℕ, zero, suc, ◌≤◌, ◌<◌}
 use native.Mathlib.Omega.{arith}
 use mathlib.Core.Path.{◌≡◌, refl}
-use mathlib.Core.List.{[], ◌∷◌, map}
+use mathlib.Core.List.{map}
 use lib.ListN.{length}
 use Rattle.layout.specs.General.Lists.{sum}
 use Rattle.layout.specs.Problems.Problem.{Problem, Route}

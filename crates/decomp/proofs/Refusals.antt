@@ -1,5 +1,4 @@
--- The refusal number of `count_sizes` from checks 1 to 7, the route's checks and the output length, bounds on the counts of an accepted problem, and what
--- is handed on with either.
+-- The refusal number of `count_sizes` from checks 1 to 7, the route's checks and the output length, bounds on the counts of an accepted problem.
 use Prim.Native.Nat.{ℕ, ◌≤◌}
 use mathlib.Core.Path.{◌≡◌, sym, ap, subst, ◌∙◌}
 use mathlib.Core.Bool.{Bool}
@@ -19,8 +18,11 @@ use Rattle.chordal_info.specs.Routes.{route_tests}
 use Rattle.chordal_info.proofs.Routes.{entries-check}
 use Rattle.chordal_info.proofs.Sizes.{route_sizes_lem}
 use Rattle.chordal_info.proofs.Counts.{accepted_fitting}
-use Rattle.decomp.specs.Added.{columns_added, Adds}
-use Rattle.decomp.specs.declared.Counted.{Counted}
+use Rattle.std.specs.Prelude.{Result, Ok, Err, IfOk}
+use Rattle.constants.specs.declared.refusal.Refusal.{Refusal}
+use Rattle.constants.specs.Refusals.{refusal_of}
+use Rattle.decomp.specs.Adds.{columns_added, Adds}
+use Rattle.decomp.specs.declared.Added.{Added}
 use Rattle.decomp.proofs.Answers.{on_route_lem}
 
 -- the first failing one of checks 9 and 10, or 0
@@ -70,16 +72,15 @@ module _ (route : Route) (p : Problem) (ok : refusal route p ≡ 0) (rows overla
       → new ≡ written (sizes route p) old
   sizes-written old w = w ∙ ap (λ (l : List ℕ). written l old) counts-sizes
 
--- ---- what is handed on
-
 -- the promise of a number is that of an equal one
 pub sizes_said : {k : ℕ} {p : Problem} {before after : List ℕ} {x r : ℕ} → r ≡ x → Sizes k p before after x → Sizes k p before after r
 sizes_said {k} {p} {before} {after} e h = subst (Sizes k p before after) (sym e) h
 
 -- a refusal is handed on without counts
-pub handed_on : {k : ℕ} {p : Problem} {before after : List ℕ} {x : ℕ} {r : Counted} → r.refusal ≡ x → (x ≡ 0 → ⊥)
-    → Sizes k p before after x → Sizes k p before after r.refusal × (r.refusal ≡ 0 → Adds (route_of k) (layout p) r)
-handed_on e n h = (sizes_said e h, λ z. absurd (n (sym e ∙ z)))
+pub handed_on : {k : ℕ} {p : Problem} {before after : List ℕ} {x : ℕ} (r : Result Added Refusal) → refusal_of r ≡ x → (x ≡ 0 → ⊥)
+    → Sizes k p before after x → Sizes k p before after (refusal_of r) × IfOk r (Adds (route_of k) (layout p))
+handed_on (Ok c) e n h = absurd (n (sym e))
+handed_on (Err f) e n h = (sizes_said e h, tt)
 
 -- the columns that a route adds to a problem with these parts
 pub columns_added_lem : (route : Route) (ps : List Part) {rows overlaps : ℕ} → rows ≡ block_row_count ps → overlaps ≡ overlap_count ps

@@ -2,101 +2,61 @@
 // compact one.
 #![tactic(auto)]
 
-ghost use Rattle.std.specs.Prelude.{◌≡◌};
-ghost use Rattle.layout.specs.Problems.Problem.{problem};
+ghost use Rattle.std.specs.Prelude.{◌≡◌, IfOk};
 ghost use Rattle.layout.specs.Calls.Answers.{on_route, route_of};
 ghost use Rattle.layout.specs.Calls.Cut.{cut_refusal};
-ghost use Rattle.layout.specs.Calls.Join.{joined_parts};
 ghost use Rattle.layout.specs.Calls.Sizes.{Sizes};
-ghost use Rattle.decomp.specs.Added.{columns_added, Adds};
+ghost use Rattle.decomp.specs.Adds.{columns_added, Adds};
+ghost use Rattle.constants.specs.Refusals.{refusal_of};
+ghost use Rattle.problemdata.specs.Tables.{parts_of, problem_of};
 
-use constants::{OUTPUTS, refusal, route};
+use constants::{OUTPUTS, Refusal, route};
+use problemdata::Problem;
 
-// The refusal number of a cut, or 0; where it is 0, also the number of block rows, and the number of columns that the route adds.
+// What the writers of a cut need: the number of block rows, and the number of columns that the route adds.
 #[derive(Clone, Copy)]
-pub struct Counted {
-    pub refusal: u32,
+pub struct Added {
     pub rows: usize,
     pub columns: usize,
 }
 
-// Returns a refusal, with no counts.
-pub fn refused_as(refusal: u32) -> Counted
-    ensures { result.refusal ≡ refusal }
-{
-    Counted {
-        refusal: refusal,
-        rows: 0,
-        columns: 0,
-    }
-}
-
 // Returns the counts of a cut that is not refused. A route adds one column per block row, or one per overlap if compact.
-fn with_columns(route: u32, rows: u64, overlaps: u64) -> Counted
-    ensures { (result.refusal ≡ 0) × (result.rows ≡ rows) × (result.columns ≡ columns_added (route_of route) rows overlaps) }
+fn with_columns(route: u32, rows: u64, overlaps: u64) -> Added
+    ensures { (result.rows ≡ rows) × (result.columns ≡ columns_added (route_of route) rows overlaps) }
 {
-    if route == route::STANDARD {
-        return Counted {
-            refusal: refusal::DONE,
-            rows: rows as usize,
-            columns: rows as usize,
-        };
-    }
-    Counted {
-        refusal: refusal::DONE,
+    let columns = if route == route::STANDARD {
+        rows
+    } else {
+        overlaps
+    };
+    Added {
         rows: rows as usize,
-        columns: overlaps as usize,
+        columns: columns as usize,
     }
 }
 
 // Writes the length of each output of the cut to `out`, after checks 1 to 11. The check of the patterns counts the blocks, for check 10, the lengths
-// and the writers. Returns the refusal number, or 0 with the counts.
-fn count_sizes(
-    route: u32,
-    n: u32,
-    m: u32,
-    p_starts: &[u32],
-    p_rows: &[u32],
-    p_values: &[f64],
-    q: &[f64],
-    a_starts: &[u32],
-    a_rows: &[u32],
-    a_values: &[f64],
-    b: &[f64],
-    cones: &[u32],
-    alphas: &[f64],
-    count: u32,
-    words: &[u32],
-    out: &mut [u32],
-) -> Counted
-    ensures fact { let p = problem n m p_starts.now p_rows.now p_values.now q.now a_starts.now a_rows.now a_values.now b.now cones.now alphas.now count words.now in
-        Sizes route p out.old out.new result.refusal }
-    ensures adds { result.refusal ≡ 0 → Adds (route_of route) (joined_parts cones.now count words.now) result }
+// and the writers. Returns the first refusal, or these counts.
+fn count_sizes(route: u32, problem: &Problem, out: &mut [u32]) -> Result<Added, Refusal>
+    ensures fact { let p = problem_of problem.now in
+        Sizes route p out.old out.new (refusal_of result) }
+    ensures adds { IfOk result (Adds (route_of route) (parts_of problem.now)) }
 {
     if route::COMPACT < route {
-        return refused_as(refusal::BOUND);
+        return Err(Refusal::Bound);
     }
-    let c = check_problem::count_problem(
-        n, m, p_starts, p_rows, p_values, q, a_starts, a_rows, a_values, b, cones, alphas, count,
-        words,
-    );
-    if c.refusal != refusal::DONE {
-        return refused_as(c.refusal);
-    }
-    let t = chordal_info::check_route(route, m, a_rows, b, cones, count, words, c.rows, c.overlaps);
-    if t != refusal::DONE {
-        return refused_as(t);
-    }
+    let c = check_problem::count_problem(problem)?;
+    chordal_info::check_route(route, problem, c.rows, c.overlaps)?;
     if out.len() < OUTPUTS {
-        return refused_as(refusal::SHORT);
+        return Err(Refusal::Short);
     }
-    let p_entries = p_values.len() as u32;
-    let a_entries = chordal_info::count_entries(route, n, a_starts, a_rows);
-    let alpha_count = alphas.len() as u32;
+    let p_entries = problem.p.values.len() as u32;
+    let a_entries = chordal_info::count_entries(route, problem.n, problem.a.starts, problem.a.rows);
+    let alpha_count = problem.alphas.len() as u32;
     chordal_info::write_sizes(
         route,
-        n,
-        m,
+        problem.n,
+        problem.m,
         p_entries,
         a_entries,
         alpha_count,
@@ -105,73 +65,26 @@ fn count_sizes(
         c.cones,
         out,
     );
-    with_columns(route, c.rows, c.overlaps)
+    Ok(with_columns(route, c.rows, c.overlaps))
 }
 
-// Writes the length of each output of the cut to `out`, after checks 1 to 11. Returns the refusal number, or 0.
-pub fn sizes(
-    route: u32,
-    n: u32,
-    m: u32,
-    p_starts: &[u32],
-    p_rows: &[u32],
-    p_values: &[f64],
-    q: &[f64],
-    a_starts: &[u32],
-    a_rows: &[u32],
-    a_values: &[f64],
-    b: &[f64],
-    cones: &[u32],
-    alphas: &[f64],
-    count: u32,
-    words: &[u32],
-    out: &mut [u32],
-) -> u32
-    ensures { let p = problem n m p_starts.now p_rows.now p_values.now q.now a_starts.now a_rows.now a_values.now b.now cones.now alphas.now count words.now in
-        Sizes route p out.old out.new result }
+// Writes the length of each output of the cut to `out`, after checks 1 to 11. Returns the first refusal.
+pub fn sizes(route: u32, problem: &Problem, out: &mut [u32]) -> Result<(), Refusal>
+    ensures { let p = problem_of problem.now in
+        Sizes route p out.old out.new (refusal_of result) }
 {
-    let c = count_sizes(
-        route, n, m, p_starts, p_rows, p_values, q, a_starts, a_rows, a_values, b, cones, alphas,
-        count, words, out,
-    );
-    c.refusal
+    count_sizes(route, problem, out)?;
+    Ok(())
 }
 
-// Makes checks 1 to 11 of the cut in order, for outputs of the lengths `rooms`. Returns the number of the first that fails, or 0 with the counts.
-pub fn refuse_cut(
-    route: u32,
-    n: u32,
-    m: u32,
-    p_starts: &[u32],
-    p_rows: &[u32],
-    p_values: &[f64],
-    q: &[f64],
-    a_starts: &[u32],
-    a_rows: &[u32],
-    a_values: &[f64],
-    b: &[f64],
-    cones: &[u32],
-    alphas: &[f64],
-    count: u32,
-    words: &[u32],
-    rooms: &[usize],
-) -> Counted
-    ensures refusal_value { let p = problem n m p_starts.now p_rows.now p_values.now q.now a_starts.now a_rows.now a_values.now b.now cones.now alphas.now count words.now in
-        result.refusal ≡ on_route route (λ rt. cut_refusal rt p rooms.now) }
-    ensures adds { result.refusal ≡ 0 → Adds (route_of route) (joined_parts cones.now count words.now) result }
+// Makes checks 1 to 11 of the cut in order, for outputs of the lengths `rooms`. Returns the first refusal, or the counts.
+pub fn refuse_cut(route: u32, problem: &Problem, rooms: &[usize]) -> Result<Added, Refusal>
+    ensures refusal_value { let p = problem_of problem.now in
+        refusal_of result ≡ on_route route (λ rt. cut_refusal rt p rooms.now) }
+    ensures adds { IfOk result (Adds (route_of route) (parts_of problem.now)) }
 {
     let mut needs = [0u32; OUTPUTS];
-    let c = count_sizes(
-        route, n, m, p_starts, p_rows, p_values, q, a_starts, a_rows, a_values, b, cones, alphas,
-        count, words, &mut needs,
-    );
-    if c.refusal != refusal::DONE {
-        return c;
-    }
-    let short = utils::check_rooms(&needs, rooms);
-    Counted {
-        refusal: short,
-        rows: c.rows,
-        columns: c.columns,
-    }
+    let c = count_sizes(route, problem, &mut needs)?;
+    utils::check_rooms(&needs, rooms)?;
+    Ok(c)
 }

@@ -3,6 +3,8 @@ ghost use Rattle.layout.specs.Problems.Problem.{solution};
 ghost use Rattle.layout.specs.Calls.Join.{rejoined};
 ghost use Rattle.layout.specs.Calls.ChangeRoute.{ChangeRoute};
 
+use constants::number_of;
+
 #[unsafe(no_mangle)]
 pub extern "C" fn chordal_change_route(
     n: u32,
@@ -25,7 +27,7 @@ pub extern "C" fn chordal_change_route(
         let after = rejoined x_out.new s_out.new z_out.new scalars_out.new in
         ChangeRoute n m cones.now pattern_count pattern_words.now sol before after result }
 {
-    change_route::change_route(
+    number_of(change_route::change_route(
         n,
         m,
         cones,
@@ -40,5 +42,5 @@ pub extern "C" fn chordal_change_route(
         s_out,
         z_out,
         scalars_out,
-    )
+    ))
 }

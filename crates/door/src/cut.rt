@@ -2,6 +2,9 @@
 ghost use Rattle.layout.specs.Problems.Problem.{problem};
 ghost use Rattle.layout.specs.Calls.Cut.{outputs, Cut};
 
+use constants::number_of;
+use problemdata::Problem;
+
 #[unsafe(no_mangle)]
 pub extern "C" fn chordal_cut(
     route: u32,
@@ -36,8 +39,7 @@ pub extern "C" fn chordal_cut(
         let after = outputs p_starts_out.new p_rows_out.new p_values_out.new q_out.new a_starts_out.new a_rows_out.new a_values_out.new b_out.new cones_out.new alphas_out.new map_out.new in
         Cut route p before after result }
 {
-    cut_on_route::cut(
-        route,
+    let problem = Problem::from_tables(
         n,
         m,
         p_starts,
@@ -52,6 +54,10 @@ pub extern "C" fn chordal_cut(
         alphas,
         pattern_count,
         pattern_words,
+    );
+    number_of(cut_on_route::cut(
+        route,
+        &problem,
         p_starts_out,
         p_rows_out,
         p_values_out,
@@ -63,5 +69,5 @@ pub extern "C" fn chordal_cut(
         cones_out,
         alphas_out,
         map_out,
-    )
+    ))
 }

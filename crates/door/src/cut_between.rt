@@ -3,6 +3,9 @@ ghost use Rattle.layout.specs.Problems.Problem.{problem};
 ghost use Rattle.layout.specs.Calls.Cut.{outputs};
 ghost use Rattle.layout.specs.Calls.CutBetween.{limits, CutBetween};
 
+use constants::number_of;
+use problemdata::Problem;
+
 #[unsafe(no_mangle)]
 pub extern "C" fn chordal_cut_between(
     n: u32,
@@ -38,7 +41,7 @@ pub extern "C" fn chordal_cut_between(
         let after = limits (outputs p_starts_out.new p_rows_out.new p_values_out.new q_out.new a_starts_out.new a_rows_out.new a_values_out.new b_low_out.new cones_out.new alphas_out.new map_out.new) b_high_out.new in
         CutBetween p low.now high.now before after result }
 {
-    cut_with_limits::cut_between(
+    let problem = Problem::from_tables(
         n,
         m,
         p_starts,
@@ -49,11 +52,14 @@ pub extern "C" fn chordal_cut_between(
         a_rows,
         a_values,
         low,
-        high,
         cones,
         alphas,
         pattern_count,
         pattern_words,
+    );
+    number_of(cut_with_limits::cut_between(
+        &problem,
+        high,
         p_starts_out,
         p_rows_out,
         p_values_out,
@@ -66,5 +72,5 @@ pub extern "C" fn chordal_cut_between(
         cones_out,
         alphas_out,
         map_out,
-    )
+    ))
 }

@@ -3,6 +3,9 @@ ghost use Rattle.layout.specs.Problems.Problem.{problem};
 ghost use Rattle.layout.specs.Calls.Cut.{outputs};
 ghost use Rattle.layout.specs.Calls.CutMany.{CutMany};
 
+use constants::number_of;
+use problemdata::Problem;
+
 #[unsafe(no_mangle)]
 pub extern "C" fn chordal_cut_many(
     count: u32,
@@ -37,8 +40,7 @@ pub extern "C" fn chordal_cut_many(
         let after = outputs p_starts_out.new p_rows_out.new p_values_out.new q_out.new a_starts_out.new a_rows_out.new a_values_out.new b_out.new cones_out.new alphas_out.new map_out.new in
         CutMany count p before after result }
 {
-    cut_with_sides::cut_many(
-        count,
+    let problem = Problem::from_tables(
         n,
         m,
         p_starts,
@@ -53,6 +55,10 @@ pub extern "C" fn chordal_cut_many(
         alphas,
         pattern_count,
         pattern_words,
+    );
+    number_of(cut_with_sides::cut_many(
+        count,
+        &problem,
         p_starts_out,
         p_rows_out,
         p_values_out,
@@ -64,5 +70,5 @@ pub extern "C" fn chordal_cut_many(
         cones_out,
         alphas_out,
         map_out,
-    )
+    ))
 }

@@ -2,6 +2,8 @@
 ghost use Rattle.layout.specs.Calls.Tables.{tables};
 ghost use Rattle.layout.specs.Calls.Generate.{Generate};
 
+use constants::number_of;
+
 #[unsafe(no_mangle)]
 pub extern "C" fn chordal_generate(
     seed: u64,
@@ -24,7 +26,7 @@ pub extern "C" fn chordal_generate(
         let after = tables p_starts_out.new p_rows_out.new p_values_out.new q_out.new a_starts_out.new a_rows_out.new a_values_out.new b_out.new cones_out.new alphas_out.new pattern_words_out.new in
         Generate seed v w n before after result }
 {
-    generator::generate(
+    number_of(generator::generate(
         seed,
         v,
         w,
@@ -40,5 +42,5 @@ pub extern "C" fn chordal_generate(
         cones_out,
         alphas_out,
         pattern_words_out,
-    )
+    ))
 }

@@ -2,6 +2,8 @@
 ghost use Rattle.layout.specs.Problems.Problem.{solution};
 ghost use Rattle.layout.specs.Calls.Join.{rejoined, Join};
 
+use constants::number_of;
+
 #[unsafe(no_mangle)]
 pub extern "C" fn chordal_join(
     route: u32,
@@ -26,7 +28,7 @@ pub extern "C" fn chordal_join(
         let after = rejoined x_out.new s_out.new z_out.new scalars_out.new in
         Join route n m cones.now pattern_count pattern_words.now sol map.now before after result }
 {
-    join_on_route::join(
+    number_of(join_on_route::join(
         route,
         n,
         m,
@@ -43,5 +45,5 @@ pub extern "C" fn chordal_join(
         s_out,
         z_out,
         scalars_out,
-    )
+    ))
 }

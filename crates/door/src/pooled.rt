@@ -3,6 +3,9 @@ ghost use Rattle.layout.specs.Problems.Problem.{problem};
 ghost use Rattle.layout.specs.Calls.Tables.{tables};
 ghost use Rattle.layout.specs.Calls.Pool.{Pool};
 
+use constants::number_of;
+use problemdata::Problem;
+
 #[unsafe(no_mangle)]
 pub extern "C" fn chordal_pool(
     n: u32,
@@ -51,7 +54,7 @@ pub extern "C" fn chordal_pool(
         let after = tables p_starts_out.new p_rows_out.new p_values_out.new q_out.new a_starts_out.new a_rows_out.new a_values_out.new b_out.new cones_out.new alphas_out.new pattern_words_out.new in
         Pool p other before after result }
 {
-    pool::pool(
+    let first = Problem::from_tables(
         n,
         m,
         p_starts,
@@ -66,6 +69,8 @@ pub extern "C" fn chordal_pool(
         alphas,
         pattern_count,
         pattern_words,
+    );
+    let second = Problem::from_tables(
         n2,
         m2,
         p_starts2,
@@ -80,6 +85,10 @@ pub extern "C" fn chordal_pool(
         alphas2,
         pattern_count2,
         pattern_words2,
+    );
+    number_of(pool::pool(
+        &first,
+        &second,
         p_starts_out,
         p_rows_out,
         p_values_out,
@@ -91,5 +100,5 @@ pub extern "C" fn chordal_pool(
         cones_out,
         alphas_out,
         pattern_words_out,
-    )
+    ))
 }

@@ -1,6 +1,8 @@
 // Reads a problem from the words of its file.
 ghost use Rattle.layout.specs.Calls.ReadFile.{file_outputs, ReadFile};
 
+use constants::number_of;
+
 #[unsafe(no_mangle)]
 pub extern "C" fn chordal_read_file(
     words: &[u32],
@@ -22,7 +24,7 @@ pub extern "C" fn chordal_read_file(
         let after = file_outputs counts_out.new p_starts_out.new p_rows_out.new p_values_out.new q_out.new a_starts_out.new a_rows_out.new a_values_out.new b_out.new cones_out.new alphas_out.new pattern_words_out.new in
         ReadFile words.now length before after result }
 {
-    problem_file::read_file(
+    number_of(problem_file::read_file(
         words,
         length,
         counts_out,
@@ -37,5 +39,5 @@ pub extern "C" fn chordal_read_file(
         cones_out,
         alphas_out,
         pattern_words_out,
-    )
+    ))
 }

@@ -2,6 +2,9 @@
 ghost use Rattle.layout.specs.Problems.Problem.{problem};
 ghost use Rattle.layout.specs.Calls.SameLayout.{SameLayout};
 
+use constants::number_of;
+use problemdata::Problem;
+
 #[unsafe(no_mangle)]
 pub extern "C" fn chordal_same_layout(
     n: u32,
@@ -38,7 +41,7 @@ pub extern "C" fn chordal_same_layout(
         let other = problem n2 m2 p_starts2.now p_rows2.now p_values2.now q2.now a_starts2.now a_rows2.now a_values2.now b2.now cones2.now alphas2.now pattern_count2 pattern_words2.now in
         SameLayout p other out.old out.new result }
 {
-    same_layout::same_layout(
+    let first = Problem::from_tables(
         n,
         m,
         p_starts,
@@ -53,6 +56,8 @@ pub extern "C" fn chordal_same_layout(
         alphas,
         pattern_count,
         pattern_words,
+    );
+    let second = Problem::from_tables(
         n2,
         m2,
         p_starts2,
@@ -67,6 +72,6 @@ pub extern "C" fn chordal_same_layout(
         alphas2,
         pattern_count2,
         pattern_words2,
-        out,
-    )
+    );
+    number_of(same_layout::same_layout(&first, &second, out))
 }

@@ -2,6 +2,9 @@
 ghost use Rattle.layout.specs.Problems.Problem.{problem};
 ghost use Rattle.layout.specs.Calls.Sizes.{Sizes};
 
+use constants::number_of;
+use problemdata::Problem;
+
 #[unsafe(no_mangle)]
 pub extern "C" fn chordal_sizes(
     route: u32,
@@ -24,8 +27,7 @@ pub extern "C" fn chordal_sizes(
     ensures { let p = problem n m p_starts.now p_rows.now p_values.now q.now a_starts.now a_rows.now a_values.now b.now cones.now alphas.now pattern_count pattern_words.now in
         Sizes route p out.old out.new result }
 {
-    decomp::sizes(
-        route,
+    let problem = Problem::from_tables(
         n,
         m,
         p_starts,
@@ -40,6 +42,6 @@ pub extern "C" fn chordal_sizes(
         alphas,
         pattern_count,
         pattern_words,
-        out,
-    )
+    );
+    number_of(decomp::sizes(route, &problem, out))
 }

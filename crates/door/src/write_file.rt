@@ -2,6 +2,8 @@
 ghost use Rattle.layout.specs.Files.File.{bit_tables};
 ghost use Rattle.layout.specs.Calls.WriteFile.{WriteFile};
 
+use constants::number_of;
+
 #[unsafe(no_mangle)]
 pub extern "C" fn chordal_write_file(
     n: u32,
@@ -23,7 +25,7 @@ pub extern "C" fn chordal_write_file(
     ensures { let t = bit_tables n m p_starts.now p_rows.now p_values.now q.now a_starts.now a_rows.now a_values.now b.now cones.now alphas.now pattern_count pattern_words.now in
         WriteFile t out.old out.new result }
 {
-    file_writer::write_file(
+    number_of(file_writer::write_file(
         n,
         m,
         p_starts,
@@ -39,5 +41,5 @@ pub extern "C" fn chordal_write_file(
         pattern_count,
         pattern_words,
         out,
-    )
+    ))
 }

@@ -118,7 +118,8 @@ read_first xs rest k l =
       row_count = word (k * 5 + 4) (omega arith) z;
     }
 
-all_read : (es : List MapEntry) → Told es → (k : ℕ) (ws old : List ℕ) → k ≡ length es → ws ≡ written (map_words es) old → map (struct_at ws) (below k) ≡ map struct_of es
+-- entries read from a table whose front holds the words of es are es
+pub all_read : (es : List MapEntry) → Told es → (k : ℕ) (ws old : List ℕ) → k ≡ length es → ws ≡ written (map_words es) old → map (struct_at ws) (below k) ≡ map struct_of es
 all_read es h k ws old n e =
     map_same (struct_at ws) (λ j. struct_of (get_or es j (whole_cone 0 0 0))) (below k)
     (λ j t.

@@ -7,8 +7,9 @@ ghost use Rattle.layout.specs.Calls.Join.{rejoined, Join};
 ghost use Rattle.layout.specs.Calls.JoinEntries.{JoinEntries};
 ghost use Rattle.entries_map.specs.Entries.{meant};
 ghost use Rattle.entries_join.specs.Refusals.{given_words};
+ghost use Rattle.constants.specs.Refusals.{refusal_of};
 
-use constants::{entry, limit, route, scratch};
+use constants::{Refusal, entry, limit, route, scratch};
 use entries_map::ConeMapEntry;
 
 // Returns the number of words to compare for a map of `entries` entries: all of them, or 1 where there are more entries than any problem has. One word
@@ -22,7 +23,7 @@ fn words_of(entries: usize) -> usize
     entries * entry::WORDS
 }
 
-// Joins a compact solution, with the first `taken` words of `table` as the cone map. Returns the refusal number, or 0.
+// Joins a compact solution, with the first `taken` words of `table` as the cone map. A refused call leaves the outputs unchanged.
 fn join_words(
     n: u32,
     m: u32,
@@ -40,12 +41,12 @@ fn join_words(
     s_out: &mut [f64],
     z_out: &mut [f64],
     scalars_out: &mut [f64],
-) -> u32
+) -> Result<(), Refusal>
     requires { taken ≤ length table.now }
     ensures { let sol = solution x.now s.now z.now tau kappa in
         let before = rejoined x_out.old s_out.old z_out.old scalars_out.old in
         let after = rejoined x_out.new s_out.new z_out.new scalars_out.new in
-        Join 1 n m cones.now count words.now sol (take taken table.now) before after result }
+        Join 1 n m cones.now count words.now sol (take taken table.now) before after (refusal_of result) }
 {
     join_on_route::join(
         route::COMPACT,
@@ -67,7 +68,8 @@ fn join_words(
     )
 }
 
-// Joins a solution of the compact route's augmented problem to one of the original: writes x, s, z, and τ and κ. Returns the refusal number, or 0.
+// Joins a solution of the compact route's augmented problem to one of the original: writes x, s, z, and τ and κ. A refused call leaves the
+// outputs unchanged.
 pub fn join_compact_entries(
     n: u32,
     m: u32,
@@ -84,11 +86,11 @@ pub fn join_compact_entries(
     s_out: &mut [f64],
     z_out: &mut [f64],
     scalars_out: &mut [f64],
-) -> u32
+) -> Result<(), Refusal>
     ensures { let sol = solution x.now s.now z.now tau kappa in
         let before = rejoined x_out.old s_out.old z_out.old scalars_out.old in
         let after = rejoined x_out.new s_out.new z_out.new scalars_out.new in
-        JoinEntries n m cones.now count words.now sol (mapped meant map.now) before after result }
+        JoinEntries n m cones.now count words.now sol (mapped meant map.now) before after (refusal_of result) }
 {
     let mut table = [0u32; scratch::MAP_WORDS];
     let taken = words_of(map.len());

@@ -11,9 +11,10 @@ ghost use Rattle.layout.specs.General.Bytes.{table_bytes};
 ghost use Rattle.layout.specs.Files.FileWords.{pairs_of};
 ghost use Rattle.layout.specs.Calls.FileWords.{FileWords};
 ghost use Rattle.layout.proofs.Files.FileWalks.{put_word};
+ghost use Rattle.constants.specs.Refusals.{refusal_of};
 
+use constants::Refusal;
 use constants::file_table::{DOUBLE_BYTES, WORD_BYTES};
-use constants::refusal;
 
 // ---- words from bytes
 
@@ -25,18 +26,18 @@ fn word_at(file: &[u8], a: usize) -> u32
     u32::from_le_bytes([file[a], file[a + 1], file[a + 2], file[a + 3]])
 }
 
-// Writes the complete words of `file` to `out`; 1 to 3 bytes after them are left out. Returns 0, or 11 where `out` is too short.
-pub fn file_words(file: &[u8], out: &mut [u32]) -> u32
-    ensures { FileWords file.now out.old out.new result }
+// Writes the complete words of `file` to `out`; 1 to 3 bytes after them are left out. Refuses where `out` is too short.
+pub fn file_words(file: &[u8], out: &mut [u32]) -> Result<(), Refusal>
+    ensures { FileWords file.now out.old out.new (refusal_of result) }
 {
     let count = file.len() / WORD_BYTES;
     if out.len() < count {
-        return refusal::SHORT;
+        return Err(Refusal::Short);
     }
     for i in 0..count {
         out[i] = word_at(file, WORD_BYTES * i);
     }
-    refusal::DONE
+    Ok(())
 }
 
 // ---- 64-bit patterns from words

@@ -6,13 +6,14 @@ ghost use Rattle.layout.specs.Calls.Answers.{problem_refusal};
 ghost use Rattle.layout.specs.Files.FileWords.{words_failing, unvalued_problem};
 ghost use Rattle.layout.specs.Calls.ReadFile.{read_words_refusal};
 ghost use Rattle.file_shape.specs.Parts.{WellShaped};
+ghost use Rattle.constants.specs.Refusals.{refusal_of};
 
-use constants::{file_table, header, refusal};
+use constants::{Refusal, file_table, header};
 
-// Makes checks 1 to 7 on the tables in `words`. Returns the number of the first that fails, or 0.
-pub fn check_words(words: &[u32]) -> u32
+// Makes checks 1 to 7 on the tables in `words`. Returns the first refusal.
+pub fn check_words(words: &[u32]) -> Result<(), Refusal>
     requires { WellShaped words.now }
-    ensures { result ≡ problem_refusal (unvalued_problem words.now) }
+    ensures { refusal_of result ≡ problem_refusal (unvalued_problem words.now) }
 {
     check_problem::check_lengths(
         words[header::N],
@@ -32,24 +33,18 @@ pub fn check_words(words: &[u32]) -> u32
     )
 }
 
-// Makes checks 13, 14 and 1 to 7 on the `words` of a file of `bytes` bytes. Returns the number of the first that fails, or 0.
-pub fn refuse_words(words: &[u32], bytes: usize) -> u32
-    ensures { result ≡ words_failing words.now bytes }
+// Makes checks 13, 14 and 1 to 7 on the `words` of a file of `bytes` bytes. Returns the first refusal.
+pub fn refuse_words(words: &[u32], bytes: usize) -> Result<(), Refusal>
+    ensures { refusal_of result ≡ words_failing words.now bytes }
 {
-    let shape = file_shape::shape_refusal(words, bytes);
-    if shape != refusal::DONE {
-        return shape;
-    }
+    file_shape::shape_refusal(words, bytes)?;
     check_words(words)
 }
 
-// Makes all checks of the reader, for outputs of the lengths `rooms`. Returns the refusal number, or 0.
-pub fn refuse_read(words: &[u32], bytes: usize, rooms: &[usize]) -> u32
-    ensures { result ≡ read_words_refusal words.now bytes rooms.now }
+// Makes all checks of the reader, for outputs of the lengths `rooms`. Returns the first refusal.
+pub fn refuse_read(words: &[u32], bytes: usize, rooms: &[usize]) -> Result<(), Refusal>
+    ensures { refusal_of result ≡ read_words_refusal words.now bytes rooms.now }
 {
-    let failing = refuse_words(words, bytes);
-    if failing != refusal::DONE {
-        return failing;
-    }
+    refuse_words(words, bytes)?;
     file_tables::check_room(words, rooms)
 }

@@ -4,9 +4,10 @@
 ghost use Rattle.std.specs.Prelude.{◌≡◌, ◌≤◌, ◌<◌, ◌+◌, ◌/◌, ◌*◌, length, get_or};
 ghost use Rattle.layout.specs.Files.File.{counts_in, table_sizes};
 ghost use Rattle.layout.specs.Files.FileWords.{gap_zero, words_length_right, word_tables_right, word_shape_failing};
+ghost use Rattle.constants.specs.Refusals.{refusal_of};
 
 use constants::file_table::{DOUBLE_BYTES, WORD_BYTES};
-use constants::{file_table, header, record, refusal};
+use constants::{Refusal, file_table, header, record};
 
 // Returns word `i`, as a count.
 pub fn count_at(words: &[u32], i: usize) -> usize
@@ -111,17 +112,18 @@ fn tables_right(words: &[u32]) -> bool
     count_at(words, header::LENGTH) == a
 }
 
-// Returns 13 where `words` are not those of a file of `bytes` bytes, else 14 where its tables are not where they must be, else 0.
-pub fn shape_refusal(words: &[u32], bytes: usize) -> u32
-    ensures { result ≡ word_shape_failing words.now bytes }
+// Makes checks 13 and 14: whether `words` are those of a file of `bytes` bytes, and whether its tables are where they must be. Returns the first
+// refusal.
+pub fn shape_refusal(words: &[u32], bytes: usize) -> Result<(), Refusal>
+    ensures { refusal_of result ≡ word_shape_failing words.now bytes }
 {
     let whole = length_right(words, bytes);
     let laid = tables_right(words);
     if !whole {
-        return refusal::FILE_LENGTH;
+        return Err(Refusal::FileLength);
     }
     if !laid {
-        return refusal::FILE_TABLES;
+        return Err(Refusal::FileTables);
     }
-    refusal::DONE
+    Ok(())
 }

@@ -10,9 +10,10 @@ ghost use Rattle.layout.specs.Files.File.{aligned, counts_in, counted_lengths, w
 ghost use Rattle.layout.specs.Files.FileWords.{pairs_of, words_at};
 ghost use Rattle.file_shape.specs.Parts.{WellShaped, Inside};
 ghost use Rattle.file_tables.specs.Groups.{matrix_bytes, layout_bytes};
+ghost use Rattle.constants.specs.Refusals.{refusal_of};
 
 use constants::file_table::{DOUBLE_BYTES, WORD_BYTES};
-use constants::{file_table, header, record};
+use constants::{Refusal, file_table, header, record};
 
 // ---- the reader
 
@@ -20,10 +21,10 @@ const COUNTS: u32 = header::COUNTS as u32;
 
 const RECORD_WORDS: u32 = record::WORDS as u32;
 
-// Makes check 11 of the reader: `rooms` holds the lengths of its outputs, for the eight counts and for each table. Returns 11 or 0.
-pub fn check_room(words: &[u32], rooms: &[usize]) -> u32
+// Makes check 11 of the reader: `rooms` holds the lengths of its outputs, for the eight counts and for each table. Refuses where one is too short.
+pub fn check_room(words: &[u32], rooms: &[usize]) -> Result<(), Refusal>
     requires { WellShaped words.now }
-    ensures { result ≡ cond (roomy (8 ∷ counted_lengths (counts_in words.now)) rooms.now) 0 11 }
+    ensures { refusal_of result ≡ cond (roomy (8 ∷ counted_lengths (counts_in words.now)) rooms.now) 0 11 }
 {
     let starts = words[header::N] + 1;
     let records = RECORD_WORDS * words[header::CONES];

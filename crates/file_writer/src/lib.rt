@@ -3,10 +3,11 @@
 
 ghost use Rattle.layout.specs.Files.File.{bit_tables as tables_of};
 ghost use Rattle.layout.specs.Calls.WriteFile.{WriteFile};
+ghost use Rattle.constants.specs.Refusals.{refusal_of};
 
-use constants::{header, refusal};
+use constants::{Refusal, header};
 
-// Writes the file of a problem to `out`. Returns 0, or the number of the first of checks 1 to 7 that fails, or 11 where `out` is too short.
+// Writes the file of a problem to `out`. Returns the first refusal: of checks 1 to 7, or that `out` is too short.
 pub fn write_file(
     n: u32,
     m: u32,
@@ -23,11 +24,11 @@ pub fn write_file(
     pattern_count: u32,
     pattern_words: &[u32],
     out: &mut [u8],
-) -> u32
+) -> Result<(), Refusal>
     ensures { let t = tables_of n m p_starts.now p_rows.now p_values.now q.now a_starts.now a_rows.now a_values.now b.now cones.now alphas.now pattern_count pattern_words.now in
-        WriteFile t out.old out.new result }
+        WriteFile t out.old out.new (refusal_of result) }
 {
-    let refused = check_problem::check_lengths(
+    check_problem::check_lengths(
         n,
         m,
         p_starts,
@@ -42,10 +43,7 @@ pub fn write_file(
         alphas.len(),
         pattern_count,
         pattern_words,
-    );
-    if refused != refusal::DONE {
-        return refused;
-    }
+    )?;
     let mut header = [0u32; header::WORDS];
     file_tables::make_header(
         n,
@@ -65,7 +63,7 @@ pub fn write_file(
         &mut header,
     );
     if out.len() < header[header::LENGTH] as usize {
-        return refusal::SHORT;
+        return Err(Refusal::Short);
     }
     file_bytes::write_words(&header, &mut *out);
     file_tables::lay_tables(
@@ -82,5 +80,5 @@ pub fn write_file(
         pattern_words,
         &mut out[header::BYTES..],
     );
-    refusal::DONE
+    Ok(())
 }

@@ -13,8 +13,9 @@ ghost use Rattle.layout.specs.Calls.Generate.{draws as draws_of, drawn_value, dr
 ghost use Rattle.generator.specs.Lengths.{lengths_of, RoomsOf};
 ghost use Rattle.layout.specs.Calls.Tables.{tables};
 ghost use Rattle.layout.specs.Calls.GenerateSizes.{GenerateSizes};
+ghost use Rattle.constants.specs.Refusals.{refusal_of};
 
-use constants::refusal;
+use constants::Refusal;
 use generator_columns::ColumnDraw;
 use scalarmath::triangular_number;
 
@@ -176,29 +177,29 @@ fn write_lengths(v: u32, w: u32, n: u32, entries: u32, out: &mut [u32])
     csc::copy_front(out, &lengths);
 }
 
-// Writes the length of each of the eleven tables of the generated problem to `out`. Returns 15 for arguments out of range, 11 if `out` is
-// too short (`out` is then unchanged), and 0 otherwise.
-pub fn generate_sizes(seed: u64, v: u32, w: u32, n: u32, out: &mut [u32]) -> u32
-    ensures { GenerateSizes seed v w n out.old out.new result }
+// Writes the length of each of the eleven tables of the generated problem to `out`. Refuses arguments out of range, and then
+// an `out` that is too short; `out` is then unchanged.
+pub fn generate_sizes(seed: u64, v: u32, w: u32, n: u32, out: &mut [u32]) -> Result<(), Refusal>
+    ensures { GenerateSizes seed v w n out.old out.new (refusal_of result) }
 {
     if !generator_draws::in_ranges(seed, v, w, n) {
-        return refusal::RANGES;
+        return Err(Refusal::Ranges);
     }
     if out.len() < 11 {
-        return refusal::SHORT;
+        return Err(Refusal::Short);
     }
     let mut rows = [0u32; 2080];
     let entries = count_entries(seed, v, w, n, &mut rows);
     write_lengths(v, w, n, entries, out);
-    0
+    Ok(())
 }
 
 // ---- the problem
 
-// Makes check 11 on outputs of the lengths in `rooms`, for a problem whose A has `entries` entries. Returns 11 or 0.
-fn check_outputs(v: u32, w: u32, n: u32, entries: u32, rooms: &[usize]) -> u32
+// Makes check 11 on outputs of the lengths in `rooms`, for a problem whose A has `entries` entries.
+fn check_outputs(v: u32, w: u32, n: u32, entries: u32, rooms: &[usize]) -> Result<(), Refusal>
     requires { (w < v) × (v ≤ 64) × (n ≤ 64) }
-    ensures { result ≡ cond (roomy (lengths_of v w n entries) rooms.now) 0 11 }
+    ensures { refusal_of result ≡ cond (roomy (lengths_of v w n entries) rooms.now) 0 11 }
 {
     let mut needs = [0u32; 11];
     write_lengths(v, w, n, entries, &mut needs);
@@ -206,7 +207,7 @@ fn check_outputs(v: u32, w: u32, n: u32, entries: u32, rooms: &[usize]) -> u32
 }
 
 // Draws A and b over `rows`, starting from state `s`, and writes them: first a walk over the draws that counts the entries, then one that writes
-// them. `m` is the length of b, and `rooms` has the length of every output. Returns 11, with nothing written, if one is too short, and 0 otherwise.
+// them. `m` is the length of b, and `rooms` has the length of every output. Refuses, with nothing written, if one is too short.
 fn write_twice(
     s: u64,
     rows: &[u32],
@@ -219,23 +220,20 @@ fn write_twice(
     rows_out: &mut [u32],
     values_out: &mut [f64],
     b_out: &mut [f64],
-) -> u32
+) -> Result<(), Refusal>
     requires w_lt_v { (w < v) × (v ≤ 64) × (n ≤ 64) × (length rows.now ≤ 2080) × (m ≡ triangle v) × Below m rows.now }
     requires rooms_of { RoomsOf rooms.now (length starts_out.old) (length rows_out.old) (length values_out.old) (length b_out.old) }
-    ensures value { result ≡ cond (roomy (lengths_of v w n (sum (map length (drawn_columns s rows.now n)))) rooms.now) 0 11 }
-    ensures starts_out_after { starts_out.new ≡ output result (csc_of (drawn_columns s rows.now n)).starts starts_out.old }
-    ensures rows_out_after { rows_out.new ≡ output result (csc_of (drawn_columns s rows.now n)).rows rows_out.old }
-    ensures values_out_after { values_out.new ≡ output result (csc_of (drawn_columns s rows.now n)).values values_out.old }
-    ensures b_out_after { b_out.new ≡ output result (drawn_side (after_columns s rows.now n) rows.now (replicate m zero64)) b_out.old }
+    ensures value { refusal_of result ≡ cond (roomy (lengths_of v w n (sum (map length (drawn_columns s rows.now n)))) rooms.now) 0 11 }
+    ensures starts_out_after { starts_out.new ≡ output (refusal_of result) (csc_of (drawn_columns s rows.now n)).starts starts_out.old }
+    ensures rows_out_after { rows_out.new ≡ output (refusal_of result) (csc_of (drawn_columns s rows.now n)).rows rows_out.old }
+    ensures values_out_after { values_out.new ≡ output (refusal_of result) (csc_of (drawn_columns s rows.now n)).values values_out.old }
+    ensures b_out_after { b_out.new ≡ output (refusal_of result) (drawn_side (after_columns s rows.now n) rows.now (replicate m zero64)) b_out.old }
 {
     let entries = count_columns(s, rows, n);
-    let refused = check_outputs(v, w, n, entries, rooms);
-    if refused != 0 {
-        return refused;
-    }
+    check_outputs(v, w, n, entries, rooms)?;
     let after = write_columns(s, rows, n, starts_out, rows_out, values_out);
     write_side(after, rows, m, b_out);
-    0
+    Ok(())
 }
 
 // Does what `write_twice` does, for few entries and with one walk: the entries are kept until the outputs are found to be long enough.
@@ -251,23 +249,20 @@ fn write_once(
     rows_out: &mut [u32],
     values_out: &mut [f64],
     b_out: &mut [f64],
-) -> u32
+) -> Result<(), Refusal>
     requires w_lt_v { (w < v) × (v ≤ 64) × (n ≤ 64) × (n * length rows.now < 8192) × (m ≡ triangle v) × Below m rows.now }
     requires rooms_of { RoomsOf rooms.now (length starts_out.old) (length rows_out.old) (length values_out.old) (length b_out.old) }
-    ensures value { result ≡ cond (roomy (lengths_of v w n (sum (map length (drawn_columns s rows.now n)))) rooms.now) 0 11 }
-    ensures starts_out_after { starts_out.new ≡ output result (csc_of (drawn_columns s rows.now n)).starts starts_out.old }
-    ensures rows_out_after { rows_out.new ≡ output result (csc_of (drawn_columns s rows.now n)).rows rows_out.old }
-    ensures values_out_after { values_out.new ≡ output result (csc_of (drawn_columns s rows.now n)).values values_out.old }
-    ensures b_out_after { b_out.new ≡ output result (drawn_side (after_columns s rows.now n) rows.now (replicate m zero64)) b_out.old }
+    ensures value { refusal_of result ≡ cond (roomy (lengths_of v w n (sum (map length (drawn_columns s rows.now n)))) rooms.now) 0 11 }
+    ensures starts_out_after { starts_out.new ≡ output (refusal_of result) (csc_of (drawn_columns s rows.now n)).starts starts_out.old }
+    ensures rows_out_after { rows_out.new ≡ output (refusal_of result) (csc_of (drawn_columns s rows.now n)).rows rows_out.old }
+    ensures values_out_after { values_out.new ≡ output (refusal_of result) (csc_of (drawn_columns s rows.now n)).values values_out.old }
+    ensures b_out_after { b_out.new ≡ output (refusal_of result) (drawn_side (after_columns s rows.now n) rows.now (replicate m zero64)) b_out.old }
 {
     let mut starts = [0u32; 65];
     let mut kept_rows = [0u32; KEPT];
     let mut kept = [0u64; KEPT];
     let d = keep_columns(s, rows, n, &mut starts, &mut kept_rows, &mut kept);
-    let refused = check_outputs(v, w, n, d.count as u32, rooms);
-    if refused != 0 {
-        return refused;
-    }
+    check_outputs(v, w, n, d.count as u32, rooms)?;
     csc::copy_front(starts_out, &starts[..n as usize + 1]);
     generator_columns::write_kept(
         &kept_rows[..d.count],
@@ -276,7 +271,7 @@ fn write_once(
         values_out,
     );
     write_side(d.state, rows, m, b_out);
-    0
+    Ok(())
 }
 
 // Returns whether the entries of `n` columns over `rows` rows are kept: they fit, and are enough to make it worthwhile.
@@ -289,7 +284,7 @@ fn are_kept(rows: usize, n: u32) -> bool
 }
 
 // Writes A and b, drawn over the rows that the band covers. `rooms` has the length of every output, and `rows` is a scratch buffer for these rows.
-// Returns 11, with nothing written, if an output is too short, and 0 otherwise.
+// Refuses, with nothing written, if an output is too short.
 fn write_drawn(
     seed: u64,
     v: u32,
@@ -301,14 +296,14 @@ fn write_drawn(
     a_rows_out: &mut [u32],
     a_values_out: &mut [f64],
     b_out: &mut [f64],
-) -> u32
+) -> Result<(), Refusal>
     requires t { T (in_ranges seed v w n) × (2080 ≤ length rows.old) }
     requires rooms_of { RoomsOf rooms.now (length a_starts_out.old) (length a_rows_out.old) (length a_values_out.old) (length b_out.old) }
-    ensures value { result ≡ cond (roomy (table_lengths (generated seed v w n)) rooms.now) 0 11 }
-    ensures a_starts_out_after { a_starts_out.new ≡ output result (generated seed v w n).A.starts a_starts_out.old }
-    ensures a_rows_out_after { a_rows_out.new ≡ output result (generated seed v w n).A.rows a_rows_out.old }
-    ensures a_values_out_after { a_values_out.new ≡ output result (generated seed v w n).A.values a_values_out.old }
-    ensures b_out_after { b_out.new ≡ output result (generated seed v w n).b b_out.old }
+    ensures value { refusal_of result ≡ cond (roomy (table_lengths (generated seed v w n)) rooms.now) 0 11 }
+    ensures a_starts_out_after { a_starts_out.new ≡ output (refusal_of result) (generated seed v w n).A.starts a_starts_out.old }
+    ensures a_rows_out_after { a_rows_out.new ≡ output (refusal_of result) (generated seed v w n).A.rows a_rows_out.old }
+    ensures a_values_out_after { a_values_out.new ≡ output (refusal_of result) (generated seed v w n).A.values a_values_out.old }
+    ensures b_out_after { b_out.new ≡ output (refusal_of result) (generated seed v w n).b b_out.old }
 {
     let d = draw_rows(seed, v, w, &mut *rows);
     let m = triangular_number(v);
@@ -371,7 +366,7 @@ fn write_objective(n: u32, p_starts_out: &mut [u32], q_out: &mut [f64])
     csc::fill_front(q_out, count, 0.0);
 }
 
-// Writes A and b. `rooms` has the length of every output of `generate`. Returns the refusal number of `generate`, or 0; a refused call writes nothing.
+// Writes A and b. `rooms` has the length of every output of `generate`. Refuses what `generate` refuses, with nothing written.
 fn write_constraints(
     seed: u64,
     v: u32,
@@ -382,16 +377,16 @@ fn write_constraints(
     a_rows_out: &mut [u32],
     a_values_out: &mut [f64],
     b_out: &mut [f64],
-) -> u32
+) -> Result<(), Refusal>
     requires { RoomsOf rooms.now (length a_starts_out.old) (length a_rows_out.old) (length a_values_out.old) (length b_out.old) }
-    ensures value { result ≡ generate_refusal seed v w n rooms.now }
-    ensures a_starts_out_after { a_starts_out.new ≡ output result (generated seed v w n).A.starts a_starts_out.old }
-    ensures a_rows_out_after { a_rows_out.new ≡ output result (generated seed v w n).A.rows a_rows_out.old }
-    ensures a_values_out_after { a_values_out.new ≡ output result (generated seed v w n).A.values a_values_out.old }
-    ensures b_out_after { b_out.new ≡ output result (generated seed v w n).b b_out.old }
+    ensures value { refusal_of result ≡ generate_refusal seed v w n rooms.now }
+    ensures a_starts_out_after { a_starts_out.new ≡ output (refusal_of result) (generated seed v w n).A.starts a_starts_out.old }
+    ensures a_rows_out_after { a_rows_out.new ≡ output (refusal_of result) (generated seed v w n).A.rows a_rows_out.old }
+    ensures a_values_out_after { a_values_out.new ≡ output (refusal_of result) (generated seed v w n).A.values a_values_out.old }
+    ensures b_out_after { b_out.new ≡ output (refusal_of result) (generated seed v w n).b b_out.old }
 {
     if !generator_draws::in_ranges(seed, v, w, n) {
-        return refusal::RANGES;
+        return Err(Refusal::Ranges);
     }
     let mut rows = [0u32; 2080];
     write_drawn(
@@ -419,8 +414,8 @@ fn write_layout(seed: u64, v: u32, w: u32, cones_out: &mut [u32], words_out: &mu
     write_pattern(seed, w, &mut ordering[..v as usize], words_out);
 }
 
-// Writes each table of the generated problem to the front of its output. Returns 15 for arguments out of range, 11 if an output is too
-// short (all outputs are then unchanged), and 0 otherwise.
+// Writes each table of the generated problem to the front of its output. Refuses arguments out of range, and then an output that is
+// too short; all outputs are then unchanged.
 pub fn generate(
     seed: u64,
     v: u32,
@@ -437,10 +432,10 @@ pub fn generate(
     cones_out: &mut [u32],
     alphas_out: &mut [f64],
     pattern_words_out: &mut [u32],
-) -> u32
+) -> Result<(), Refusal>
     ensures { let before = tables p_starts_out.old p_rows_out.old p_values_out.old q_out.old a_starts_out.old a_rows_out.old a_values_out.old b_out.old cones_out.old alphas_out.old pattern_words_out.old in
         let after = tables p_starts_out.new p_rows_out.new p_values_out.new q_out.new a_starts_out.new a_rows_out.new a_values_out.new b_out.new cones_out.new alphas_out.new pattern_words_out.new in
-        Generate seed v w n before after result }
+        Generate seed v w n before after (refusal_of result) }
 {
     let rooms = [
         p_starts_out.len(),
@@ -455,7 +450,7 @@ pub fn generate(
         alphas_out.len(),
         pattern_words_out.len(),
     ];
-    let refused = write_constraints(
+    write_constraints(
         seed,
         v,
         w,
@@ -465,11 +460,8 @@ pub fn generate(
         a_rows_out,
         a_values_out,
         b_out,
-    );
-    if refused != 0 {
-        return refused;
-    }
+    )?;
     write_objective(n, p_starts_out, q_out);
     write_layout(seed, v, w, cones_out, pattern_words_out);
-    0
+    Ok(())
 }

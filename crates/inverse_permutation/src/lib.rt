@@ -5,8 +5,9 @@ ghost use Rattle.std.specs.Prelude.{◌≡◌, ◌≤◌, true, not, length, rep
 ghost use Rattle.layout.specs.General.Lists.{all, is_permutation};
 ghost use Rattle.layout.specs.Calls.Inverse.{Inverse};
 ghost use Rattle.utils.specs.Scattered.{scattered};
+ghost use Rattle.constants.specs.Refusals.{refusal_of};
 
-use constants::refusal;
+use constants::Refusal;
 
 // ---- the inverse made in a table
 
@@ -63,19 +64,19 @@ fn invert(p: &[u32], table: &mut [u32], early: bool) -> bool
 
 // Makes the inverse of `p` in `table` and copies it to the front of `out`, so that each number is placed once and `out` is unchanged where `p`
 // is refused. `early` is for `invert`. Returns what `inverse` returns.
-fn inverse_by(p: &[u32], table: &mut [u32], early: bool, out: &mut [u32]) -> u32
+fn inverse_by(p: &[u32], table: &mut [u32], early: bool, out: &mut [u32]) -> Result<(), Refusal>
     requires table_value { table.old ≡ replicate (length table.old) 4294967295 }
     requires p_in_bounds { (length p.now ≤ length table.old) × (length p.now ≤ 4294967295) }
-    ensures { Inverse p.now out.old out.new result }
+    ensures { Inverse p.now out.old out.new (refusal_of result) }
 {
     if !invert(p, &mut *table, early) {
-        return refusal::PATTERNS;
+        return Err(Refusal::Patterns);
     }
     if out.len() < p.len() {
-        return refusal::SHORT;
+        return Err(Refusal::Short);
     }
     csc::copy_front(out, &table[..p.len()]);
-    refusal::DONE
+    Ok(())
 }
 
 // Makes the inverse of up to `N` numbers. `early` is for `invert`. Returns what `inverse` returns.
@@ -83,10 +84,10 @@ fn inverse_by(p: &[u32], table: &mut [u32], early: bool, out: &mut [u32]) -> u32
 // Each table is in a function of its own, because a call touches every page of its function's tables. There are nine sizes, because the compiler keeps a
 // function apart only where it expects few calls of it: behind six tests or more. The second walk over the indices is timed to pay from 65 to 1,024
 // numbers; in a long table the test of an index before it is written fetches it in time.
-fn inverse_in<const N: usize>(p: &[u32], early: bool, out: &mut [u32]) -> u32
+fn inverse_in<const N: usize>(p: &[u32], early: bool, out: &mut [u32]) -> Result<(), Refusal>
     requires p_fits { length p.now ≤ N }
     requires size { N ≤ 4294967295 }
-    ensures { Inverse p.now out.old out.new result }
+    ensures { Inverse p.now out.old out.new (refusal_of result) }
 {
     let mut table = [UNPLACED; N];
     inverse_by(p, &mut table, early, out)
@@ -95,25 +96,25 @@ fn inverse_in<const N: usize>(p: &[u32], early: bool, out: &mut [u32]) -> u32
 // ---- the inverse of a long permutation, tested first
 
 // Writes the inverse of a permutation `p` of any length to the front of `out`, and tests `p` first. Returns what `inverse` returns.
-fn long_inverse(p: &[u32], out: &mut [u32]) -> u32
-    ensures { Inverse p.now out.old out.new result }
+fn long_inverse(p: &[u32], out: &mut [u32]) -> Result<(), Refusal>
+    ensures { Inverse p.now out.old out.new (refusal_of result) }
 {
     if !inverse_marks::is_long_permutation(p) {
-        return refusal::PATTERNS;
+        return Err(Refusal::Patterns);
     }
     if out.len() < p.len() {
-        return refusal::SHORT;
+        return Err(Refusal::Short);
     }
     utils::scatter(p, out);
-    refusal::DONE
+    Ok(())
 }
 
 // ---- the call
 
 // Writes the inverse of the permutation `p` (the index of each number in `p`) to the front of `out`. A shorter `p` has a smaller table, which is
-// faster to fill. Returns 5 if `p` is no permutation of the numbers below its length, 11 if `out` is too short, and 0 otherwise.
-pub fn inverse(p: &[u32], out: &mut [u32]) -> u32
-    ensures { Inverse p.now out.old out.new result }
+// faster to fill. Refuses a `p` that is no permutation of the numbers below its length, and an `out` that is too short.
+pub fn inverse(p: &[u32], out: &mut [u32]) -> Result<(), Refusal>
+    ensures { Inverse p.now out.old out.new (refusal_of result) }
 {
     if p.len() <= 16 {
         return inverse_in::<16>(p, true, out);

@@ -14,9 +14,10 @@ ghost use Rattle.supernode_tree.specs.Sizes.{block_at_most, dim_of};
 ghost use Rattle.rows_tables.specs.Tables.{entries_down};
 ghost use Rattle.join_on_route.specs.Begins.{begins, Tells};
 ghost use Rattle.join_on_route.specs.Fits.{lengths_fit, counted_refusal, refusal_by};
+ghost use Rattle.constants.specs.Refusals.{refusal_of};
 
 use constants::entry::NO_PATTERN;
-use constants::{entry, limit, refusal, route};
+use constants::{Refusal, entry, limit, route};
 use reverse_standard::Scalars;
 use supernode_tree::{Clique, Pattern};
 use walk_cones::{Met, Place};
@@ -216,7 +217,7 @@ pub fn lengths_fit(
     }
 }
 
-// Makes checks 10 to 12 in order, except for the cone map, from counts and lengths. Returns the number of the first that fails, or 0.
+// Makes checks 10 to 12 in order, except for the cone map, from counts and lengths. Returns the first refusal.
 fn refuse_counted(
     route: u32,
     n: u32,
@@ -230,24 +231,21 @@ fn refuse_counted(
     s_room: usize,
     z_room: usize,
     scalars_room: usize,
-) -> u32
+) -> Result<(), Refusal>
     requires { overlaps ≤ rows }
-    ensures { result ≡ counted_refusal (route_of route) n m rows overlaps x s z (x_room ∷ s_room ∷ z_room ∷ scalars_room ∷ []) }
+    ensures { refusal_of result ≡ counted_refusal (route_of route) n m rows overlaps x s z (x_room ∷ s_room ∷ z_room ∷ scalars_room ∷ []) }
 {
-    let r = chordal_info::rows_refusal(route, m, rows, overlaps);
-    if r != refusal::DONE {
-        return r;
-    }
+    chordal_info::rows_refusal(route, m, rows, overlaps)?;
     if !room_enough(n, m, x_room, s_room, z_room, scalars_room) {
-        return refusal::SHORT;
+        return Err(Refusal::Short);
     }
     if !lengths_fit(route, n, m, rows, overlaps, x, s, z) {
-        return refusal::SOLUTION;
+        return Err(Refusal::Solution);
     }
-    refusal::DONE
+    Ok(())
 }
 
-// Makes the checks of a joining in order, with the lengths of x, s and z and the room of each output. Returns the number of the first that fails, or 0.
+// Makes the checks of a joining in order, with the lengths of x, s and z and the room of each output. Returns the first refusal.
 // Any `route` but 0 is taken as compact. The rows of the blocks are counted once for all checks.
 fn refuse_join(
     route: u32,
@@ -264,14 +262,11 @@ fn refuse_join(
     s_room: usize,
     z_room: usize,
     scalars_room: usize,
-) -> u32
-    ensures { result ≡ refusal_by (route_of route) n m cones.now count words.now x s z entries.now (x_room ∷ s_room ∷ z_room ∷ scalars_room ∷ []) }
+) -> Result<(), Refusal>
+    ensures { refusal_of result ≡ refusal_by (route_of route) n m cones.now count words.now x s z entries.now (x_room ∷ s_room ∷ z_room ∷ scalars_room ∷ []) }
 {
-    let c = check_problem::check_joined(n, m, cones, count, words);
-    if c.refusal != refusal::DONE {
-        return c.refusal;
-    }
-    let r = refuse_counted(
+    let c = check_problem::check_joined(n, m, cones, count, words)?;
+    refuse_counted(
         route,
         n,
         m,
@@ -284,17 +279,14 @@ fn refuse_join(
         s_room,
         z_room,
         scalars_room,
-    );
-    if r != refusal::DONE {
-        return r;
-    }
+    )?;
     if route == route::STANDARD {
-        return refusal::DONE;
+        return Ok(());
     }
     if map_right(m, cones, count, words, entries) {
-        return refusal::DONE;
+        return Ok(());
     }
-    refusal::SOLUTION
+    Err(Refusal::Solution)
 }
 
 // ---- the joining
@@ -309,7 +301,7 @@ pub fn write_scalars(scalars: Scalars, out: &mut [f64])
 }
 
 // Joins a solution of the augmented problem to one of the original, and writes x, s, z, and τ and κ to the outputs; the standard route ignores `map`.
-// Returns 0, or the refusal number, with the outputs unchanged.
+// A refused call leaves the outputs unchanged.
 pub fn join(
     route: u32,
     n: u32,
@@ -327,16 +319,16 @@ pub fn join(
     s_out: &mut [f64],
     z_out: &mut [f64],
     scalars_out: &mut [f64],
-) -> u32
+) -> Result<(), Refusal>
     ensures { let sol = solution x.now s.now z.now tau kappa in
         let before = rejoined x_out.old s_out.old z_out.old scalars_out.old in
         let after = rejoined x_out.new s_out.new z_out.new scalars_out.new in
-        Join route n m cones.now count words.now sol map.now before after result }
+        Join route n m cones.now count words.now sol map.now before after (refusal_of result) }
 {
     if route::COMPACT < route {
-        return refusal::BOUND;
+        return Err(Refusal::Bound);
     }
-    let r = refuse_join(
+    refuse_join(
         route,
         n,
         m,
@@ -351,10 +343,7 @@ pub fn join(
         s_out.len(),
         z_out.len(),
         scalars_out.len(),
-    );
-    if r != refusal::DONE {
-        return r;
-    }
+    )?;
     join_rows::copy_x(n, x, x_out);
     join_rows::decomp_reverse(
         route == route::STANDARD,
@@ -370,5 +359,5 @@ pub fn join(
     );
     let scalars = Scalars { tau, kappa };
     write_scalars(scalars.joined(), scalars_out);
-    refusal::DONE
+    Ok(())
 }

@@ -1,9 +1,9 @@
 -- A pool that is not refused: the preconditions of its writers, and the tables that they write.
-use Prim.Native.Nat.{ℕ, suc, ◌+◌, ◌≤◌, ◌<◌}
+use Prim.Native.Nat.{ℕ, suc, ◌+◌, ◌≤◌}
 use native.Mathlib.Omega.{arith}
 use mathlib.Core.Path.{◌≡◌, sym, ap, subst, ◌∙◌}
 use mathlib.Core.Bool.{true}
-use mathlib.Core.List.{List, [], ◌∷◌, ◌++◌, map}
+use mathlib.Core.List.{List, ◌++◌, map}
 use lib.ListN.{length, get_or}
 use lib.Dec.{T, ltb, lt→ltb}
 use Rattle.layout.specs.General.Lists.{all, below}

@@ -2,123 +2,79 @@
 #![tactic(auto)]
 
 ghost use Rattle.std.specs.Prelude.{◌≡◌, ◌&&◌, cond, ◌+◌, ◌≤◌, length, eqb, leb};
-ghost use Rattle.layout.specs.Problems.Problem.{problem};
 ghost use Rattle.layout.specs.Problems.Cones.{records};
 ghost use Rattle.layout.specs.Calls.Answers.{roomy};
 ghost use Rattle.layout.specs.Calls.Pool.{pool_refusal};
 ghost use Rattle.pool_refusals.specs.Refusals.{second_refusal, both_refusal};
+ghost use Rattle.constants.specs.Refusals.{refusal_of};
+ghost use Rattle.problemdata.specs.Tables.{problem_of};
 
-use constants::{limit, refusal};
+use constants::{Refusal, limit};
+use problemdata::Problem;
 
-// Compares the unknowns of the first problem and of the second. Returns 17 where `n` and `n2` differ, otherwise 0.
-fn compare_unknowns(n: u32, n2: u32) -> u32
-    ensures { result ≡ cond (eqb n n2) 0 17 }
+// Compares the unknowns of the first problem and of the second.
+fn compare_unknowns(n: u32, n2: u32) -> Result<(), Refusal>
+    ensures { refusal_of result ≡ cond (eqb n n2) 0 17 }
 {
     if n != n2 {
-        return refusal::UNKNOWNS;
+        return Err(Refusal::Unknowns);
     }
-    refusal::DONE
+    Ok(())
 }
 
-// Makes checks 1 to 7 of the second problem, then compares its unknowns with the `n` of the first. Returns the number of the first check
-// that fails, otherwise 0.
-fn check_second(
-    n: u32,
-    n2: u32,
-    m2: u32,
-    p_starts2: &[u32],
-    p_rows2: &[u32],
-    p_values2: &[f64],
-    q2: &[f64],
-    a_starts2: &[u32],
-    a_rows2: &[u32],
-    a_values2: &[f64],
-    b2: &[f64],
-    cones2: &[u32],
-    alphas2: &[f64],
-    count2: u32,
-    words2: &[u32],
-) -> u32
-    ensures { let other = problem n2 m2 p_starts2.now p_rows2.now p_values2.now q2.now a_starts2.now a_rows2.now a_values2.now b2.now cones2.now alphas2.now count2 words2.now in
-        result ≡ second_refusal n other }
+// Makes checks 1 to 7 of the second problem, then compares its unknowns with the `n` of the first. Returns the first refusal.
+fn check_second(n: u32, second: &Problem) -> Result<(), Refusal>
+    ensures { let other = problem_of second.now in
+        refusal_of result ≡ second_refusal n other }
 {
-    let checked = check_problem::check_problem(
-        n2, m2, p_starts2, p_rows2, p_values2, q2, a_starts2, a_rows2, a_values2, b2, cones2,
-        alphas2, count2, words2,
-    );
-    let compared = compare_unknowns(n, n2);
-    if checked != refusal::DONE {
-        return checked;
-    }
-    compared
+    check_problem::check_problem(second)?;
+    compare_unknowns(n, second.n)
 }
 
 // Makes checks 1 to 7 of the first problem, then of the second, then compares their unknowns. The second's are not made if they would read the
-// same as of the first, as in a second pass over the same layout. Returns the number of the first check that fails, otherwise 0.
-fn check_both(
-    n: u32,
-    m: u32,
-    p_starts: &[u32],
-    p_rows: &[u32],
-    p_values: &[f64],
-    q: &[f64],
-    a_starts: &[u32],
-    a_rows: &[u32],
-    a_values: &[f64],
-    b: &[f64],
-    cones: &[u32],
-    alphas: &[f64],
-    count: u32,
-    words: &[u32],
-    n2: u32,
-    m2: u32,
-    p_starts2: &[u32],
-    p_rows2: &[u32],
-    p_values2: &[f64],
-    q2: &[f64],
-    a_starts2: &[u32],
-    a_rows2: &[u32],
-    a_values2: &[f64],
-    b2: &[f64],
-    cones2: &[u32],
-    alphas2: &[f64],
-    count2: u32,
-    words2: &[u32],
-) -> u32
-    ensures { let p = problem n m p_starts.now p_rows.now p_values.now q.now a_starts.now a_rows.now a_values.now b.now cones.now alphas.now count words.now in
-        let other = problem n2 m2 p_starts2.now p_rows2.now p_values2.now q2.now a_starts2.now a_rows2.now a_values2.now b2.now cones2.now alphas2.now count2 words2.now in
-        result ≡ both_refusal p other }
+// same as of the first, as in a second pass over the same layout. Returns the first refusal.
+fn check_both(first: &Problem, second: &Problem) -> Result<(), Refusal>
+    ensures { let p = problem_of first.now in
+        let other = problem_of second.now in
+        refusal_of result ≡ both_refusal p other }
 {
-    let first = check_problem::check_problem(
-        n, m, p_starts, p_rows, p_values, q, a_starts, a_rows, a_values, b, cones, alphas, count,
-        words,
-    );
-    if first != refusal::DONE {
-        return first;
-    }
+    check_problem::check_problem(first)?;
     let same = same_tables::layouts_agree(
-        n, m, p_starts, p_rows, a_starts, a_rows, cones, alphas, words, n2, m2, p_starts2, p_rows2,
-        a_starts2, a_rows2, cones2, alphas2, words2,
+        first.n,
+        first.m,
+        first.p.starts,
+        first.p.rows,
+        first.a.starts,
+        first.a.rows,
+        first.cones,
+        first.alphas,
+        first.words,
+        second.n,
+        second.m,
+        second.p.starts,
+        second.p.rows,
+        second.a.starts,
+        second.a.rows,
+        second.cones,
+        second.alphas,
+        second.words,
     );
     if same_tables::checked_alike(
         same,
-        count,
-        p_values.len(),
-        q.len(),
-        a_values.len(),
-        b.len(),
-        count2,
-        p_values2.len(),
-        q2.len(),
-        a_values2.len(),
-        b2.len(),
+        first.count,
+        first.p.values.len(),
+        first.q.len(),
+        first.a.values.len(),
+        first.b.len(),
+        second.count,
+        second.p.values.len(),
+        second.q.len(),
+        second.a.values.len(),
+        second.b.len(),
     ) {
-        return compare_unknowns(n, n2);
+        return compare_unknowns(first.n, second.n);
     }
-    check_second(
-        n, n2, m2, p_starts2, p_rows2, p_values2, q2, a_starts2, a_rows2, a_values2, b2, cones2,
-        alphas2, count2, words2,
-    )
+    check_second(first.n, second)
 }
 
 // Tests the bounds of check 1 that the pool can exceed: rows, entries of A and cones. Of checks 1 to 7 no more can fail in a pool of two
@@ -139,78 +95,48 @@ fn bounded(
         && supportedcone::record_count(cones) + supportedcone::record_count(cones2) <= limit::CONES
 }
 
-// Compares the length that each output needs (`needs`) with the one that it has (`rooms`). Returns 11 where one is too short, otherwise 0.
-fn check_rooms(needs: &[usize], rooms: &[usize]) -> u32
-    ensures { result ≡ cond (roomy needs.now rooms.now) 0 11 }
+// Compares the length that each output needs (`needs`) with the one that it has (`rooms`).
+fn check_rooms(needs: &[usize], rooms: &[usize]) -> Result<(), Refusal>
+    ensures { refusal_of result ≡ cond (roomy needs.now rooms.now) 0 11 }
 {
     for (i, &need) in needs.iter().enumerate() {
         if rooms.len() <= i || rooms[i] < need {
-            return refusal::SHORT;
+            return Err(Refusal::Short);
         }
     }
-    refusal::DONE
+    Ok(())
 }
 
-// Makes all checks of the call, for outputs of the lengths `rooms`; the pool is not written, since its sizes are sums. Returns the refusal
-// number, 0 for none.
-pub fn refuse(
-    n: u32,
-    m: u32,
-    p_starts: &[u32],
-    p_rows: &[u32],
-    p_values: &[f64],
-    q: &[f64],
-    a_starts: &[u32],
-    a_rows: &[u32],
-    a_values: &[f64],
-    b: &[f64],
-    cones: &[u32],
-    alphas: &[f64],
-    count: u32,
-    words: &[u32],
-    n2: u32,
-    m2: u32,
-    p_starts2: &[u32],
-    p_rows2: &[u32],
-    p_values2: &[f64],
-    q2: &[f64],
-    a_starts2: &[u32],
-    a_rows2: &[u32],
-    a_values2: &[f64],
-    b2: &[f64],
-    cones2: &[u32],
-    alphas2: &[f64],
-    count2: u32,
-    words2: &[u32],
-    rooms: &[usize],
-) -> u32
-    ensures { let p = problem n m p_starts.now p_rows.now p_values.now q.now a_starts.now a_rows.now a_values.now b.now cones.now alphas.now count words.now in
-        let other = problem n2 m2 p_starts2.now p_rows2.now p_values2.now q2.now a_starts2.now a_rows2.now a_values2.now b2.now cones2.now alphas2.now count2 words2.now in
-        result ≡ pool_refusal p other rooms.now }
+// Makes all checks of the call, for outputs of the lengths `rooms`; the pool is not written, since its sizes are sums. Returns the first
+// refusal.
+pub fn refuse(first: &Problem, second: &Problem, rooms: &[usize]) -> Result<(), Refusal>
+    ensures { let p = problem_of first.now in
+        let other = problem_of second.now in
+        refusal_of result ≡ pool_refusal p other rooms.now }
 {
-    let both = check_both(
-        n, m, p_starts, p_rows, p_values, q, a_starts, a_rows, a_values, b, cones, alphas, count,
-        words, n2, m2, p_starts2, p_rows2, p_values2, q2, a_starts2, a_rows2, a_values2, b2,
-        cones2, alphas2, count2, words2,
-    );
-    if both != refusal::DONE {
-        return both;
-    }
-    if !bounded(m, a_values, cones, m2, a_values2, cones2) {
-        return refusal::BOUND;
+    check_both(first, second)?;
+    if !bounded(
+        first.m,
+        first.a.values,
+        first.cones,
+        second.m,
+        second.a.values,
+        second.cones,
+    ) {
+        return Err(Refusal::Bound);
     }
     let needs = [
-        p_starts.len(),
-        p_rows.len(),
-        p_values.len(),
-        q.len(),
-        a_starts.len(),
-        a_rows.len() + a_rows2.len(),
-        a_values.len() + a_values2.len(),
-        b.len() + b2.len(),
-        cones.len() + cones2.len(),
-        alphas.len() + alphas2.len(),
-        words.len() + words2.len(),
+        first.p.starts.len(),
+        first.p.rows.len(),
+        first.p.values.len(),
+        first.q.len(),
+        first.a.starts.len(),
+        first.a.rows.len() + second.a.rows.len(),
+        first.a.values.len() + second.a.values.len(),
+        first.b.len() + second.b.len(),
+        first.cones.len() + second.cones.len(),
+        first.alphas.len() + second.alphas.len(),
+        first.words.len() + second.words.len(),
     ];
     check_rooms(&needs, rooms)
 }

@@ -7,8 +7,9 @@ ghost use Rattle.layout.specs.Files.File.{count_words, counts_in};
 ghost use Rattle.layout.specs.Files.FileWords.{word_tables};
 ghost use Rattle.layout.specs.Calls.ReadFile.{file_outputs, ReadFile};
 ghost use Rattle.file_shape.specs.Parts.{WellShaped};
+ghost use Rattle.constants.specs.Refusals.{refusal_of};
 
-use constants::{file_table, header, refusal};
+use constants::{Refusal, file_table, header};
 
 // Writes the eight counts of the header to `counts_out`.
 fn read_counts(words: &[u32], counts_out: &mut [u32])
@@ -79,8 +80,8 @@ fn read_constraints(
     );
 }
 
-// Reads the words of a file of `length` bytes: writes the counts of its header and its tables, each to the front of its output. Returns 0, or
-// 13, 14, the number of the first of checks 1 to 7 that fails, or 11 where an output is too short.
+// Reads the words of a file of `length` bytes: writes the counts of its header and its tables, each to the front of its output. Returns the
+// first refusal: of checks 13, 14, 1 to 7, or that an output is too short.
 pub fn read_file(
     words: &[u32],
     length: usize,
@@ -96,10 +97,10 @@ pub fn read_file(
     cones_out: &mut [u32],
     alphas_out: &mut [u64],
     pattern_words_out: &mut [u32],
-) -> u32
+) -> Result<(), Refusal>
     ensures { let before = file_outputs counts_out.old p_starts_out.old p_rows_out.old p_values_out.old q_out.old a_starts_out.old a_rows_out.old a_values_out.old b_out.old cones_out.old alphas_out.old pattern_words_out.old in
         let after = file_outputs counts_out.new p_starts_out.new p_rows_out.new p_values_out.new q_out.new a_starts_out.new a_rows_out.new a_values_out.new b_out.new cones_out.new alphas_out.new pattern_words_out.new in
-        ReadFile words.now length before after result }
+        ReadFile words.now length before after (refusal_of result) }
 {
     let rooms = [
         counts_out.len(),
@@ -115,13 +116,10 @@ pub fn read_file(
         alphas_out.len(),
         pattern_words_out.len(),
     ];
-    let refused = file_refusals::refuse_read(words, length, &rooms);
-    if refused != refusal::DONE {
-        return refused;
-    }
+    file_refusals::refuse_read(words, length, &rooms)?;
     read_counts(words, counts_out);
     read_objective(words, p_starts_out, p_rows_out, p_values_out, q_out);
     read_constraints(words, a_starts_out, a_rows_out, a_values_out, b_out);
     file_tables::read_layout(words, cones_out, alphas_out, pattern_words_out);
-    refusal::DONE
+    Ok(())
 }

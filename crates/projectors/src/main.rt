@@ -3,6 +3,7 @@
 // and show what the text says about the seam.
 #![tactic(auto)]
 
+use constants::number_of;
 use std::fmt::Display;
 use std::io::{self, Read};
 use std::num;
@@ -152,7 +153,7 @@ impl<R: Print> Teller<'_, R> {
     fn rows(&mut self, sums: &[f64]) -> io::Result<()> {
         for row in 0..M {
             let mut pair = [0u32; 2];
-            scalarmath::pair_back(row, &mut pair);
+            number_of(scalarmath::pair_back(row, &mut pair));
             self.number(row)?;
             self.numbers(&pair)?;
             self.ones(num::saturating_f64_to_u64(item(sums, row as usize)))?;
@@ -198,24 +199,8 @@ impl<R: Print> Teller<'_, R> {
     // outputs are unchanged.
     fn step(&mut self, p: Problem, route: Route) -> io::Result<()> {
         let mut lengths = [0u32; 11];
-        let answer = decomp::sizes(
-            route.number(),
-            N,
-            M,
-            p.p_starts,
-            p.p_rows,
-            p.p_values,
-            p.q,
-            p.a_starts,
-            p.a_rows,
-            p.a_values,
-            p.b,
-            p.cones,
-            p.alphas,
-            1,
-            p.pattern,
-            &mut lengths,
-        );
+        let problem = p.sized(N, M, 1);
+        let answer = number_of(decomp::sizes(route.number(), &problem, &mut lengths));
         self.number(answer)?;
         if answer == 0 {
             self.numbers(&lengths)?;
@@ -299,22 +284,10 @@ const BEFORE_VALUE: f64 = 77.0;
 // Cuts a problem on a route, with outputs longer than needed. Returns the cut's number and the outputs.
 fn cut(p: Problem, route: Route) -> (u32, Tables<32>) {
     let mut out = Tables::<32>::filled(BEFORE, BEFORE_VALUE);
-    let answer = cut_on_route::cut(
+    let problem = p.sized(N, M, 1);
+    let answer = number_of(cut_on_route::cut(
         route.number(),
-        N,
-        M,
-        p.p_starts,
-        p.p_rows,
-        p.p_values,
-        p.q,
-        p.a_starts,
-        p.a_rows,
-        p.a_values,
-        p.b,
-        p.cones,
-        p.alphas,
-        1,
-        p.pattern,
+        &problem,
         &mut out.p_starts,
         &mut out.p_rows,
         &mut out.p_values,
@@ -326,7 +299,7 @@ fn cut(p: Problem, route: Route) -> (u32, Tables<32>) {
         &mut out.cones,
         &mut out.alphas,
         &mut out.last,
-    );
+    ));
     (answer, out)
 }
 
@@ -351,7 +324,7 @@ fn unchanged(out: &Tables<32>) -> usize {
 // Joins a solution whose s and z are both `both`. Returns the joining's number and its outputs.
 fn join(p: Problem, route: Route, map: &[u32], x: &[f64], both: &[f64]) -> (u32, Solution<32>) {
     let mut out = Solution::<32>::filled(0.0);
-    let answer = join_on_route::join(
+    let answer = number_of(join_on_route::join(
         route.number(),
         N,
         M,
@@ -368,7 +341,7 @@ fn join(p: Problem, route: Route, map: &[u32], x: &[f64], both: &[f64]) -> (u32,
         &mut out.s,
         &mut out.z,
         &mut out.scalars,
-    );
+    ));
     (answer, out)
 }
 

@@ -6,6 +6,7 @@
 // function in make_answers.py or the comparison that computes its answers.
 #![tactic(auto)]
 
+use constants::number_of;
 use std::io;
 use std::rt::Files;
 use stored::{
@@ -24,32 +25,38 @@ use stored::{
 fn pair_index(case: Case) -> Option<u32> {
     let given = case.words_at(0);
     let mut out = [0u32; 4096];
-    let r = scalarmath::pair_index(
+    let r = number_of(scalarmath::pair_index(
         item(given, 0),
         item(given, 1),
         room(&mut out, case.words_at(2)),
-    );
+    ));
     same(&out, case.words_at(2)).then_some(r)
 }
 
 fn pair_back(case: Case) -> Option<u32> {
     let mut out = [0u32; 4096];
-    let r = scalarmath::pair_back(item(case.words_at(0), 0), room(&mut out, case.words_at(2)));
+    let r = number_of(scalarmath::pair_back(
+        item(case.words_at(0), 0),
+        room(&mut out, case.words_at(2)),
+    ));
     same(&out, case.words_at(2)).then_some(r)
 }
 
 fn inverse(case: Case) -> Option<u32> {
     let mut out = [0u32; 4096];
-    let r = inverse_permutation::inverse(case.words_at(1), room(&mut out, case.words_at(2)));
+    let r = number_of(inverse_permutation::inverse(
+        case.words_at(1),
+        room(&mut out, case.words_at(2)),
+    ));
     same(&out, case.words_at(2)).then_some(r)
 }
 
 fn renumber(case: Case) -> Option<u32> {
     let mut out = [0u32; 4096];
-    let r = reorder::reorder_snode_consecutively(
+    let r = number_of(reorder::reorder_snode_consecutively(
         case.words_at(1),
         room(&mut out, case.words_at(2)),
-    );
+    ));
     same(&out, case.words_at(2)).then_some(r)
 }
 
@@ -58,22 +65,8 @@ fn renumber(case: Case) -> Option<u32> {
 fn check_problem(case: Case) -> Option<u32> {
     let given = case.words_at(0);
     let p = Problem::of(case);
-    Some(check_problem::check_problem(
-        item(given, 0),
-        item(given, 1),
-        p.p_starts,
-        p.p_rows,
-        p.p_values,
-        p.q,
-        p.a_starts,
-        p.a_rows,
-        p.a_values,
-        p.b,
-        p.cones,
-        p.alphas,
-        item(given, 2),
-        p.pattern,
-    ))
+    let problem = p.sized(item(given, 0), item(given, 1), item(given, 2));
+    Some(number_of(check_problem::check_problem(&problem)))
 }
 
 // The second problem's lists follow the first one's.
@@ -81,37 +74,26 @@ fn same_layout(case: Case) -> Option<u32> {
     let given = case.words_at(0);
     let p = Problem::of(case);
     let mut out = [0u32; 4096];
-    let r = same_layout::same_layout(
-        item(given, 0),
-        item(given, 1),
-        p.p_starts,
-        p.p_rows,
-        p.p_values,
-        p.q,
-        p.a_starts,
-        p.a_rows,
-        p.a_values,
-        p.b,
-        p.cones,
-        p.alphas,
-        item(given, 2),
-        p.pattern,
-        item(given, 3),
-        item(given, 4),
-        case.words_at(8),
-        case.words_at(9),
-        case.values_at(21),
-        case.values_at(22),
-        case.words_at(10),
-        case.words_at(11),
-        case.values_at(23),
-        case.values_at(24),
-        case.words_at(12),
-        case.values_at(25),
-        item(given, 5),
-        case.words_at(13),
+    let problem = p.sized(item(given, 0), item(given, 1), item(given, 2));
+    let second = Problem {
+        p_starts: case.words_at(8),
+        p_rows: case.words_at(9),
+        p_values: case.values_at(21),
+        q: case.values_at(22),
+        a_starts: case.words_at(10),
+        a_rows: case.words_at(11),
+        a_values: case.values_at(23),
+        b: case.values_at(24),
+        cones: case.words_at(12),
+        alphas: case.values_at(25),
+        pattern: case.words_at(13),
+    };
+    let other = second.sized(item(given, 3), item(given, 4), item(given, 5));
+    let r = number_of(same_layout::same_layout(
+        &problem,
+        &other,
         room(&mut out, case.words_at(14)),
-    );
+    ));
     same(&out, case.words_at(14)).then_some(r)
 }
 
@@ -119,24 +101,8 @@ fn sizes(case: Case) -> Option<u32> {
     let given = case.words_at(0);
     let p = Problem::of(case);
     let mut out = [0u32; 4096];
-    let r = decomp::sizes(
-        item(given, 0),
-        item(given, 1),
-        item(given, 2),
-        p.p_starts,
-        p.p_rows,
-        p.p_values,
-        p.q,
-        p.a_starts,
-        p.a_rows,
-        p.a_values,
-        p.b,
-        p.cones,
-        p.alphas,
-        item(given, 3),
-        p.pattern,
-        room(&mut out, case.words_at(8)),
-    );
+    let problem = p.sized(item(given, 1), item(given, 2), item(given, 3));
+    let r = number_of(decomp::sizes(item(given, 0), &problem, room(&mut out, case.words_at(8))));
     same(&out, case.words_at(8)).then_some(r)
 }
 
@@ -157,22 +123,10 @@ fn cut(case: Case) -> Option<u32> {
         alphas,
         last,
     } = tables.outputs(case);
-    let r = cut_on_route::cut(
+    let problem = p.sized(item(given, 1), item(given, 2), item(given, 3));
+    let r = number_of(cut_on_route::cut(
         item(given, 0),
-        item(given, 1),
-        item(given, 2),
-        p.p_starts,
-        p.p_rows,
-        p.p_values,
-        p.q,
-        p.a_starts,
-        p.a_rows,
-        p.a_values,
-        p.b,
-        p.cones,
-        p.alphas,
-        item(given, 3),
-        p.pattern,
+        &problem,
         p_starts,
         p_rows,
         p_values,
@@ -184,7 +138,7 @@ fn cut(case: Case) -> Option<u32> {
         cones,
         alphas,
         last,
-    );
+    ));
     tables.hold(case).then_some(r)
 }
 
@@ -206,22 +160,10 @@ fn cut_many(case: Case) -> Option<u32> {
         alphas,
         last,
     } = tables.outputs(case);
-    let r = cut_with_sides::cut_many(
+    let problem = p.sized(item(given, 1), item(given, 2), item(given, 3));
+    let r = number_of(cut_with_sides::cut_many(
         item(given, 0),
-        item(given, 1),
-        item(given, 2),
-        p.p_starts,
-        p.p_rows,
-        p.p_values,
-        p.q,
-        p.a_starts,
-        p.a_rows,
-        p.a_values,
-        p.b,
-        p.cones,
-        p.alphas,
-        item(given, 3),
-        p.pattern,
+        &problem,
         p_starts,
         p_rows,
         p_values,
@@ -233,7 +175,7 @@ fn cut_many(case: Case) -> Option<u32> {
         cones,
         alphas,
         last,
-    );
+    ));
     tables.hold(case).then_some(r)
 }
 
@@ -256,22 +198,10 @@ fn cut_between(case: Case) -> Option<u32> {
         alphas,
         last,
     } = tables.outputs(case);
-    let r = cut_with_limits::cut_between(
-        item(given, 0),
-        item(given, 1),
-        p.p_starts,
-        p.p_rows,
-        p.p_values,
-        p.q,
-        p.a_starts,
-        p.a_rows,
-        p.a_values,
-        p.b,
+    let problem = p.sized(item(given, 0), item(given, 1), item(given, 2));
+    let r = number_of(cut_with_limits::cut_between(
+        &problem,
         case.values_at(26),
-        p.cones,
-        p.alphas,
-        item(given, 2),
-        p.pattern,
         p_starts,
         p_rows,
         p_values,
@@ -284,7 +214,7 @@ fn cut_between(case: Case) -> Option<u32> {
         cones,
         alphas,
         last,
-    );
+    ));
     (tables.hold(case) && same(&b_high, case.values_at(27))).then_some(r)
 }
 
@@ -300,7 +230,7 @@ fn join(case: Case) -> Option<u32> {
         z,
         scalars: both,
     } = solution.outputs(case);
-    let r = join_on_route::join(
+    let r = number_of(join_on_route::join(
         item(given, 0),
         item(given, 1),
         item(given, 2),
@@ -317,7 +247,7 @@ fn join(case: Case) -> Option<u32> {
         s,
         z,
         both,
-    );
+    ));
     solution.hold(case).then_some(r)
 }
 
@@ -332,7 +262,7 @@ fn change_route(case: Case) -> Option<u32> {
         z,
         scalars: both,
     } = solution.outputs(case);
-    let r = change_route::change_route(
+    let r = number_of(change_route::change_route(
         item(given, 1),
         item(given, 2),
         case.words_at(2),
@@ -347,7 +277,7 @@ fn change_route(case: Case) -> Option<u32> {
         s,
         z,
         both,
-    );
+    ));
     solution.hold(case).then_some(r)
 }
 
@@ -373,35 +303,11 @@ fn pool(case: Case, second: Case) -> Option<u32> {
         alphas,
         last,
     } = tables.outputs(second);
-    let r = pool::pool(
-        item(given, 0),
-        item(given, 1),
-        p.p_starts,
-        p.p_rows,
-        p.p_values,
-        p.q,
-        p.a_starts,
-        p.a_rows,
-        p.a_values,
-        p.b,
-        p.cones,
-        p.alphas,
-        item(given, 2),
-        p.pattern,
-        item(given, 3),
-        item(given, 4),
-        p2.p_starts,
-        p2.p_rows,
-        p2.p_values,
-        p2.q,
-        p2.a_starts,
-        p2.a_rows,
-        p2.a_values,
-        p2.b,
-        p2.cones,
-        p2.alphas,
-        item(given, 5),
-        p2.pattern,
+    let problem = p.sized(item(given, 0), item(given, 1), item(given, 2));
+    let second_problem = p2.sized(item(given, 3), item(given, 4), item(given, 5));
+    let r = number_of(pool::pool(
+        &problem,
+        &second_problem,
         p_starts,
         p_rows,
         p_values,
@@ -413,7 +319,7 @@ fn pool(case: Case, second: Case) -> Option<u32> {
         cones,
         alphas,
         last,
-    );
+    ));
     tables.hold(second).then_some(r)
 }
 

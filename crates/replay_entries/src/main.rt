@@ -4,6 +4,7 @@
 
 ghost use Rattle.std.specs.Prelude.{◌*◌, ◌≤◌, length};
 
+use constants::number_of;
 use entries_cut::cut_compact_entries;
 use entries_join::join_compact_entries;
 use entries_map::ConeMapEntry;
@@ -55,21 +56,9 @@ fn cut(case: Case) -> Option<u32> {
     let entries = entries_in(last.len());
     let mut map = [ConeMapEntry::read(&before, 0); MOST_ENTRIES];
     entries_maps::write_entries(&before, entries, &mut map[..entries]);
-    let r = cut_compact_entries(
-        item(given, 1),
-        item(given, 2),
-        p.p_starts,
-        p.p_rows,
-        p.p_values,
-        p.q,
-        p.a_starts,
-        p.a_rows,
-        p.a_values,
-        p.b,
-        p.cones,
-        p.alphas,
-        item(given, 3),
-        p.pattern,
+    let problem = p.sized(item(given, 1), item(given, 2), item(given, 3));
+    let r = number_of(cut_compact_entries(
+        &problem,
         p_starts,
         p_rows,
         p_values,
@@ -81,7 +70,7 @@ fn cut(case: Case) -> Option<u32> {
         cones,
         alphas,
         &mut map[..entries],
-    );
+    ));
     entries_maps::write_words(&map[..entries], entries * ENTRY_WORDS, last);
     tables.hold(case).then_some(r)
 }
@@ -105,7 +94,7 @@ fn join(case: Case) -> Option<u32> {
         z,
         scalars: both,
     } = solution.outputs(case);
-    let r = join_compact_entries(
+    let r = number_of(join_compact_entries(
         item(given, 1),
         item(given, 2),
         case.words_at(2),
@@ -121,7 +110,7 @@ fn join(case: Case) -> Option<u32> {
         s,
         z,
         both,
-    );
+    ));
     solution.hold(case).then_some(r)
 }
 

@@ -6,6 +6,7 @@
 // must return.
 #![tactic(auto)]
 
+use constants::number_of;
 use std::io;
 use stored::{DIFFERS, Reader, front, text_of};
 
@@ -52,7 +53,7 @@ impl Tables {
 fn write_again(file: &[u8], counts: [u32; 8], tables: &Tables) -> Option<u32> {
     let [n, m, p, a, records, exponents, patterns, words] = counts;
     let mut out = [0u8; 1024];
-    let number = file_writer::write_file(
+    let number = number_of(file_writer::write_file(
         n,
         m,
         front(&tables.p_starts, n as usize + 1),
@@ -68,7 +69,7 @@ fn write_again(file: &[u8], counts: [u32; 8], tables: &Tables) -> Option<u32> {
         patterns,
         front(&tables.pattern_words, words as usize),
         &mut out,
-    );
+    ));
     (number != 0 || out.starts_with(file)).then_some(number)
 }
 
@@ -76,13 +77,13 @@ fn write_again(file: &[u8], counts: [u32; 8], tables: &Tables) -> Option<u32> {
 // has written counts, or where the file written is not `file`.
 fn answer(file: &[u8]) -> Option<u32> {
     let mut words = [0u32; 256];
-    let number = file_bytes::file_words(file, &mut words);
+    let number = number_of(file_bytes::file_words(file, &mut words));
     if number != 0 {
         return Some(number);
     }
     let mut counts = [BEFORE; 8];
     let mut tables = Tables::new();
-    let refused = problem_file::read_file(
+    let refused = number_of(problem_file::read_file(
         front(&words, file.len() / 4),
         file.len(),
         &mut counts,
@@ -97,7 +98,7 @@ fn answer(file: &[u8]) -> Option<u32> {
         &mut tables.cones,
         &mut tables.alphas,
         &mut tables.pattern_words,
-    );
+    ));
     if refused != 0 {
         return (counts[0] == BEFORE).then_some(refused);
     }
@@ -109,7 +110,7 @@ fn next_agrees(reader: &mut Reader) -> bool {
     let mut case = [0u8; 1024];
     reader.fill(&mut case);
     let mut words = [0u32; 256];
-    file_bytes::file_words(&case, &mut words);
+    number_of(file_bytes::file_words(&case, &mut words));
     answer(front(&case, words[254] as usize)).unwrap_or(DIFFERS) == words[255]
 }
 

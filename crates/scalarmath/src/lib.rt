@@ -9,8 +9,9 @@ ghost use Rattle.std.specs.Prelude.{◌≡◌, ◌+◌, ◌*◌, ◌≤◌, ◌<
 ghost use Rattle.layout.specs.General.Triangle.{triangle, pair_index, index_row, index_column};
 ghost use Rattle.layout.specs.Calls.PairIndex.{PairIndex};
 ghost use Rattle.layout.specs.Calls.PairBack.{PairBack};
+ghost use Rattle.constants.specs.Refusals.{refusal_of};
 
-use constants::{limit, refusal};
+use constants::{Refusal, limit};
 
 // Returns the number of pairs i <= j < `k`, which is also the svec index where column `k` starts.
 pub fn triangular_number(k: u32) -> u32
@@ -67,35 +68,35 @@ pub fn upper_triangular_index_to_coord(index: u32) -> Coord
     }
 }
 
-// Writes the svec index of the pair (`i`, `j`) to `out[0]`. Public call; returns the refusal number, or 0.
-pub fn pair_index(i: u32, j: u32, out: &mut [u32]) -> u32
-    ensures { PairIndex i j out.old out.new result }
+// Writes the svec index of the pair (`i`, `j`) to `out[0]`. Public call.
+pub fn pair_index(i: u32, j: u32, out: &mut [u32]) -> Result<(), Refusal>
+    ensures { PairIndex i j out.old out.new (refusal_of result) }
 {
     if limit::INDEX < i {
-        return refusal::BOUND;
+        return Err(Refusal::Bound);
     }
     if limit::INDEX < j {
-        return refusal::BOUND;
+        return Err(Refusal::Bound);
     }
     if out.is_empty() {
-        return refusal::SHORT;
+        return Err(Refusal::Short);
     }
     out[0] = coord_to_upper_triangular_index(i, j);
-    refusal::DONE
+    Ok(())
 }
 
-// Writes the row of the svec index `index` to `out[0]` and its column to `out[1]`. Public call; returns the refusal number, or 0.
-pub fn pair_back(index: u32, out: &mut [u32]) -> u32
-    ensures { PairBack index out.old out.new result }
+// Writes the row of the svec index `index` to `out[0]` and its column to `out[1]`. Public call.
+pub fn pair_back(index: u32, out: &mut [u32]) -> Result<(), Refusal>
+    ensures { PairBack index out.old out.new (refusal_of result) }
 {
     if limit::PLACE < index {
-        return refusal::BOUND;
+        return Err(Refusal::Bound);
     }
     if out.len() < 2 {
-        return refusal::SHORT;
+        return Err(Refusal::Short);
     }
     let at = upper_triangular_index_to_coord(index);
     out[0] = at.row;
     out[1] = at.col;
-    refusal::DONE
+    Ok(())
 }

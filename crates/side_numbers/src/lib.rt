@@ -1,47 +1,39 @@
-// The refusal numbers of a compact cut with several right sides: puts the numbers of the single checks in the order of document 02.
+// The refusals of a compact cut with several right sides: puts those of the single checks in the order of document 02.
 #![tactic(auto)]
 
-ghost use Rattle.std.specs.Prelude.{◌≡◌, cond, ◌&&◌, ◌≤◌, leb};
+ghost use Rattle.std.specs.Prelude.{◌≡◌, cond, ◌&&◌, ◌≤◌, leb, IfOk};
 ghost use Rattle.layout.specs.Calls.Answers.{or_else};
 ghost use Rattle.layout.specs.Calls.CutBetween.{at_most};
 ghost use Rattle.side_numbers.specs.Order.{limits_order, sides_order};
+ghost use Rattle.constants.specs.Refusals.{number, refusal_of};
 
 use check_covered::Covered;
-use constants::refusal;
+use check_problem::Counts;
+use constants::Refusal;
 
 // The largest number of right sides in one call.
 const MOST_SIDES: u32 = 64;
 
 // ---- the order of numbers
 
-// Returns `first`, or `second` where `first` is 0.
-fn first_of(first: u32, second: u32) -> u32
-    ensures { result ≡ or_else first second }
+// Returns a refusal of `counted` by a check up to the one of `last`.
+fn up_to(counted: Result<Counts, Refusal>, last: Refusal) -> Result<(), Refusal>
+    ensures { refusal_of result ≡ cond (leb (refusal_of counted) (number last)) (refusal_of counted) 0 }
 {
-    if first != 0 {
-        return first;
+    match counted {
+        Err(refusal) if refusal.number() <= last.number() => Err(refusal),
+        _ => Ok(()),
     }
-    second
 }
 
-// Returns `number` where it is at most `most`, and 0 otherwise.
-fn up_to(number: u32, most: u32) -> u32
-    ensures { result ≡ cond (leb number most) number 0 }
-{
-    if number <= most {
-        return number;
-    }
-    0
-}
-
-// Returns 9 where check 9 failed for a right side, and 0 where it passed (`right`).
-fn nine(right: bool) -> u32
-    ensures { result ≡ cond right 0 9 }
+// Returns the refusal of check 9, made on a right side, where it did not pass (`right`).
+fn check_nine(right: bool) -> Result<(), Refusal>
+    ensures { refusal_of result ≡ cond right 0 9 }
 {
     if right {
-        return refusal::DONE;
+        return Ok(());
     }
-    refusal::UNCOVERED
+    Err(Refusal::Uncovered)
 }
 
 // ---- limits of a right side
@@ -63,90 +55,95 @@ fn at_most(low: &[f64], high: &[f64]) -> bool
     holds
 }
 
-// Makes check 16. Returns 16 or 0.
-fn check_limits(low: &[f64], high: &[f64]) -> u32
-    ensures { result ≡ cond (at_most low.now high.now) 0 16 }
+// Makes check 16.
+fn check_limits(low: &[f64], high: &[f64]) -> Result<(), Refusal>
+    ensures { refusal_of result ≡ cond (at_most low.now high.now) 0 16 }
 {
     if at_most(low, high) {
-        return refusal::DONE;
+        return Ok(());
     }
-    refusal::LIMITS
+    Err(Refusal::Limits)
 }
 
-// Makes checks 1 to 7 and 16 with limits, where checks 1 to 7 with `low` alone gave the number `r`: the length of `high` belongs to 4, and 16 comes
-// after 4. Returns the first number that is not 0, or 0.
-pub fn refuse_limits(r: u32, m: u32, low: &[f64], high: &[f64]) -> u32
-    ensures { result ≡ limits_order r m low.now high.now }
+// Makes checks 1 to 7 and 16 with limits, where checks 1 to 7 with `low` alone gave `counted`: the length of `high` belongs to 4, and 16 comes
+// after 4. Returns the first refusal, or what was counted.
+pub fn refuse_limits(
+    counted: Result<Counts, Refusal>,
+    m: u32,
+    low: &[f64],
+    high: &[f64],
+) -> Result<Counts, Refusal>
+    ensures refusal_value { refusal_of result ≡ limits_order (refusal_of counted) m low.now high.now }
+    ensures kept { IfOk result (λ c. counted ≡ Ok c) }
 {
-    let early = up_to(r, refusal::CONES);
-    if early != 0 {
-        return early;
-    }
+    up_to(counted, Refusal::Cones)?;
     if high.len() != m as usize {
-        return refusal::CONES;
+        return Err(Refusal::Cones);
     }
-    first_of(check_limits(low, high), r)
+    check_limits(low, high)?;
+    counted
 }
 
-// Makes checks 9 and 10 with limits, where check 10 gave the number `ten`: 9 for low, then 9 for high, then 10. Returns the first number that is
-// not 0, or 0.
-pub fn refuse_limits_rows(c: Covered, ten: u32) -> u32
-    ensures { result ≡ or_else (cond c.first 0 9) (or_else (cond c.further 0 9) ten) }
+// Makes checks 9 and 10 with limits, where check 10 gave `ten`: 9 for low, then 9 for high, then 10. Returns the first refusal.
+pub fn refuse_limits_rows(c: Covered, ten: Result<(), Refusal>) -> Result<(), Refusal>
+    ensures { refusal_of result ≡ or_else (cond c.first 0 9) (or_else (cond c.further 0 9) (refusal_of ten)) }
 {
-    first_of(nine(c.first), first_of(nine(c.further), ten))
+    check_nine(c.first)?;
+    check_nine(c.further)?;
+    ten
 }
 
 // ---- many right sides
 
-// Makes check 1 of a number of right sides. Returns 1 or 0.
-pub fn check_count(count: u32) -> u32
-    ensures { result ≡ cond (leb 1 count && leb count 64) 0 1 }
+// Makes check 1 of a number of right sides.
+pub fn check_count(count: u32) -> Result<(), Refusal>
+    ensures { refusal_of result ≡ cond (leb 1 count && leb count 64) 0 1 }
 {
     if count < 1 {
-        return refusal::BOUND;
+        return Err(Refusal::Bound);
     }
     if MOST_SIDES < count {
-        return refusal::BOUND;
+        return Err(Refusal::Bound);
     }
-    refusal::DONE
+    Ok(())
 }
 
-// Makes checks 1 to 7 of `count` right sides, where those with the first side alone gave the number `r`: the length `size` of the whole list belongs
-// to 4. Returns the first number that is not 0, or 0.
-pub fn refuse_lengths(r: u32, m: u32, count: u32, size: usize) -> u32
+// Makes checks 1 to 7 of `count` right sides, where those with the first side alone gave `counted`: the length `size` of the whole list belongs
+// to 4. Returns the first refusal, or what was counted.
+pub fn refuse_lengths(
+    counted: Result<Counts, Refusal>,
+    m: u32,
+    count: u32,
+    size: usize,
+) -> Result<Counts, Refusal>
     requires { count ≤ 64 }
-    ensures { result ≡ sides_order r m count size }
+    ensures refusal_value { refusal_of result ≡ sides_order (refusal_of counted) m count size }
+    ensures kept { IfOk result (λ c. counted ≡ Ok c) }
 {
-    let early = up_to(r, refusal::ROWS);
-    if early != 0 {
-        return early;
-    }
+    up_to(counted, Refusal::Rows)?;
     if size != count as usize * m as usize {
-        return refusal::CONES;
+        return Err(Refusal::Cones);
     }
-    r
+    counted
 }
 
-// Makes checks 9 and 10 of the first of several right sides, where check 10 gave the number `ten`. Returns the first number that is not 0, or 0.
-pub fn refuse_first(c: Covered, ten: u32) -> u32
-    ensures { result ≡ or_else (cond c.first 0 9) ten }
+// Makes checks 9 and 10 of the first of several right sides, where check 10 gave `ten`. Returns the first refusal.
+pub fn refuse_first(c: Covered, ten: Result<(), Refusal>) -> Result<(), Refusal>
+    ensures { refusal_of result ≡ or_else (cond c.first 0 9) (refusal_of ten) }
 {
-    first_of(nine(c.first), ten)
+    check_nine(c.first).and(ten)
 }
 
-// Makes check 9 of the right sides after the first, then check 11, which gave the number `eleven`. Returns the first number that is not 0, or 0.
-pub fn refuse_further(c: Covered, eleven: u32) -> u32
-    ensures { result ≡ or_else (cond c.further 0 9) eleven }
+// Makes check 9 of the right sides after the first, then check 11, which gave `eleven`. Returns the first refusal.
+pub fn refuse_further(c: Covered, eleven: Result<(), Refusal>) -> Result<(), Refusal>
+    ensures { refusal_of result ≡ or_else (cond c.further 0 9) (refusal_of eleven) }
 {
-    first_of(nine(c.further), eleven)
+    check_nine(c.further).and(eleven)
 }
 
 // Returns the length of the first right side in a list of length `size`: `m`, or `size` where the list is shorter.
 pub fn first_size(m: u32, size: usize) -> usize
     ensures { result ≡ cond (leb m size) m size }
 {
-    if m as usize <= size {
-        return m as usize;
-    }
-    size
+    size.min(m as usize)
 }

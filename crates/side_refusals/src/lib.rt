@@ -2,20 +2,23 @@
 // counts that the cut's writers need.
 #![tactic(auto)]
 
-ghost use Rattle.std.specs.Prelude.{◌≡◌, cond, ◌*◌, ◌≤◌, ◌<◌, length, get_or, set};
+ghost use Rattle.std.specs.Prelude.{◌≡◌, IfOk, cond, ◌*◌, ◌≤◌, ◌<◌, length, get_or, set};
 ghost use Rattle.layout.specs.General.Lists.{written};
-ghost use Rattle.layout.specs.Problems.Problem.{problem, compact};
+ghost use Rattle.layout.specs.Problems.Problem.{compact, with_b};
 ghost use Rattle.layout.specs.Calls.Answers.{roomy};
 ghost use Rattle.layout.specs.Calls.CutBetween.{limits_refusal};
 ghost use Rattle.layout.specs.Calls.CutMany.{side, sides_refusal};
-ghost use Rattle.layout.specs.Calls.Join.{joined_parts};
 ghost use Rattle.chordal_info.specs.Sizes.{entries_kept, route_sizes, Fitting};
-ghost use Rattle.decomp.specs.Added.{Adds};
+ghost use Rattle.decomp.specs.Adds.{Adds};
 ghost use Rattle.side_numbers.specs.Order.{with_another};
 ghost use Rattle.side_refusals.specs.Tables.{TablesFew};
+ghost use Rattle.constants.specs.Refusals.{refusal_of};
+ghost use Rattle.problemdata.specs.Tables.{parts_of, problem_of};
 
-use constants::{refusal, route};
-use decomp::Counted;
+use check_problem::Counts;
+use constants::{OUTPUTS, Refusal, route};
+use decomp::Added;
+use problemdata::Problem;
 
 // The index of b among the outputs of a cut.
 const RIGHT_SIDE: usize = 7;
@@ -23,36 +26,32 @@ const RIGHT_SIDE: usize = 7;
 // ---- required lengths of the outputs
 
 // Writes to `out` the required length of each output of a single compact cut, from the counts of rows, overlaps and cones of accepted blocks.
-fn cut_needs(
-    n: u32,
-    m: u32,
-    p_values: &[f64],
-    a_starts: &[u32],
-    a_rows: &[u32],
-    alphas: &[f64],
-    rows: u64,
-    overlaps: u64,
-    cones: u64,
-    out: &mut [u32],
-)
+fn cut_needs(problem: &Problem, counts: Counts, out: &mut [u32])
     requires in_bounds { 11 ≤ length out.old }
-    requires tables_few { TablesFew n (length p_values.now) (length alphas.now) a_starts.now a_rows.now }
-    requires fitting { Fitting compact n m (entries_kept compact n a_starts.now a_rows.now) rows overlaps cones }
-    ensures { out.new ≡ written (route_sizes compact n m (length p_values.now) (entries_kept compact n a_starts.now a_rows.now) (length alphas.now) rows overlaps cones) out.old }
+    requires tables_few { let p = problem_of problem.now in TablesFew p.n (length p.P.values) (length p.alphas) p.A.starts p.A.rows }
+    requires fitting { let p = problem_of problem.now in
+        Fitting compact p.n p.m (entries_kept compact p.n p.A.starts p.A.rows) counts.rows counts.overlaps counts.cones }
+    ensures { let p = problem_of problem.now in
+        out.new ≡ written (route_sizes compact p.n p.m (length p.P.values) (entries_kept compact p.n p.A.starts p.A.rows) (length p.alphas) counts.rows counts.overlaps counts.cones) out.old }
 {
-    let p_entries = p_values.len() as u32;
-    let a_entries = chordal_info::count_entries(route::COMPACT, n, a_starts, a_rows);
-    let alpha_count = alphas.len() as u32;
+    let p_entries = problem.p.values.len() as u32;
+    let a_entries = chordal_info::count_entries(
+        route::COMPACT,
+        problem.n,
+        problem.a.starts,
+        problem.a.rows,
+    );
+    let alpha_count = problem.alphas.len() as u32;
     chordal_info::write_sizes(
         route::COMPACT,
-        n,
-        m,
+        problem.n,
+        problem.m,
         p_entries,
         a_entries,
         alpha_count,
-        rows,
-        overlaps,
-        cones,
+        counts.rows,
+        counts.overlaps,
+        counts.cones,
         out,
     );
 }
@@ -60,201 +59,114 @@ fn cut_needs(
 // ---- limits of a right side
 
 // Makes check 11 of the cut with limits: `high_room` is compared with the length of b in a single cut, and `rooms` with `needs`.
-// Returns 11 or 0.
-fn check_limits_rooms(needs: &[u32], rooms: &[usize], high_room: usize) -> u32
+fn check_limits_rooms(needs: &[u32], rooms: &[usize], high_room: usize) -> Result<(), Refusal>
     requires { (8 ≤ length needs.now) × (8 ≤ length rooms.now) }
-    ensures { result ≡ cond (roomy (with_another (get_or needs.now 7 0) needs.now) (with_another high_room rooms.now)) 0 11 }
+    ensures { refusal_of result ≡ cond (roomy (with_another (get_or needs.now 7 0) needs.now) (with_another high_room rooms.now)) 0 11 }
 {
     if high_room < needs[RIGHT_SIDE] as usize {
-        return refusal::SHORT;
+        return Err(Refusal::Short);
     }
     utils::check_rooms(needs, rooms)
 }
 
 // Makes checks 1 to 11 of the cut with limits in order. `rooms` holds the length of each output of the cut with `low`, `high_room` that of
-// the augmented `high`. Returns the number of the first check that fails, or 0 with the counts.
+// the augmented `high`. Returns the first refusal, or the counts.
 pub fn refuse_between(
-    n: u32,
-    m: u32,
-    p_starts: &[u32],
-    p_rows: &[u32],
-    p_values: &[f64],
-    q: &[f64],
-    a_starts: &[u32],
-    a_rows: &[u32],
-    a_values: &[f64],
-    low: &[f64],
+    problem: &Problem,
     high: &[f64],
-    cones: &[u32],
-    alphas: &[f64],
-    count: u32,
-    words: &[u32],
     rooms: &[usize],
     high_room: usize,
-) -> Counted
+) -> Result<Added, Refusal>
     requires { 8 ≤ length rooms.now }
-    ensures refusal_value { let p = problem n m p_starts.now p_rows.now p_values.now q.now a_starts.now a_rows.now a_values.now low.now cones.now alphas.now count words.now in
-        result.refusal ≡ limits_refusal p low.now high.now (with_another high_room rooms.now) }
-    ensures adds { result.refusal ≡ 0 → Adds compact (joined_parts cones.now count words.now) result }
+    ensures refusal_value { let p = problem_of problem.now in
+        refusal_of result ≡ limits_refusal p problem.now.b.now high.now (with_another high_room rooms.now) }
+    ensures adds { IfOk result (Adds compact (parts_of problem.now)) }
 {
-    let d = check_problem::count_problem(
-        n, m, p_starts, p_rows, p_values, q, a_starts, a_rows, a_values, low, cones, alphas, count,
-        words,
+    let counted = check_problem::count_problem(problem);
+    let d = side_numbers::refuse_limits(counted, problem.m, problem.b, high)?;
+    let c = check_covered::sides_right(
+        problem.m,
+        problem.cones,
+        problem.count,
+        problem.words,
+        problem.a.rows,
+        problem.b,
+        high,
+        0,
+        1,
     );
-    let t = side_numbers::refuse_limits(d.refusal, m, low, high);
-    if t != 0 {
-        return decomp::refused_as(t);
-    }
-    let c = check_covered::sides_right(m, cones, count, words, a_rows, low, high, 0, 1);
-    let rows_refused = chordal_info::rows_refusal(route::COMPACT, m, d.rows, d.overlaps);
-    let u = side_numbers::refuse_limits_rows(c, rows_refused);
-    if u != 0 {
-        return decomp::refused_as(u);
-    }
-    let mut needs = [0u32; 11];
-    cut_needs(
-        n, m, p_values, a_starts, a_rows, alphas, d.rows, d.overlaps, d.cones, &mut needs,
-    );
-    let short = check_limits_rooms(&needs, rooms, high_room);
-    Counted {
-        refusal: short,
+    let ten = chordal_info::rows_refusal(route::COMPACT, problem.m, d.rows, d.overlaps);
+    side_numbers::refuse_limits_rows(c, ten)?;
+    let mut needs = [0u32; OUTPUTS];
+    cut_needs(problem, d, &mut needs);
+    check_limits_rooms(&needs, rooms, high_room)?;
+    Ok(Added {
         rows: d.rows as usize,
         columns: d.overlaps as usize,
-    }
+    })
 }
 
 // ---- many right sides
 
-// Makes check 11 for `count` right sides: multiplies the length of b in `needs` by `count`, then compares. Returns 11 or 0.
-fn check_sides_rooms(needs: &mut [u32], count: u32, rooms: &[usize]) -> u32
+// Makes check 11 for `count` right sides: multiplies the length of b in `needs` by `count`, then compares.
+fn check_sides_rooms(needs: &mut [u32], count: u32, rooms: &[usize]) -> Result<(), Refusal>
     requires { (8 ≤ length needs.old) × (count * get_or needs.old 7 0 < 4294967296) }
-    ensures { result ≡ cond (roomy (set needs.old 7 (count * get_or needs.old 7 0)) rooms.now) 0 11 }
+    ensures { refusal_of result ≡ cond (roomy (set needs.old 7 (count * get_or needs.old 7 0)) rooms.now) 0 11 }
 {
     needs[RIGHT_SIDE] = count * needs[RIGHT_SIDE];
     utils::check_rooms(needs, rooms)
 }
 
 // Makes checks 1 to 11 for 1 to 64 right sides in order; `first` is the first of `sides`. For further sides only check 9 depends on the
-// values. Returns the number of the first check that fails, or 0 with the counts.
+// values. Returns the first refusal, or the counts.
 fn refuse_sides(
     count: u32,
-    n: u32,
-    m: u32,
-    p_starts: &[u32],
-    p_rows: &[u32],
-    p_values: &[f64],
-    q: &[f64],
-    a_starts: &[u32],
-    a_rows: &[u32],
-    a_values: &[f64],
-    first: &[f64],
+    problem: &Problem,
     sides: &[f64],
-    cones: &[u32],
-    alphas: &[f64],
-    pattern_count: u32,
-    words: &[u32],
     rooms: &[usize],
-) -> Counted
-    requires { (1 ≤ count) × (count ≤ 64) × (first.now ≡ side m 0 sides.now) }
-    ensures refusal_value { let p = problem n m p_starts.now p_rows.now p_values.now q.now a_starts.now a_rows.now a_values.now sides.now cones.now alphas.now pattern_count words.now in
-        result.refusal ≡ sides_refusal p count sides.now rooms.now }
-    ensures adds { result.refusal ≡ 0 → Adds compact (joined_parts cones.now pattern_count words.now) result }
+) -> Result<Added, Refusal>
+    requires { (1 ≤ count) × (count ≤ 64) × (problem.now.b.now ≡ side problem.now.m 0 sides.now) }
+    ensures refusal_value { let p = with_b (problem_of problem.now) sides.now in
+        refusal_of result ≡ sides_refusal p count sides.now rooms.now }
+    ensures adds { IfOk result (Adds compact (parts_of problem.now)) }
 {
-    let d = check_problem::count_problem(
-        n,
-        m,
-        p_starts,
-        p_rows,
-        p_values,
-        q,
-        a_starts,
-        a_rows,
-        a_values,
-        first,
-        cones,
-        alphas,
-        pattern_count,
-        words,
-    );
-    let t = side_numbers::refuse_lengths(d.refusal, m, count, sides.len());
-    if t != 0 {
-        return decomp::refused_as(t);
-    }
+    let counted = check_problem::count_problem(problem);
+    let d = side_numbers::refuse_lengths(counted, problem.m, count, sides.len())?;
     let c = check_covered::sides_right(
-        m,
-        cones,
-        pattern_count,
-        words,
-        a_rows,
-        first,
+        problem.m,
+        problem.cones,
+        problem.count,
+        problem.words,
+        problem.a.rows,
+        problem.b,
         sides,
         1,
         count,
     );
-    let rows_refused = chordal_info::rows_refusal(route::COMPACT, m, d.rows, d.overlaps);
-    let u = side_numbers::refuse_first(c, rows_refused);
-    if u != 0 {
-        return decomp::refused_as(u);
-    }
-    let mut needs = [0u32; 11];
-    cut_needs(
-        n, m, p_values, a_starts, a_rows, alphas, d.rows, d.overlaps, d.cones, &mut needs,
-    );
-    let room = check_sides_rooms(&mut needs, count, rooms);
-    let further = side_numbers::refuse_further(c, room);
-    Counted {
-        refusal: further,
+    let ten = chordal_info::rows_refusal(route::COMPACT, problem.m, d.rows, d.overlaps);
+    side_numbers::refuse_first(c, ten)?;
+    let mut needs = [0u32; OUTPUTS];
+    cut_needs(problem, d, &mut needs);
+    let eleven = check_sides_rooms(&mut needs, count, rooms);
+    side_numbers::refuse_further(c, eleven)?;
+    Ok(Added {
         rows: d.rows as usize,
         columns: d.overlaps as usize,
-    }
+    })
 }
 
-// Makes checks 1 to 11 of the cut with `count` right sides in order, `count` itself included. Returns the number of the first check that
-// fails, or 0 with the counts.
-pub fn refuse_many(
-    count: u32,
-    n: u32,
-    m: u32,
-    p_starts: &[u32],
-    p_rows: &[u32],
-    p_values: &[f64],
-    q: &[f64],
-    a_starts: &[u32],
-    a_rows: &[u32],
-    a_values: &[f64],
-    sides: &[f64],
-    cones: &[u32],
-    alphas: &[f64],
-    pattern_count: u32,
-    words: &[u32],
-    rooms: &[usize],
-) -> Counted
-    ensures refusal_value { let p = problem n m p_starts.now p_rows.now p_values.now q.now a_starts.now a_rows.now a_values.now sides.now cones.now alphas.now pattern_count words.now in
-        result.refusal ≡ sides_refusal p count sides.now rooms.now }
-    ensures adds { result.refusal ≡ 0 → Adds compact (joined_parts cones.now pattern_count words.now) result }
+// Makes checks 1 to 11 of the cut with `count` right sides in order, `count` itself included. Returns the first refusal, or the counts.
+pub fn refuse_many(count: u32, problem: &Problem, rooms: &[usize]) -> Result<Added, Refusal>
+    ensures refusal_value { let p = problem_of problem.now in
+        refusal_of result ≡ sides_refusal p count problem.now.b.now rooms.now }
+    ensures adds { IfOk result (Adds compact (parts_of problem.now)) }
 {
-    let counted = side_numbers::check_count(count);
-    if counted != 0 {
-        return decomp::refused_as(counted);
-    }
-    let size = side_numbers::first_size(m, sides.len());
-    refuse_sides(
-        count,
-        n,
-        m,
-        p_starts,
-        p_rows,
-        p_values,
-        q,
-        a_starts,
-        a_rows,
-        a_values,
-        &sides[..size],
-        sides,
-        cones,
-        alphas,
-        pattern_count,
-        words,
-        rooms,
-    )
+    side_numbers::check_count(count)?;
+    let sides = problem.b;
+    let size = side_numbers::first_size(problem.m, sides.len());
+    let first = Problem {
+        b: &sides[..size],
+        ..*problem
+    };
+    refuse_sides(count, &first, sides, rooms)
 }

@@ -33,6 +33,26 @@ impl<'a> Problem<'a> {
             pattern: case.words_at(7),
         }
     }
+
+    // Returns the problem with these tables, of `n` unknowns, `m` rows and `count` patterns.
+    pub fn sized(self, n: u32, m: u32, count: u32) -> problemdata::Problem<'a> {
+        problemdata::Problem::from_tables(
+            n,
+            m,
+            self.p_starts,
+            self.p_rows,
+            self.p_values,
+            self.q,
+            self.a_starts,
+            self.a_rows,
+            self.a_values,
+            self.b,
+            self.cones,
+            self.alphas,
+            count,
+            self.pattern,
+        )
+    }
 }
 
 // The eleven tables that a cut writes, each with room for `N` elements. The last is the cone map, or the words of a pattern.

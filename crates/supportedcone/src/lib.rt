@@ -6,10 +6,11 @@ ghost use Rattle.layout.specs.General.Lists.{all};
 ghost use Rattle.layout.specs.Problems.Cones.{records, reads, row_count, alpha_count};
 ghost use Rattle.layout.specs.Checks.{sizes_bounded, cones_bounded, cones_read, alphas_as_many};
 ghost use Rattle.layout.specs.Files.FileWords.{unvalued};
+ghost use Rattle.constants.specs.Refusals.{refusal_of};
 ghost use Rattle.supportedcone.specs.Cases.{cone_record, record_of, told, reads_as, reads_with, record_at};
 ghost use Rattle.supportedcone.specs.Ranges.{is_psd_of};
 
-use constants::{limit, record, refusal};
+use constants::{Refusal, limit, record};
 use scalarmath::triangular_number;
 
 // A cone as a value: its dimension, its exponent, or its two counts. GenPower holds its α count first; its α values stay in the table of α.
@@ -146,26 +147,25 @@ pub fn cones_bounded(cones: &[u32]) -> bool
 }
 
 // Makes check 4 on the records: each reads as one of the seven kinds, the last one is complete, and their rows sum to `m`.
-// Returns 4 or 0.
-pub fn check_cones(m: u32, cones: &[u32]) -> u32
+pub fn check_cones(m: u32, cones: &[u32]) -> Result<(), Refusal>
     requires { cones_bounded cones.now ≡ true }
-    ensures { result ≡ cond (cones_read m cones.now) 0 4 }
+    ensures { refusal_of result ≡ cond (cones_read m cones.now) 0 4 }
 {
     let count = record_count(cones);
     if count * record::WORDS != cones.len() {
-        return refusal::CONES;
+        return Err(Refusal::Cones);
     }
     let mut rows = 0;
     for i in 0..count {
         let Some(cone) = cone_at(cones, i, 0.0) else {
-            return refusal::CONES;
+            return Err(Refusal::Cones);
         };
         rows += cone.nvars();
     }
     if rows != m {
-        return refusal::CONES;
+        return Err(Refusal::Cones);
     }
-    refusal::DONE
+    Ok(())
 }
 
 // Checks that the table `alphas` has exactly as many values as the cones take.

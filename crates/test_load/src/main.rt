@@ -2,6 +2,7 @@
 // checksum over all tables of a problem. A site compares its output with ours.
 #![tactic(auto)]
 
+use constants::number_of;
 use std::{fmt, io};
 use stored::{Problem, Tables};
 
@@ -97,24 +98,8 @@ impl Route {
 // Cuts a problem of `n` unknowns and `m` rows on a route, and prints what is written.
 fn tell_cut(rt: &impl Print, route: Route, n: u32, m: u32, p: Problem) -> io::Result<()> {
     let mut lengths = [0u32; 11];
-    decomp::sizes(
-        route.number(),
-        n,
-        m,
-        p.p_starts,
-        p.p_rows,
-        p.p_values,
-        p.q,
-        p.a_starts,
-        p.a_rows,
-        p.a_values,
-        p.b,
-        p.cones,
-        p.alphas,
-        1,
-        p.pattern,
-        &mut lengths,
-    );
+    let problem = p.sized(n, m, 1);
+    number_of(decomp::sizes(route.number(), &problem, &mut lengths));
     // Built in place: the result of a call is copied, and each copy takes 2 MB of stack.
     let mut out = Tables::<32768> {
         p_starts: [0; 32768],
@@ -129,22 +114,10 @@ fn tell_cut(rt: &impl Print, route: Route, n: u32, m: u32, p: Problem) -> io::Re
         alphas: [0.0; 32768],
         last: [0; 32768],
     };
-    let answer = cut_on_route::cut(
+    let problem = p.sized(n, m, 1);
+    let answer = number_of(cut_on_route::cut(
         route.number(),
-        n,
-        m,
-        p.p_starts,
-        p.p_rows,
-        p.p_values,
-        p.q,
-        p.a_starts,
-        p.a_rows,
-        p.a_values,
-        p.b,
-        p.cones,
-        p.alphas,
-        1,
-        p.pattern,
+        &problem,
         &mut out.p_starts,
         &mut out.p_rows,
         &mut out.p_values,
@@ -156,7 +129,7 @@ fn tell_cut(rt: &impl Print, route: Route, n: u32, m: u32, p: Problem) -> io::Re
         &mut out.cones,
         &mut out.alphas,
         &mut out.last,
-    );
+    ));
     tell_tables(rt, route.name(), answer, lengths, out.problem(lengths))
 }
 
@@ -185,7 +158,7 @@ impl fmt::Display for Load {
 fn tell_load(rt: &impl Print, load: Load) -> io::Result<()> {
     println!(rt; "{load}")?;
     let mut tables = Tables::<8192>::filled(0, 0.0);
-    let answer = generator::generate(
+    let answer = number_of(generator::generate(
         load.seed,
         load.v,
         load.w,
@@ -201,9 +174,9 @@ fn tell_load(rt: &impl Print, load: Load) -> io::Result<()> {
         &mut tables.cones,
         &mut tables.alphas,
         &mut tables.last,
-    );
+    ));
     let mut lengths = [0u32; 11];
-    generator::generate_sizes(load.seed, load.v, load.w, load.n, &mut lengths);
+    number_of(generator::generate_sizes(load.seed, load.v, load.w, load.n, &mut lengths));
     let problem = tables.problem(lengths);
     tell_tables(rt, "generate", answer, lengths, problem)?;
     if answer == 0 {

@@ -4,10 +4,11 @@
 ghost use Rattle.std.specs.Prelude.{◌≡◌, ◌≤◌, ◌<◌, true, false, cond, length, replicate, ltb};
 ghost use Rattle.layout.specs.General.Lists.{all, Below, is_permutation};
 ghost use Rattle.layout.specs.Calls.Answers.{roomy};
+ghost use Rattle.constants.specs.Refusals.{refusal_of};
 ghost use Rattle.utils.specs.Windows.{MarksMore};
 ghost use Rattle.utils.specs.Scattered.{scattered};
 
-use constants::refusal;
+use constants::Refusal;
 
 // ---- the test for a permutation
 
@@ -153,14 +154,14 @@ pub fn invperm(words: &[u32], table: &mut [u32]) -> bool
 
 // ---- check 11
 
-// Makes check 11 on several outputs: `needs` are the required lengths, `rooms` the actual ones. Returns 11 or 0.
-pub fn check_rooms(needs: &[u32], rooms: &[usize]) -> u32
-    ensures { result ≡ cond (roomy needs.now rooms.now) 0 11 }
+// Makes check 11 on several outputs: `needs` are the required lengths, `rooms` the actual ones.
+pub fn check_rooms(needs: &[u32], rooms: &[usize]) -> Result<(), Refusal>
+    ensures { refusal_of result ≡ cond (roomy needs.now rooms.now) 0 11 }
 {
     for (i, &need) in needs.iter().enumerate() {
         if rooms.len() <= i || rooms[i] < need as usize {
-            return refusal::SHORT;
+            return Err(Refusal::Short);
         }
     }
-    refusal::DONE
+    Ok(())
 }

@@ -12,7 +12,7 @@ use Rattle.layout.specs.Rows.Blocks.{block_row_count, overlap_count, cone_count}
 use Rattle.layout.specs.Calls.Join.{joined_parts}
 use Rattle.check_problem.specs.Order.{patterns_refusal}
 use Rattle.check_problem.proofs.Checked.{patterns-sound}
-use Rattle.check_problem.proofs.Counts.{sound-counts}
+use Rattle.check_problem.proofs.Sums.{sound-counts}
 use Rattle.check_problem.proofs.count_patterns.Goals as goal
 use Rattle.check_problem.proofs.count_patterns.Goals.{In-Ok}
 
@@ -52,4 +52,4 @@ returns-in-Ok-clause-refusal_value c = sym (none-refused (goal.at.returns-in-Ok-
 pub returns-in-Ok-clause-counts : goal.returns-in-Ok-clause-counts
 returns-in-Ok-clause-counts c =
     let (rows, overlaps, cones) = counts (goal.at.returns-in-Ok-clause-counts c).In-Ok in
-    λ _. (omega arith, overlaps, omega (arith, c.record_count-records.ensures))
+    (omega arith, overlaps, omega (arith, c.record_count-records.ensures))

@@ -46,7 +46,7 @@ write_kept-requires c =
     length-take-le k c.keep_columns-d.new.kept (omega (arith, few, c.keep_columns-d.ensures.count_value, c.requires.w_lt_v, c.keep_columns-d.auto.kept)) in
     let enough =
     rooms_enough a.v a.w a.n k a.rooms.now (length a.starts_out.now) (length a.rows_out.now) (length a.values_out.now) (length a.b_out.now) c.requires.rooms_of
-    (sym c.if-refused-ne0.false ∙ c.check_outputs-refused.ensures) in
+    c.in_ok-check_outputs.ensures in
     (draws ∙ sym rows, omega (arith, enough), omega (arith, enough))
 
 pub write_side-requires : goal.write_side-requires
@@ -54,7 +54,7 @@ write_side-requires c =
     let a = c.args in
     let enough =
     rooms_enough a.v a.w a.n c.keep_columns-d.result.count a.rooms.now (length a.starts_out.now) (length a.rows_out.now) (length a.values_out.now)
-    (length a.b_out.now) c.requires.rooms_of (sym c.if-refused-ne0.false ∙ c.check_outputs-refused.ensures) in
+    (length a.b_out.now) c.requires.rooms_of c.in_ok-check_outputs.ensures in
     (omega (arith, enough, c.requires.w_lt_v), c.requires.w_lt_v.5)
 
 pub returns-clause-starts_out_after : goal.returns-clause-starts_out_after

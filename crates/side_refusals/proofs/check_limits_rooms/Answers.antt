@@ -3,11 +3,7 @@ use mathlib.Core.Bool.{Bool, cond}
 use lib.ListN.{get_or}
 use borrow.Author.Tests.{le-leb, lt-leb}
 use Rattle.side_numbers.proofs.Laws.{another_room}
-use native.Mathlib.Omega.{arith}
 use Rattle.side_refusals.proofs.check_limits_rooms.Goals as goal
-
-pub overflow_cast-needs : goal.overflow_cast-needs
-overflow_cast-needs c = omega (arith, c.shared_slice_known-3-1.given 7)
 
 pub returns-then-high_room-needs : goal.returns-then-high_room-needs
 returns-then-high_room-needs c =
