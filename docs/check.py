@@ -271,7 +271,7 @@ def check_links(page, text, places, report):
         for path in PATH.findall(line):
             if not re.search(r"\b(NAME|FUNCTION|target|out)\b", path) and not (ROOT / path).exists():
                 report(page, number, f"{path} is not there")
-        for name in re.findall(r"(?<![\w/])[A-Z]{4,}\.md", line):
+        for name in re.findall(r"(?<![\w/-])[A-Z]{4,}\.md", line):
             if not any((ROOT / home / name).exists() for home in ("", "docs", os.path.dirname(page))):
                 report(page, number, f"{name} is not there")
         for path in re.findall(r"(?<![\w/])specs/[\w/]*\w", line):

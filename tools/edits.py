@@ -39,7 +39,8 @@ def tried(folder, edit):
     finally:
         with open(path, "w", encoding="utf-8") as f:
             f.write(before)
-    return [line for line in said.split("\n") if ERROR.match(line)]
+    # a message goes on in lines that begin with blanks
+    return [line for line in said.replace("\n  ", " ").split("\n") if ERROR.match(line)]
 
 
 def main(names):

@@ -15,26 +15,15 @@ fn move_run<const N: usize>(from: usize, values: &[f64], to: usize, out: &mut [f
     out[to..to + N].copy_from_slice(&run);
 }
 
-// Copies `k` values from index `from` of `values` on to index `to` of `out`: four at a time, then two, then one.
+// Copies `k` values from index `from` of `values` on to index `to` of `out`.
 pub fn move_values(k: usize, from: usize, values: &[f64], to: usize, out: &mut [f64])
     requires { (from + k ≤ length values.now) × (to + k ≤ length out.old) }
     ensures { out.new ≡ written_at to (take k (drop from values.now)) out.old }
 {
-    let mut i = 0;
-    while 4 <= k - i {
-        move_run::<4>(from + i, values, to + i, &mut *out);
-        i += 4;
-    }
-    if 2 <= k - i {
-        move_run::<2>(from + i, values, to + i, &mut *out);
-        i += 2;
-    }
-    if i < k {
-        move_run::<1>(from + i, values, to + i, out);
-    }
+    csc::copy_front(&mut out[to..to + k], &values[from..from + k]);
 }
 
-// Copies `k` values of `s` and of `z` in one loop, as `move_values` copies those of one list.
+// Copies `k` values of `s` and of `z` in one loop: four at a time, then two, then one.
 fn move_few(
     k: usize,
     from: usize,

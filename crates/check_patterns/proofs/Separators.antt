@@ -32,6 +32,7 @@ pub record Seen (ws : List ℕ) (p : PatternAt) (b : Blocks) (left : ℕ) : Type
   pub few-overlaps : b.overlaps + left * 32896 ≤ p.clique_count * 32896
   pub after : rest (read_cliques p.clique_count (drop p.cliques ws)) ≡ rest (read_cliques left (drop b.next ws))
   pub inside : b.next ≤ length ws
+  pub past : 0 < b.next
 
 pub seen_none : (ws : List ℕ) (p : PatternAt) (b : Blocks) → Whole ws p.cliques p.clique_count → (0 < p.cliques) × (p.cliques ≤ length ws)
     → (b.next ≡ p.cliques) × (b.dim ≡ 0) × (b.overlaps ≡ 0) → Seen ws p b p.clique_count
@@ -46,6 +47,7 @@ seen_none ws p b w l e =
       few-overlaps = omega (arith, e.2);
       after = ap (λ (i : ℕ). rest (read_cliques p.clique_count (drop i ws))) n;
       inside = omega (arith, e.0, l.1);
+      past = omega (arith, e.0, l.0);
     }
 
 abbrev made : ℕ → ℕ → ℕ → Blocks
@@ -100,6 +102,7 @@ module _ (ws : List ℕ) (p : PatternAt) (b : Blocks) (left : ℕ) (s : Seen ws 
         few-overlaps = less b.overlaps (triangle q.separator_count) _ (triangle-small q.separator_count (omega (arith, fits-small held))) s.few-overlaps;
         after = s.after ∙ rest-next ws b.next left (Some q) e more q refl;
         inside = inside.3;
+        past = omega (arith, inside.0, inside.1, inside.2);
       }
 
       pub seen_more : r ≡ true → (r : Blocks)

@@ -179,7 +179,7 @@ fn separators_hold(
     marks: &mut [bool],
 ) -> Option<Blocks>
     requires stand { Stand words.now p offsets.now }
-    requires cliques_in_bounds { p.cliques ≤ length words.now }
+    requires cliques_nonzero { (0 < p.cliques) × (p.cliques ≤ length words.now) }
     requires marks_nonzero { 0 < length marks.old }
     ensures value { is_some result ≡ separators_fit p.vertex_count (cliques_from words.now p.cliques p.clique_count) }
     ensures separators_hold { IfSome result (λ b. SeparatorsHold words.now p b) }
@@ -301,17 +301,18 @@ fn with_pattern(words: &[u32], w: Walk, b: Blocks) -> Walk
     }
 }
 
-// The totals over all patterns: the rows of the blocks, the rows of the decomposed cones, the overlaps, and the cliques.
+// The totals over all patterns: the rows of the blocks, the rows of the decomposed cones, the overlaps, and the cliques; and the place after the last.
 #[derive(Clone, Copy)]
 pub struct Accepted {
     pub dim: u64,
     pub cut: u64,
     pub overlaps: u64,
     pub cliques: u64,
+    pub end: Stopped,
 }
 
-// The place of the first pattern that fails. The patterns before offset `next` pass; from there on `left` patterns are left, whose first may not name
-// a cone before `least`.
+// The place of the first pattern that fails, or that after the last pattern. The patterns before offset `next` pass; from there on `left` patterns are
+// left, whose first may not name a cone before `least`.
 #[derive(Clone, Copy)]
 pub struct Stopped {
     pub next: usize,
@@ -326,6 +327,7 @@ pub fn patterns_hold(cones: &[u32], count: u32, words: &[u32]) -> Result<Accepte
     ensures value { is_ok result ≡ (patterns_read cones.now count words.now && all tree_right (patterns count words.now) && all cliques_right (patterns count words.now)) }
     ensures summed { IfOk result (λ r. Summed (patterns count words.now) r × (r.dim ≤ count * 8421376) × (r.cliques ≤ count * 8421376)) }
     ensures passed_before { IfErr result (λ s. PassedBefore cones.now count words.now s.next s.least s.left) }
+    ensures passed { IfOk result (λ r. PassedBefore cones.now count words.now r.end.next r.end.least r.end.left) }
 {
     let mut marks = [false; scratch::VERTICES];
     let mut offsets = [0usize; scratch::VERTICES];
@@ -348,17 +350,19 @@ pub fn patterns_hold(cones: &[u32], count: u32, words: &[u32]) -> Result<Accepte
         };
         w = with_pattern(words, w, b);
     }
+    let end = Stopped {
+        next: w.next,
+        least: w.least,
+        left: 0,
+    };
     if w.next != words.len() {
-        return Err(Stopped {
-            next: w.next,
-            least: w.least,
-            left: 0,
-        });
+        return Err(end);
     }
     Ok(Accepted {
         dim: w.dim,
         cut: w.cut,
         overlaps: w.overlaps,
         cliques: w.cliques,
+        end,
     })
 }

@@ -204,12 +204,14 @@ fn nnz(n: u32, starts: &[u32], rows: &[u32], values: &[f64]) -> u32
     starts[n as usize]
 }
 
-// Copies `src` to the front of `out`.
+// Copies `src` to the front of `out`, by a loop: the slice's own method calls `memmove`, which the archive for C would then need from outside.
 pub fn copy_front<T: Copy>(out: &mut [T], src: &[T])
     requires { length src.now ≤ length out.old }
     ensures { out.new ≡ written src.now out.old }
 {
-    out[..src.len()].copy_from_slice(src);
+    for i in 0..src.len() {
+        out[i] = src[i];
+    }
 }
 
 // Sets the first `k` elements of `out` to `v`.

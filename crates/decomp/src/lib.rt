@@ -2,14 +2,18 @@
 // compact one.
 #![tactic(auto)]
 
-ghost use Rattle.std.specs.Prelude.{◌≡◌, IfOk};
+ghost use Rattle.std.specs.Prelude.{◌≡◌, IfOk, length, T, ltb};
+ghost use Rattle.layout.specs.General.Lists.{all};
+ghost use Rattle.layout.specs.Checks.{Sound, first_failing};
 ghost use Rattle.layout.specs.Calls.Answers.{on_route, route_of};
 ghost use Rattle.layout.specs.Calls.Cut.{cut_refusal};
 ghost use Rattle.layout.specs.Calls.Sizes.{Sizes};
+ghost use Rattle.chordal_info.specs.Routes.{Counted, route_tests};
 ghost use Rattle.decomp.specs.Adds.{columns_added, Adds};
 ghost use Rattle.constants.specs.Refusals.{refusal_of};
 ghost use Rattle.problemdata.specs.Tables.{parts_of, problem_of};
 
+use check_problem::Counts;
 use constants::{OUTPUTS, Refusal, route};
 use problemdata::Problem;
 
@@ -35,6 +39,16 @@ fn with_columns(route: u32, rows: u64, overlaps: u64) -> Added
     }
 }
 
+// Makes checks 9 and 10 on a problem whose blocks are counted. Returns the first refusal.
+fn check_blocks(route: u32, problem: &Problem, c: Counts) -> Result<(), Refusal>
+    requires sound { Sound problem.now.m problem.now.cones.now problem.now.count problem.now.words.now }
+    requires t { T (all (λ r. ltb r problem.now.m) problem.now.a.rows.now) × (length problem.now.b.now ≡ problem.now.m) }
+    requires counted { Counted (parts_of problem.now) c.rows c.overlaps }
+    ensures { refusal_of result ≡ first_failing (route_tests (route_of route) problem.now.m problem.now.a.rows.now problem.now.b.now (parts_of problem.now)) }
+{
+    chordal_info::check_route(route, problem, c.rows, c.overlaps)
+}
+
 // Writes the length of each output of the cut to `out`, after checks 1 to 11. The check of the patterns counts the blocks, for check 10, the lengths
 // and the writers. Returns the first refusal, or these counts.
 fn count_sizes(route: u32, problem: &Problem, out: &mut [u32]) -> Result<Added, Refusal>
@@ -46,7 +60,7 @@ fn count_sizes(route: u32, problem: &Problem, out: &mut [u32]) -> Result<Added, 
         return Err(Refusal::Bound);
     }
     let c = check_problem::count_problem(problem)?;
-    chordal_info::check_route(route, problem, c.rows, c.overlaps)?;
+    check_blocks(route, problem, c)?;
     if out.len() < OUTPUTS {
         return Err(Refusal::Short);
     }

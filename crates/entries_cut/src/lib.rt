@@ -81,20 +81,6 @@ pub fn cut_compact_entries(
         words_of(map_out.len()),
     ];
     let c = decomp::refuse_cut(route::COMPACT, problem, &rooms)?;
-    cut_standard::write_objective(
-        problem.n,
-        problem.p.starts,
-        problem.p.rows,
-        problem.p.values,
-        problem.q,
-        problem.alphas,
-        c.columns,
-        p_starts_out,
-        p_rows_out,
-        p_values_out,
-        q_out,
-        alphas_out,
-    );
     cut_constraints::decomp_augment_compact(
         problem.n,
         problem.m,
@@ -112,6 +98,20 @@ pub fn cut_compact_entries(
         a_values_out,
         b_out,
         cones_out,
+    );
+    cut_standard::write_objective(
+        problem.n,
+        problem.p.starts,
+        problem.p.rows,
+        problem.p.values,
+        problem.q,
+        problem.alphas,
+        c.columns,
+        p_starts_out,
+        p_rows_out,
+        p_values_out,
+        q_out,
+        alphas_out,
     );
     write_map(problem, map_out);
     Ok(())

@@ -25,7 +25,7 @@ fn whole_values(standard: bool, out: &mut [f64], values: &[f64])
     if standard {
         reverse_standard::sum_rows(out, values);
     } else {
-        out.copy_from_slice(values);
+        csc::copy_front(out, values);
     }
 }
 

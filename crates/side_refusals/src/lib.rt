@@ -117,7 +117,7 @@ fn check_sides_rooms(needs: &mut [u32], count: u32, rooms: &[usize]) -> Result<(
     utils::check_rooms(needs, rooms)
 }
 
-// Makes checks 1 to 11 for 1 to 64 right sides in order; `first` is the first of `sides`. For further sides only check 9 depends on the
+// Makes checks 1 to 11 for 1 to 64 right sides in order; `problem` has the first of `sides`. For further sides only check 9 depends on the
 // values. Returns the first refusal, or the counts.
 fn refuse_sides(
     count: u32,

@@ -7,6 +7,7 @@ use Rattle.std.specs.Prelude.{is_some}
 use Rattle.utils.proofs.Windows.{clear_all}
 use Rattle.check_patterns.proofs.Patterns.{passed_start, passed_on, passed_stops, passed_done, passed_same, going_start, going_on, going_done, bounded_start, bounded_more, bounded-done}
 use Rattle.check_patterns.specs.declared.Accepted.{Accepted}
+use Rattle.check_patterns.specs.declared.Stopped.{Stopped}
 use Rattle.check_patterns.proofs.patterns_hold.Goals as goal
 
 pub loop-i-init : goal.loop-i-init
@@ -50,7 +51,8 @@ pub returns-clause-summed : goal.returns-clause-summed
 returns-clause-summed c =
     let l = c.loop-i in
     let left = c.args.count - l.i in
-    let end : left ≤ 0 = omega arith in
-    let r : Accepted = record { dim = l.w.dim; cut = l.w.cut; overlaps = l.w.overlaps; cliques = l.w.cliques } in
+    let none : left ≤ 0 = omega arith in
+    let place : Stopped = record { next = l.w.next; least = l.w.least; left = 0 } in
+    let r : Accepted = record { dim = l.w.dim; cut = l.w.cut; overlaps = l.w.overlaps; cliques = l.w.cliques; end = place } in
     let few = bounded-done c.args.count l.w left l.invariant.4 r refl refl in
-    (going_done c.args.count c.args.words.now l.w left r end l.invariant.5 c.if-w-words.false refl refl refl refl, few.0, few.1)
+    (going_done c.args.count c.args.words.now l.w left r none l.invariant.5 c.if-w-words.false refl refl refl refl, few.0, few.1)

@@ -19,7 +19,7 @@ use Rattle.problemdata.specs.Tables.{problem_of}
 use Rattle.decomp.proofs.Answers.{no_route, few-alphas}
 use Rattle.decomp.proofs.Refusals.{stopped_early, stopped_late, by-room, accepted, counts_fit, sizes-written, sizes_said, columns_added_lem}
 use Rattle.decomp.proofs.count_sizes.Goals as goal
-use Rattle.decomp.proofs.count_sizes.Goals.{Start, In_ok-c, In_ok-check_route}
+use Rattle.decomp.proofs.count_sizes.Goals.{Start, In_ok-c, In_ok-check_blocks}
 
 abbrev given : Start → Problem
 given s = problem_of s.args.problem.now
@@ -41,9 +41,9 @@ returns-in_err-c-clause-fact c =
 checked : (c : In_ok-c) → Checked (problem_of c.args.problem.now)
 checked c = problem_checked (problem_of c.args.problem.now) (sym c.in_ok-c.ensures.refusal_value)
 
-pub check_route-requires : goal.check_route-requires
-check_route-requires c =
-    let k = (goal.at.check_route-requires c).In_ok-c in
+pub check_blocks-requires : goal.check_blocks-requires
+check_blocks-requires c =
+    let k = (goal.at.check_blocks-requires c).In_ok-c in
     let p = problem_of c.args.problem.now in
     let w = checked k in
     let g = c.in_ok-c.ensures.counts in record {
@@ -52,24 +52,24 @@ check_route-requires c =
       counted = (g.0, g.1);
     }
 
-pub returns-in_err-check_route-clause-fact : goal.returns-in_err-check_route-clause-fact
-returns-in_err-check_route-clause-fact c =
+pub returns-in_err-check_blocks-clause-fact : goal.returns-in_err-check_blocks-clause-fact
+returns-in_err-check_blocks-clause-fact c =
     let p = problem_of c.args.problem.now in
-    let e = c.in_err-check_route.field-0.0 in
-    let r = c.from_residual-in_err-check_route in
+    let e = c.in_err-check_blocks.field-0.0 in
+    let r = c.from_residual-in_err-check_blocks in
     let some = number_positive e in
     sizes_said (passed_on r.result e r.ensures) (record {
-      number = stopped_late c.args.route p (length c.args.out.now) c.if-route-gt-COMPACT.false (number e) (sym c.in_ok-c.ensures.refusal_value) c.in_err-check_route.ensures (λ z. omega (arith, some, z));
+      number = stopped_late c.args.route p (length c.args.out.now) c.if-route-gt-COMPACT.false (number e) (sym c.in_ok-c.ensures.refusal_value) c.in_err-check_blocks.ensures (λ z. omega (arith, some, z));
       out = output-kept (number e) _ c.args.out.now (λ z. omega (arith, some, z));
     })
 
-ok : (c : In_ok-check_route) → refusal (route_of c.args.route) (problem_of c.args.problem.now) ≡ 0
+ok : (c : In_ok-check_blocks) → refusal (route_of c.args.route) (problem_of c.args.problem.now) ≡ 0
 ok c =
-    accepted (route_of c.args.route) (problem_of c.args.problem.now) 0 (sym c.in_ok-c.ensures.refusal_value) c.in_ok-check_route.ensures refl
+    accepted (route_of c.args.route) (problem_of c.args.problem.now) 0 (sym c.in_ok-c.ensures.refusal_value) c.in_ok-check_blocks.ensures refl
 
 pub returns-then-out-lt-OUTPUTS-clause-fact : goal.returns-then-out-lt-OUTPUTS-clause-fact
 returns-then-out-lt-OUTPUTS-clause-fact c =
-    let k = (goal.at.returns-then-out-lt-OUTPUTS-clause-fact c).In_ok-check_route in
+    let k = (goal.at.returns-then-out-lt-OUTPUTS-clause-fact c).In_ok-check_blocks in
     record {
       number = sym (by-room c.args.route (problem_of c.args.problem.now) (length c.args.out.now) c.if-route-gt-COMPACT.false (ok k) ∙ rw (lt-leb 11 (length c.args.out.now) c.if-out-lt-OUTPUTS.true));
       out = refl;
@@ -91,7 +91,7 @@ overflow_cast-alpha_count c =
 
 pub write_sizes-requires : goal.write_sizes-requires
 write_sizes-requires c =
-    let k = (goal.at.write_sizes-requires c).In_ok-check_route in
+    let k = (goal.at.write_sizes-requires c).In_ok-check_blocks in
     let r = c.in_ok-c.c in
     let g = c.in_ok-c.ensures.counts in record {
       in_bounds = c.if-out-lt-OUTPUTS.false;
@@ -100,7 +100,7 @@ write_sizes-requires c =
 
 pub returns : goal.returns
 returns c =
-    let k = (goal.at.returns c).In_ok-check_route in
+    let k = (goal.at.returns c).In_ok-check_blocks in
     let p = problem_of c.args.problem.now in
     let r = c.in_ok-c.c in
     let g = c.in_ok-c.ensures.counts in

@@ -59,7 +59,7 @@ checked : (c : In_ok-d) → Checked (problem_of c.args.problem.now)
 checked c = problem_checked (problem_of c.args.problem.now) (both c).0
 
 counts : (c : In_ok-d) → Counted (parts_of c.args.problem.now) c.in_ok-d.d
-counts c = rw c.in_ok-d.ensures.kept at c.count_problem-counted.ensures.counts
+counts c = rw (← c.in_ok-d.ensures.kept refl) at c.count_problem-counted.ensures.counts
 
 pub sides_right-c-requires : goal.sides_right-c-requires
 sides_right-c-requires c =
