@@ -204,7 +204,8 @@ fn nnz(n: u32, starts: &[u32], rows: &[u32], values: &[f64]) -> u32
     starts[n as usize]
 }
 
-// Copies `src` to the front of `out`, by a loop: the slice's own method calls `memmove`, which the archive for C would then need from outside.
+// Copies `src` to the front of `out`, by a loop: on slices that a caller lends, the slice's own method calls `memmove`, which the archive for C would
+// then need from outside.
 pub fn copy_front<T: Copy>(out: &mut [T], src: &[T])
     requires { length src.now ≤ length out.old }
     ensures { out.new ≡ written src.now out.old }

@@ -24,8 +24,8 @@ pub fn clear(marks: &mut [bool])
 pub fn mark(words: &[u32], low: usize, marks: &mut [bool]) -> bool
     ensures { MarksMore low marks.old words.now result marks.new }
 {
-    for &word in words {
-        let x = word as usize;
+    for i in 0..words.len() {
+        let x = words[i] as usize;
         if x < low {
             continue;
         }

@@ -13,8 +13,8 @@ use mathlib.Core.Bool.{Bool, false}
 use native.Mathlib.Omega.{arith}
 use Rattle.utils.proofs.mark.Goals as goal
 
-pub loop-word-init : goal.loop-word-init
-loop-word-init c =
+pub loop-i-init : goal.loop-i-init
+loop-i-init c =
     let ws = c.args.words.now in
     let low = c.args.low in (
       refl,
@@ -24,32 +24,32 @@ loop-word-init c =
       ),
     )
 
-pub loop-word-preserved-then-x-low : goal.loop-word-preserved-then-x-low
-loop-word-preserved-then-x-low c =
+pub loop-i-preserved-then-x-low : goal.loop-i-preserved-then-x-low
+loop-i-preserved-then-x-low c =
     let ws = c.args.words.now in
     let low = c.args.low in
-    let i = c.loop-word.word-index in (
-      c.loop-word.invariant.0,
+    let i = c.loop-i.i in (
+      c.loop-i.invariant.0,
       λ met m d.
-          let now = c.loop-word.invariant.1 met m d in
+          let now = c.loop-i.invariant.1 met m d in
           let h : i < length ws = omega arith in
           rw (take_more met ws i h) (
-            marked-out low c.loop-word.marks (met ++ take i ws) (get_or ws i 0) (inl c.if-x-low.true) now.0,
+            marked-out low c.loop-i.marks (met ++ take i ws) (get_or ws i 0) (inl c.if-x-low.true) now.0,
             skip_more _ (met ++ take i ws) (get_or ws i 0) (within_before low _ (get_or ws i 0) c.if-x-low.true) now.1,
           ),
     )
 
-pub loop-word-preserved-then-marks-v : goal.loop-word-preserved-then-marks-v
-loop-word-preserved-then-marks-v c =
+pub loop-i-preserved-then-marks-v : goal.loop-i-preserved-then-marks-v
+loop-i-preserved-then-marks-v c =
     let ws = c.args.words.now in
     let low = c.args.low in
-    let i = c.loop-word.word-index in (
-      c.loop-word.invariant.0,
+    let i = c.loop-i.i in (
+      c.loop-i.invariant.0,
       λ met m d.
-          let now = c.loop-word.invariant.1 met m d in
+          let now = c.loop-i.invariant.1 met m d in
           let h : i < length ws = omega arith in
           rw (take_more met ws i h) (
-            marked-out low c.loop-word.marks (met ++ take i ws) (get_or ws i 0) (inr (omega arith)) now.0,
+            marked-out low c.loop-i.marks (met ++ take i ws) (get_or ws i 0) (inr (omega arith)) now.0,
             skip_more _ (met ++ take i ws) (get_or ws i 0) (within-after low _ (get_or ws i 0) (omega arith) (omega arith)) now.1,
           ),
     )
@@ -58,10 +58,10 @@ pub returns-then-marks-v-2 : goal.returns-then-marks-v-2
 returns-then-marks-v-2 c =
     let ws = c.args.words.now in
     let low = c.args.low in
-    let i = c.loop-word.word-index in
+    let i = c.loop-i.i in
     let x : ℕ = get_or ws i 0 in
     λ met m d.
-    let now = c.loop-word.invariant.1 met m d in
+    let now = c.loop-i.invariant.1 met m d in
     let e : low + (x - low) ≡ x = omega arith in
     let p : ℕ → Bool = within low (length c.args.marks.now) in (
       sym (ap (λ (k : List ℕ). distinct (keep p k)) (split_more met ws i (omega arith))
@@ -70,19 +70,19 @@ returns-then-marks-v-2 c =
       λ z. absurd (differ false z refl),
     )
 
-pub loop-word-preserved : goal.loop-word-preserved
-loop-word-preserved c =
+pub loop-i-preserved : goal.loop-i-preserved
+loop-i-preserved c =
     let ws = c.args.words.now in
     let low = c.args.low in
-    let i = c.loop-word.word-index in
+    let i = c.loop-i.i in
     let x : ℕ = get_or ws i 0 in (
-      simp length-set c.loop-word.invariant.0,
+      simp length-set c.loop-i.invariant.0,
       λ met m d.
-          let now = c.loop-word.invariant.1 met m d in
+          let now = c.loop-i.invariant.1 met m d in
           let h : i < length ws = omega arith in
           let e : low + (x - low) ≡ x = omega arith in
           rw (take_more met ws i h) (
-            marked_in low c.loop-word.marks (met ++ take i ws) x (x - low) (sym e) (omega arith) now.0,
+            marked_in low c.loop-i.marks (met ++ take i ws) x (x - low) (sym e) (omega arith) now.0,
             new_more _ (met ++ take i ws) x (within_in low _ x (omega arith) (omega arith))
                 (ap (λ (y : ℕ). has y (met ++ take i ws)) (sym e) ∙ sym (now.0 (x - low) (omega arith)) ∙ c.if-marks-v-2.false) now.1,
           ),
@@ -91,7 +91,7 @@ loop-word-preserved c =
 pub returns : goal.returns
 returns c =
     let ws = c.args.words.now in
-    let e : take c.loop-word.word-index ws ≡ ws = take_all c.loop-word.word-index ws c.loop-word-test.false in
+    let e : take c.loop-i.i ws ≡ ws = take_all c.loop-i.i ws c.loop-i-test.false in
     λ met m d.
-    let now = rw e at (c.loop-word.invariant.1 met m d) in
+    let now = rw e at (c.loop-i.invariant.1 met m d) in
     (sym (passed _ now.1), λ _. now.0)

@@ -7,7 +7,7 @@ use mathlib.Core.List.{List, ◌++◌}
 use Prim.Native.Nat.{ℕ}
 use Rattle.utils.proofs.mark.Given as goal
 
-abbrev pub invariant-loop-word : goal.invariant-loop-word
-invariant-loop-word l =
+abbrev pub invariant-loop-i : goal.invariant-loop-i
+invariant-loop-i l =
     (length l.marks ≡ length l.initial.marks) × ((met : List ℕ) → Marked l.low l.initial.marks met → T (distinct (keep (within l.low (length l.initial.marks)) met))
-    → Marked l.low l.marks (met ++ take l.word-index l.words) × T (distinct (keep (within l.low (length l.initial.marks)) (met ++ take l.word-index l.words))))
+    → Marked l.low l.marks (met ++ take l.i l.words) × T (distinct (keep (within l.low (length l.initial.marks)) (met ++ take l.i l.words))))
