@@ -1,14 +1,14 @@
 -- The inverse in the front of a table, and the refusals of the call in order.
-use Prim.Native.Nat.{ℕ, ◌≤◌, ◌<◌}
+use Prim.Native.Nat.{ℕ, suc, ◌≤◌, ◌<◌}
 use native.Mathlib.Omega.{arith}
-use mathlib.Core.Path.{◌≡◌, sym, ap, ◌∙◌}
+use mathlib.Core.Path.{◌≡◌, refl, sym, ap, ◌∙◌}
 use mathlib.Core.Bool.{true, false}
 use mathlib.Core.List.{List}
 use lib.ListN.{length, take, replicate}
 use lib.Dec.{T}
 use borrow.Author.Tests.{le-leb, lt-leb}
-use Rattle.layout.specs.General.Lists.{is_permutation}
-use Rattle.layout.specs.Calls.Inverse.{inverse, inverse_refusal}
+use Rattle.layout.specs.General.Lists.{is_permutation, written}
+use Rattle.layout.specs.Calls.Inverse.{Inverse, inverse, inverse_refusal}
 use Rattle.layout.proofs.Lists.Buffers.{front_read}
 use Rattle.utils.specs.Scattered.{scattered}
 use Rattle.utils.proofs.Scattered.{length-inverse, scattered-inverse}
@@ -34,3 +34,12 @@ refused-room xs room e l = rw (e, lt-leb (length xs) room l)
 
 pub accepted : (xs : List ℕ) (room : ℕ) → is_permutation xs ≡ true → length xs ≤ room → inverse_refusal xs room ≡ 0
 accepted xs room e l = rw (e, le-leb (length xs) room l)
+
+-- ---- the output, by the number that the call gives
+
+pub unwritten : (xs old : List ℕ) (k : ℕ) → inverse_refusal xs (length old) ≡ suc k → Inverse xs old old (inverse_refusal xs (length old))
+unwritten xs old k e = record { number = refl; out = rw e refl }
+
+pub placed : (xs old new : List ℕ) → is_permutation xs ≡ true → length xs ≤ length old → new ≡ written (inverse xs) old
+    → Inverse xs old new (inverse_refusal xs (length old))
+placed xs old new e l h = record { number = refl; out = rw (accepted xs (length old) e l) h }

@@ -3,7 +3,7 @@
 
 ghost use Rattle.std.specs.Prelude.{◌≡◌, ◌≤◌, true, not, length, replicate, ltb, eqb};
 ghost use Rattle.layout.specs.General.Lists.{all, is_permutation};
-ghost use Rattle.layout.specs.Calls.Inverse.{Inverse};
+ghost use Rattle.layout.specs.Calls.Inverse.{Inverse, inverse_refusal};
 ghost use Rattle.utils.specs.Scattered.{scattered};
 ghost use Rattle.constants.specs.Refusals.{refusal_of};
 
@@ -62,32 +62,33 @@ fn invert(p: &[u32], table: &mut [u32], early: bool) -> bool
     all_placed(&table[..p.len()])
 }
 
-// Makes the inverse of `p` in `table` and copies it to the front of `out`, so that each number is placed once and `out` is unchanged where `p`
-// is refused. `early` is for `invert`. Returns what `inverse` returns.
-fn inverse_by(p: &[u32], table: &mut [u32], early: bool, out: &mut [u32]) -> Result<(), Refusal>
+// Makes the inverse of `p` in `table` and copies it to the front of `out`, where that has room, so that each number is placed once and `out` is
+// unchanged where `p` is refused. `early` is for `invert`. Returns what `inverse_with` returns.
+fn inverse_by(p: &[u32], table: &mut [u32], early: bool, out: &mut [u32]) -> bool
     requires table_value { table.old ≡ replicate (length table.old) 4294967295 }
     requires p_in_bounds { (length p.now ≤ length table.old) × (length p.now ≤ 4294967295) }
-    ensures { Inverse p.now out.old out.new (refusal_of result) }
+    ensures value { result ≡ is_permutation p.now }
+    ensures out_after { Inverse p.now out.old out.new (inverse_refusal p.now (length out.old)) }
 {
     if !invert(p, &mut *table, early) {
-        return Err(Refusal::Patterns);
+        return false;
     }
-    if out.len() < p.len() {
-        return Err(Refusal::Short);
+    if p.len() <= out.len() {
+        csc::copy_front(out, &table[..p.len()]);
     }
-    csc::copy_front(out, &table[..p.len()]);
-    Ok(())
+    true
 }
 
-// Makes the inverse of up to `N` numbers. `early` is for `invert`. Returns what `inverse` returns.
+// Makes the inverse of up to `N` numbers. `early` is for `invert`. Returns what `inverse_with` returns.
 //
-// Each table is in a function of its own, because a call touches every page of its function's tables. There are nine sizes, because the compiler keeps a
-// function apart only where it expects few calls of it: behind six tests or more. The second walk over the indices is timed to pay from 65 to 1,024
-// numbers; in a long table the test of an index before it is written fetches it in time.
-fn inverse_in<const N: usize>(p: &[u32], early: bool, out: &mut [u32]) -> Result<(), Refusal>
+// Each table is in a function of its own, which is not to be inlined, because a call touches every page of its function's tables. The second walk over
+// the indices is timed to pay from 65 to 1,024 numbers; in a long table the test of an index before it is written fetches it in time.
+#[inline(never)]
+fn inverse_in<const N: usize>(p: &[u32], early: bool, out: &mut [u32]) -> bool
     requires p_fits { length p.now ≤ N }
     requires size { N ≤ 4294967295 }
-    ensures { Inverse p.now out.old out.new (refusal_of result) }
+    ensures value { result ≡ is_permutation p.now }
+    ensures out_after { Inverse p.now out.old out.new (inverse_refusal p.now (length out.old)) }
 {
     let mut table = [UNPLACED; N];
     inverse_by(p, &mut table, early, out)
@@ -95,26 +96,28 @@ fn inverse_in<const N: usize>(p: &[u32], early: bool, out: &mut [u32]) -> Result
 
 // ---- the inverse of a long permutation, tested first
 
-// Writes the inverse of a permutation `p` of any length to the front of `out`, and tests `p` first. Returns what `inverse` returns.
-fn long_inverse(p: &[u32], out: &mut [u32]) -> Result<(), Refusal>
-    ensures { Inverse p.now out.old out.new (refusal_of result) }
+// Writes the inverse of a permutation `p` of any length to the front of `out`, where that has room, and tests `p` first. Returns what
+// `inverse_with` returns.
+fn long_inverse(p: &[u32], out: &mut [u32]) -> bool
+    ensures value { result ≡ is_permutation p.now }
+    ensures out_after { Inverse p.now out.old out.new (inverse_refusal p.now (length out.old)) }
 {
     if !inverse_marks::is_long_permutation(p) {
-        return Err(Refusal::Patterns);
+        return false;
     }
-    if out.len() < p.len() {
-        return Err(Refusal::Short);
+    if p.len() <= out.len() {
+        utils::scatter(p, out);
     }
-    utils::scatter(p, out);
-    Ok(())
+    true
 }
 
 // ---- the call
 
-// Writes the inverse of the permutation `p` (the index of each number in `p`) to the front of `out`. A shorter `p` has a smaller table, which is
-// faster to fill. Refuses a `p` that is no permutation of the numbers below its length, and an `out` that is too short.
-pub fn inverse(p: &[u32], out: &mut [u32]) -> Result<(), Refusal>
-    ensures { Inverse p.now out.old out.new (refusal_of result) }
+// Writes the inverse of a permutation `p` to the front of `out`, where that has room. A shorter `p` has a smaller table, which is faster to fill.
+// Returns whether `p` is a permutation: a walk that returned the refusal itself would set it again at each number.
+fn inverse_with(p: &[u32], out: &mut [u32]) -> bool
+    ensures value { result ≡ is_permutation p.now }
+    ensures out_after { Inverse p.now out.old out.new (inverse_refusal p.now (length out.old)) }
 {
     if p.len() <= 16 {
         return inverse_in::<16>(p, true, out);
@@ -144,4 +147,18 @@ pub fn inverse(p: &[u32], out: &mut [u32]) -> Result<(), Refusal>
         return inverse_in::<262144>(p, true, out);
     }
     long_inverse(p, out)
+}
+
+// Writes the inverse of the permutation `p` (the index of each number in `p`) to the front of `out`. Refuses a `p` that is no permutation of the
+// numbers below its length, and an `out` that is too short.
+pub fn inverse(p: &[u32], out: &mut [u32]) -> Result<(), Refusal>
+    ensures { Inverse p.now out.old out.new (refusal_of result) }
+{
+    if !inverse_with(p, &mut *out) {
+        return Err(Refusal::Patterns);
+    }
+    if out.len() < p.len() {
+        return Err(Refusal::Short);
+    }
+    Ok(())
 }
